@@ -1,0 +1,10 @@
+-- What the words of 01 mean that every layer uses. First the definitions, in reading order; then the laws about them.
+pub mod Limits
+pub mod Refusals
+pub mod Tests
+pub mod Sets
+pub mod Tables
+pub mod TestLaws
+pub mod SetLaws
+pub mod TableLaws
+pub mod RowLaws

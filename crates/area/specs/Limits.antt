@@ -1,0 +1,14 @@
+-- The limits of 01, "The area and its paths".
+use Prim.Native.Nat.{ℕ}
+
+-- An area has at most so many routers. A set has as many bits, and a table as many rows of as many cells: every other size below is this one.
+abbrev pub width : ℕ
+width = 32
+
+-- The metric of a link that is not used; a smaller one is used.
+abbrev pub unused : ℕ
+unused = 16777215
+
+-- The distance where no walk exists.
+abbrev pub unreached : ℕ
+unreached = 4294967295

@@ -1,0 +1,74 @@
+-- A table that is filled row by row, once for every width w: row r is lent, `&mut t[w * r..w * r + w]`, and comes back as ys.
+--     lent-length      the part that is lent is a row long
+--     Rows w f r t     the rows of t before row r are those of f
+--     rows-none, rows-more, rows-all       it holds of no row, of one row more when that comes back as f's, and after the last row t is the table of f
+use mathlib.Core.Path.{_≡_, refl, sym, ap, _∙_, subst}
+use mathlib.Core.Logic.{_≢_, _⊎_, inl, inr, ⊎-elim}
+use mathlib.Core.List.{List, _++_}
+use Prim.Native.Nat.{ℕ, _+_, _*_, _-_, _<_, _≤_}
+use native.Mathlib.Omega.{arith}
+use native.Mathlib.Decide.{decLt}
+use native.Mathlib.Nat.{eq-or-lt-of-le}
+use lib.ListN.{length, getD, take, drop, length-take, length-drop, List·getD-append}
+use lib.Seq.{getD-take, getD-drop, getD-append-add, length-take-le}
+use borrow.Rule.Slice.PartMut.{putMid, postOf, same-len-mid}
+use Rattle.area.specs.Tables.{build, cell, tabulate}
+use Rattle.area.specs.TableLaws.{build-at, rows-le, is-tabulate}
+
+-- ---- k elements of a list from place a on, lent and come back
+module _ (a k : ℕ) (xs : List ℕ) (fits : a + k ≤ length xs) where
+  part-length : length (take k (drop a xs)) ≡ k
+  part-length = simp (length-take, length-drop) (omega arith)
+
+  module _ (ys : List ℕ) (size : length ys ≡ k) where
+    front : length (take a xs) ≡ a
+    front = length-take-le a xs (omega arith)
+
+    put-before : (i : ℕ) → i < a → getD (putMid a k xs ys) i 0 ≡ getD xs i 0
+    put-before i l = List·getD-append (take a xs) (ys ++ postOf a k xs) 0 i (omega (arith, front)) ∙ getD-take a xs i 0 l
+
+    put-in : (j : ℕ) → j < k → getD (putMid a k xs ys) (a + j) 0 ≡ getD ys j 0
+    put-in j l =
+        subst (λ (n : ℕ). getD (putMid a k xs ys) (n + j) 0 ≡ getD (ys ++ postOf a k xs) j 0) front (getD-append-add (take a xs) (ys ++ postOf a k xs) j 0)
+        ∙ List·getD-append ys (postOf a k xs) 0 j (omega arith)
+
+-- ---- row r of a table
+module _ (w : ℕ) (t : List ℕ) (size : length t ≡ w * w) (r : ℕ) (within : r < w) where
+  fits : w * r + (w * r + w - w * r) ≤ length t
+  fits = omega (arith, rows-le w r w within)
+
+  pub lent-length : length (take (w * r + w - w * r) (drop (w * r) t)) ≡ w
+  lent-length = part-length (w * r) (w * r + w - w * r) t fits ∙ omega arith
+
+  module _ (ys : List ℕ) (same : length ys ≡ length (take (w * r + w - w * r) (drop (w * r) t))) where
+    row : length ys ≡ w * r + w - w * r
+    row = same ∙ part-length (w * r) (w * r + w - w * r) t fits
+
+    back-length : length (putMid (w * r) (w * r + w - w * r) t ys) ≡ w * w
+    back-length = same-len-mid (w * r) (w * r + w - w * r) t ys same ∙ size
+
+    back-row : (j : ℕ) → j < w → cell w (putMid (w * r) (w * r + w - w * r) t ys) r j ≡ getD ys j 0
+    back-row j l = put-in (w * r) (w * r + w - w * r) t fits ys row j (omega arith)
+
+    back-above : (i j : ℕ) → i < r → j < w → cell w (putMid (w * r) (w * r + w - w * r) t ys) i j ≡ cell w t i j
+    back-above i j b l = put-before (w * r) (w * r + w - w * r) t fits ys row (w * i + j) (omega (arith, rows-le w i r b))
+
+-- ---- all rows, one after another
+pub record Rows (w : ℕ) (f : ℕ → ℕ → ℕ) (r : ℕ) (t : List ℕ) : Type 0 where
+  pub size : length t ≡ w * w
+  pub done : (i j : ℕ) → i < r → j < w → cell w t i j ≡ f i j
+
+pub rows-none : (w : ℕ) (f : ℕ → ℕ → ℕ) (t : List ℕ) → length t ≡ w * w → Rows w f 0 t
+rows-none w f t e = record { size = e; done = λ i j l h. absurd (let x : ⊥ = omega arith in x) }
+
+pub rows-more : (w : ℕ) (f : ℕ → ℕ → ℕ) (r : ℕ) (t : List ℕ) → Rows w f r t → r < w → (ys : List ℕ) → length ys ≡ length (take (w * r + w - w * r) (drop (w * r) t)) → ys ≡ build w (f r) → Rows w f (r + 1) (putMid (w * r) (w * r + w - w * r) t ys)
+rows-more w f r t rows l ys same e = record {
+  size = back-length w t (rows .size) r l ys same;
+  done = λ i j b h. ⊎-elim
+      (λ (q : i ≡ r). rw q (back-row w t (rows .size) r l ys same j h ∙ ap (λ (x : List ℕ). getD x j 0) e ∙ build-at w (f r) j h))
+      (λ (b : i < r). back-above w t (rows .size) r l ys same i j b h ∙ rows .done i j b h)
+      (eq-or-lt-of-le (let x : i ≤ r = omega arith in x));
+}
+
+pub rows-all : (w : ℕ) (f : ℕ → ℕ → ℕ) (t : List ℕ) → 0 < w → Rows w f w t → t ≡ tabulate w f
+rows-all w f t pos rows = is-tabulate w f t pos (rows .size) (rows .done)

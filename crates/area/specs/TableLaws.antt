@@ -1,0 +1,54 @@
+-- Laws of tables, once for every width.
+--     length-build, build-at, is-build         a list by its elements
+--     cell-tabulate, is-tabulate               a table by its cells
+--     cell-place                               every place of a table is the cell of a row and a column
+use Prim.Native.Nat.{ℕ, zero, suc, _+_, _-_, _*_, _/_, _%_, _≤_, _<_}
+use mathlib.Core.Path.{_≡_, refl, sym, ap, ap₂, _∙_, subst}
+use mathlib.Core.List.{List, [], _∷_}
+use native.Mathlib.Nat.{not-suc-le-zero, mul-le-mul-left, div-add-mod', div-lt-iff-lt-mul, mod-lt, add-mul-div-right, add-mul-mod-self-right, div-eq-of-lt, mod-eq-of-lt, mul-comm}
+use native.Mathlib.Omega.{arith}
+use lib.ListN.{length, getD}
+use lib.Seq.{ext-getD}
+use Rattle.area.specs.Tables.{build, cell, tabulate}
+
+pub length-build : (n : ℕ) (f : ℕ → ℕ) → length (build n f) ≡ n
+unfolding build
+length-build zero f = refl
+length-build (suc n) f = ap suc (length-build n (λ k. f (suc k)))
+
+pub build-at : (n : ℕ) (f : ℕ → ℕ) (k : ℕ) → k < n → getD (build n f) k 0 ≡ f k
+unfolding build
+build-at zero f k h = absurd (not-suc-le-zero h)
+build-at (suc n) f zero h = refl
+build-at (suc n) f (suc k) h = build-at n (λ x. f (suc x)) k (omega arith)
+
+pub is-build : (n : ℕ) (f : ℕ → ℕ) (l : List ℕ) → length l ≡ n → ((k : ℕ) → k < n → getD l k 0 ≡ f k) → l ≡ build n f
+is-build n f l e g = ext-getD 0 l (build n f) (e ∙ sym (length-build n f)) (λ k h. let x : k < n = omega arith in g k x ∙ sym (build-at n f k x))
+
+-- ---- rows and columns
+-- the rows before row i have w * i cells, so a cell of row i stands before row i + 1, and row i + 1 before the end
+pub rows-le : (w i r : ℕ) → i < r → w * i + w ≤ w * r
+rows-le w i r h = omega (arith, mul-le-mul-left w h)
+
+pub cell-in : (w i j : ℕ) → i < w → j < w → w * i + j < w * w
+cell-in w i j a b = omega (arith, rows-le w i w a)
+
+pub row-of : (w i j : ℕ) → j < w → (w * i + j) / w ≡ i
+row-of w i j h = ap (λ (x : ℕ). x / w) (omega (arith, mul-comm w i)) ∙ add-mul-div-right j i (omega arith) ∙ rw (div-eq-of-lt h) (omega arith)
+
+pub column-of : (w i j : ℕ) → j < w → (w * i + j) % w ≡ j
+column-of w i j h = ap (λ (x : ℕ). x % w) (omega (arith, mul-comm w i)) ∙ add-mul-mod-self-right j i w ∙ mod-eq-of-lt h
+
+pub cell-tabulate : (w : ℕ) (f : ℕ → ℕ → ℕ) (i j : ℕ) → i < w → j < w → cell w (tabulate w f) i j ≡ f i j
+unfolding tabulate
+cell-tabulate w f i j a b = build-at (w * w) (λ k. f (k / w) (k % w)) (w * i + j) (cell-in w i j a b) ∙ ap₂ f (row-of w i j b) (column-of w i j b)
+
+-- a list of w * w cells is the table of f where each cell is f's
+pub is-tabulate : (w : ℕ) (f : ℕ → ℕ → ℕ) (t : List ℕ) → 0 < w → length t ≡ w * w → ((i j : ℕ) → i < w → j < w → cell w t i j ≡ f i j) → t ≡ tabulate w f
+unfolding tabulate
+is-tabulate w f t pos e g =
+    is-build (w * w) (λ k. f (k / w) (k % w)) t e
+    (λ k h. ap (λ (x : ℕ). getD t x 0) (place k) ∙ g (k / w) (k % w) (div-lt-iff-lt-mul pos .1 h) (mod-lt k pos))
+  where
+    place : (k : ℕ) → k ≡ w * (k / w) + k % w
+    place k = omega (arith, div-add-mod' k w, mul-comm w (k / w))

@@ -1,0 +1,17 @@
+-- Tables (01, "The area and its paths"): w rows of w cells, one after another.
+use Prim.Native.Nat.{ℕ, zero, suc, _+_, _*_, _/_, _%_}
+use mathlib.Core.List.{List, [], _∷_}
+use lib.ListN.{getD}
+
+-- f 0, f 1, .. f (n - 1)
+unfoldable pub build : ℕ → (ℕ → ℕ) → List ℕ
+build zero f = []
+build (suc n) f = let h = f 0 in h ∷ build n (λ k. f (suc k))
+
+-- the cell of (i, j)
+abbrev pub cell : ℕ → List ℕ → ℕ → ℕ → ℕ
+cell w t i j = getD t (w * i + j) 0
+
+-- the table whose cell (i, j) is f i j
+unfoldable pub tabulate : ℕ → (ℕ → ℕ → ℕ) → List ℕ
+tabulate w f = build (w * w) (λ k. f (k / w) (k % w))

@@ -1,0 +1,115 @@
+-- The rows above row i are filled.
+use mathlib.Core.Path.{_≡_, sym, _∙_}
+use mathlib.Core.List.{List}
+use Prim.Native.Nat.{ℕ, _-_, _<_, _≤_}
+use native.Mathlib.Omega.{arith}
+use denote.Ref.{now}
+use Rattle.area.specs.Limits.{width}
+use Rattle.area.specs.RowLaws.{lent-length, Rows, rows-none, rows-more, rows-all}
+use Rattle.paths.specs.Paths.{distanceCell, hopCell}
+use Rattle.paths.proofs.fill.Statement.{statement}
+use Rattle.paths.proofs.fill.Tie as tie
+use Rattle.paths.proofs.fill.Reads as reads
+use Rattle.paths.proofs.fill.Lts as lts
+use Rattle.paths.proofs.search.search.Reads as search-reads
+
+abbrev Inv-loop : tie.InvT-loop
+Inv-loop n metric dist₀ hops₀ i₀ dist hops i = (i ≤ width) × Rows width (distanceCell n metric) i dist × Rows width (hopCell n metric) i hops
+
+abbrev μ-loop : tie.MeasureT-loop
+μ-loop n metric dist₀ hops₀ i₀ dist hops i = width - i
+
+loop-holds : tie.Need-loop-holds Inv-loop μ-loop
+loop-holds c =
+    let a = c .before .before .before in
+    (omega arith, rows-none width _ _ (a .pre .1 .0), rows-none width _ _ (a .pre .1 .1))
+
+mul-a : tie.Need-mul-a Inv-loop μ-loop
+mul-a c = omega arith
+
+add-b : tie.Need-add-b Inv-loop μ-loop
+add-b c = omega arith
+
+mul-search : tie.Need-mul-search Inv-loop μ-loop
+mul-search c = omega arith
+
+sub-search : tie.Need-sub-search Inv-loop μ-loop
+sub-search c = omega arith
+
+part-search-start : tie.Need-part-search-start Inv-loop μ-loop
+part-search-start c = omega arith
+
+part-search-end : tie.Need-part-search-end Inv-loop μ-loop
+part-search-end c = omega arith
+
+mul-search-2 : tie.Need-mul-search-2 Inv-loop μ-loop
+mul-search-2 c = omega arith
+
+sub-search-2 : tie.Need-sub-search-2 Inv-loop μ-loop
+sub-search-2 c = omega arith
+
+part-search-start-2 : tie.Need-part-search-start-2 Inv-loop μ-loop
+part-search-start-2 c = omega arith
+
+part-search-end-2 : tie.Need-part-search-end-2 Inv-loop μ-loop
+part-search-end-2 c = omega arith
+
+search-requires : tie.Need-search-requires Inv-loop μ-loop
+search-requires c κs =
+    let at-loop = c .before .before .before .loop in
+    let a = c .before .before .before .before .before .before .before in
+    let l : at-loop .i < width = omega arith in
+    (a .pre .0, (lent-length width _ (at-loop .inv .1 .size) (at-loop .i) l, lent-length width _ (at-loop .inv .2 .size) (at-loop .i) l))
+
+add-i : tie.Need-add-i Inv-loop μ-loop
+add-i c = omega arith
+
+loop-less : tie.Need-loop-less Inv-loop μ-loop
+loop-less c = omega arith
+
+loop-again : tie.Need-loop-again Inv-loop μ-loop
+loop-again c =
+    let at-loop = c .before .before .before .before .before .before .before .before .loop in
+    let turn = c .before .before .before .before .search in
+    let l : at-loop .i < width = omega arith in (
+      omega arith,
+      rows-more width _ (at-loop .i) _ (at-loop .inv .1) l (turn .last .1 .1 .1 .0) (turn .kept .1 .1 .1 .0) (turn .ensures .0),
+      rows-more width _ (at-loop .i) _ (at-loop .inv .2) l (turn .last .1 .1 .1 .1 .0) (turn .kept .1 .1 .1 .1 .0) (turn .ensures .1),
+    )
+
+same-length : tie.Need-same-length Inv-loop μ-loop
+same-length c = c .before .loop .inv .1 .size ∙ sym (c .before .before .before .before .before .pre .1 .0)
+
+same-length-2 : tie.Need-same-length-2 Inv-loop μ-loop
+same-length-2 c = c .before .loop .inv .2 .size ∙ sym (c .before .before .before .before .before .pre .1 .1)
+
+returns : tie.Need-returns Inv-loop μ-loop
+returns c =
+    let at-loop = c .before .loop in
+    let e : at-loop .i ≡ width = omega arith in
+    (rows-all width _ _ (omega arith) (rw e at (at-loop .inv .1)), rows-all width _ _ (omega arith) (rw e at (at-loop .inv .2)))
+
+pub fill-spec : {M : Type 1} → statement M
+fill-spec =
+    tie.close
+    (tie.spec
+    Inv-loop
+    μ-loop
+    loop-holds
+    mul-a
+    add-b
+    mul-search
+    sub-search
+    part-search-start
+    part-search-end
+    mul-search-2
+    sub-search-2
+    part-search-start-2
+    part-search-end-2
+    search-requires
+    add-i
+    loop-less
+    loop-again
+    same-length
+    same-length-2
+    returns)

@@ -1,0 +1,20 @@
+use mathlib.Core.Path.{refl}
+use borrow.Author.Needs.{needs}
+use borrow.Author.Tests.{eq-eqb, ne-eqb}
+use Rattle.paths.proofs.search.first_hop.Statement.{statement}
+use Rattle.paths.proofs.search.first_hop.Tie as tie
+use Rattle.paths.proofs.search.first_hop.Reads as reads
+use Rattle.paths.proofs.search.first_hop.Lts as lts
+use Rattle.area.proofs.sets.add.Reads as add-reads
+
+add-requires : tie.Need-add-requires
+add-requires c κs = search needs
+
+returns : tie.Need-returns
+returns c = rw (eq-eqb _ _ (c .before .if1 .taken)) (c .add .ensures)
+
+returns-2 : tie.Need-returns-2
+returns-2 c = rw (ne-eqb _ _ (c .if1 .left)) refl
+
+pub first-hop-spec : {M : Type 1} → statement M
+first-hop-spec = tie.close (tie.spec add-requires returns returns-2)

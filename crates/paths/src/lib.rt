@@ -1,0 +1,58 @@
+// Distances and next hops of one topology, by the metrics of its links.
+mod metrics;
+mod search;
+
+use area::limits::CELLS;
+use area::limits::WIDTH;
+use area::refusal::Refusal;
+use area::refusal::Verdict;
+ghost use mathlib.Core.Path.{_≡_};
+ghost use Prim.Native.Nat.{_*_};
+ghost use lib.ListN.{length};
+ghost use Rattle.area.specs.Limits.{width};
+ghost use Rattle.area.specs.Refusals.{verdictNumber};
+ghost use Rattle.area.specs.Tables.{tabulate};
+ghost use Rattle.paths.specs.Paths.{refusalOf, distancesOf, hopsOf, distanceCell, hopCell};
+ghost use Rattle.paths.specs.PathsLaws.{Ready};
+
+// Paths: the distance and the next-hop set of every ordered pair of the n routers, or a refusal that writes no cell.
+pub fn paths(n: usize, metric: &[u32], dist: &mut [u32], hops: &mut [u32]) -> Verdict
+    ensures answer { λ r. ⌜ verdictNumber r ≡ refusalOf n (now (metric .entry)) (now (dist .entry)) (now (hops .entry)) ⌝ }
+    ensures distances { λ _. ⌜ now (dist .exit) ≡ distancesOf n (now (metric .entry)) (now (dist .entry)) (now (hops .entry)) ⌝ }
+    ensures hops { λ _. ⌜ now (hops .exit) ≡ hopsOf n (now (metric .entry)) (now (dist .entry)) (now (hops .entry)) ⌝ }
+{
+    if n < 1 {
+        return Verdict::Refused(Refusal::RouterCount);
+    }
+    if WIDTH < n {
+        return Verdict::Refused(Refusal::RouterCount);
+    }
+    if metric.len() != CELLS {
+        return Verdict::Refused(Refusal::TableSize);
+    }
+    if dist.len() != CELLS {
+        return Verdict::Refused(Refusal::TableSize);
+    }
+    if hops.len() != CELLS {
+        return Verdict::Refused(Refusal::TableSize);
+    }
+    if !metrics::are_valid(n, metric) {
+        return Verdict::Refused(Refusal::Metric);
+    }
+    fill(n, metric, dist, hops);
+    Verdict::Accepted
+}
+
+// Both tables, row by row: the search for a source is lent that source's rows.
+fn fill(n: usize, metric: &[u32], dist: &mut [u32], hops: &mut [u32])
+    requires { ⌜ Ready n (now metric) ⌝ }
+    requires { ⌜ (length (now dist) ≡ width * width) × (length (now hops) ≡ width * width) ⌝ }
+    ensures { λ _. ⌜ now (dist .exit) ≡ tabulate width (distanceCell n (now (metric .entry))) ⌝ }
+    ensures { λ _. ⌜ now (hops .exit) ≡ tabulate width (hopCell n (now (metric .entry))) ⌝ }
+{
+    for i in 0..WIDTH {
+        let a = WIDTH * i;
+        let b = a + WIDTH;
+        search::search(n, metric, i, &mut dist[a..b], &mut hops[a..b]);
+    }
+}
