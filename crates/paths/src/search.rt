@@ -66,12 +66,12 @@ fn nearest(n: usize, dist: &[u32], settled: u32) -> usize
 {
     let mut best = n;
     let mut low = UNREACHED;
-    for j in 0..n {
-        let d = dist[j];
+    for k in 0..n {
+        let d = dist[k];
         if d < low {
-            if !sets::member(settled, j) {
+            if !sets::member(settled, k) {
                 low = d;
-                best = j;
+                best = k;
             }
         }
     }

@@ -37,10 +37,10 @@ module _ (n : ℕ) (d : List ℕ) (σ best low j : ℕ) (s : Seen n d σ best lo
   }
 
 abbrev Inv-loop : tie.InvT-loop
-Inv-loop n dist settled best₀ low₀ j₀ best low j = Seen n dist settled best low j
+Inv-loop n dist settled best₀ low₀ k₀ best low k = Seen n dist settled best low k
 
 abbrev μ-loop : tie.MeasureT-loop
-μ-loop n dist settled best₀ low₀ j₀ best low j = n - j
+μ-loop n dist settled best₀ low₀ k₀ best low k = n - k
 
 loop-holds : tie.Need-loop-holds Inv-loop μ-loop
 loop-holds c = record { at = omega arith; cap = omega arith; first = below-none _; is = inl (refl, refl) }
@@ -54,8 +54,8 @@ shared-slice-read-d c = omega arith
 member-requires : tie.Need-member-requires Inv-loop μ-loop
 member-requires c κs = omega arith
 
-add-j : tie.Need-add-j Inv-loop μ-loop
-add-j c = omega arith
+add-k : tie.Need-add-k Inv-loop μ-loop
+add-k c = omega arith
 
 loop-less : tie.Need-loop-less Inv-loop μ-loop
 loop-less c = omega arith
@@ -88,7 +88,7 @@ nearest-spec =
     mul-d
     shared-slice-read-d
     member-requires
-    add-j
+    add-k
     loop-less
     loop-again
     returns)
