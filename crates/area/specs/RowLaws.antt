@@ -2,15 +2,14 @@
 --     lent-length      the part that is lent is a row long
 --     Rows w f r t     the rows of t before row r are those of f
 --     rows-none, rows-more, rows-all       it holds of no row, of one row more when that comes back as f's, and after the last row t is the table of f
-use mathlib.Core.Path.{_≡_, refl, sym, ap, _∙_, subst}
-use mathlib.Core.Logic.{_≢_, _⊎_, inl, inr, ⊎-elim}
+use mathlib.Core.Path.{_≡_, ap, _∙_, subst}
+use mathlib.Core.Logic.{⊎-elim}
 use mathlib.Core.List.{List, _++_}
 use Prim.Native.Nat.{ℕ, _+_, _*_, _-_, _<_, _≤_}
 use native.Mathlib.Omega.{arith}
-use native.Mathlib.Decide.{decLt}
 use native.Mathlib.Nat.{eq-or-lt-of-le}
 use lib.ListN.{length, getD, take, drop, length-take, length-drop, List·getD-append}
-use lib.Seq.{getD-take, getD-drop, getD-append-add, length-take-le}
+use lib.Seq.{getD-take, getD-append-add, length-take-le}
 use borrow.Rule.Slice.PartMut.{putMid, postOf, same-len-mid}
 use Rattle.area.specs.Tables.{build, cell, tabulate}
 use Rattle.area.specs.TableLaws.{build-at, rows-le, is-tabulate}

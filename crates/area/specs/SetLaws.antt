@@ -5,9 +5,9 @@
 --     bit-added, bit-removed, bit-union, subset-at, at-subset      the members of each
 --     bit-one, or-added, .. and-subset     what code computes, at a type of w bits
 use Prim.Native.Nat.{ℕ, zero, suc, _+_, _-_, _*_, _/_, _%_, _^_, _≤_, _<_}
-use mathlib.Core.Path.{_≡_, refl, sym, ap, ap₂, _∙_, subst}
+use mathlib.Core.Path.{_≡_, refl, sym, ap, ap₂, _∙_}
 use mathlib.Core.Bool.{Bool, true, false, not, _&&_, _||_, false≢true}
-use mathlib.Core.Logic.{_≢_, _⊎_, inl, inr, ⊎-elim}
+use mathlib.Core.Logic.{⊎-elim}
 use native.Mathlib.Nat.{not-suc-le-zero, le-of-suc-le-suc, eq-or-lt-of-le, sub-add-cancel, pow-succ', mul-assoc, mod-one, mod-eq-of-lt, div-eq-of-lt, add-mul-div-right, add-mul-mod-self-right}
 use native.Mathlib.Decide.{decLt, ℕ-discrete}
 use native.Mathlib.Omega.{arith}
@@ -17,7 +17,7 @@ use lib.Arith.{mod-mul}
 use lib.Bits.{bitAnd, bitOr, bitXor, or-shr, or-mod, and-shr, and-mod, xor-shr, xor-mod, or-lt, and-lt, xor-lt}
 use lib.Pow.{pow-pos, pow-add, pow-mono, pow-lt, shl-exact}
 use Rattle.area.specs.Sets.{num, bit, setOf, added, removed, union, subset}
-use Rattle.area.specs.TestLaws.{look, same-test}
+use Rattle.area.specs.TestLaws.{and-one, or-none, same-test}
 
 -- ---- what stands in a set
 num-le : (b : Bool) (c : ℕ) → num b * c ≤ c
@@ -197,11 +197,7 @@ module _ (w s : ℕ) (fits : s < 2 ^ w) where
   -- no router from w on can be added
   pub same-added : (k : ℕ) → w ≤ k → s ≡ added w s k
   unfolding added
-  same-added k h = is-setOf w s (λ i. bit s i || eqb i k) fits (λ i l. rw (ne-eqb i k (λ e. let x : ⊥ = omega arith in x)) (sym (or-false (bit s i))))
-    where
-      or-false : (b : Bool) → (b || false) ≡ b
-      or-false true = refl
-      or-false false = refl
+  same-added k h = is-setOf w s (λ i. bit s i || eqb i k) fits (λ i l. rw (ne-eqb i k (λ e. let x : ⊥ = omega arith in x)) (sym (or-none (bit s i))))
 
   -- s ^ (1 << k), where k is a member
   pub xor-removed : (k : ℕ) → k < w → bit s k ≡ true → bitXor s ((1 * 2 ^ k) % 2 ^ w) ≡ removed w s k
@@ -211,26 +207,18 @@ module _ (w s : ℕ) (fits : s < 2 ^ w) where
       (is-setOf w (bitXor s (2 ^ k)) (λ i. bit s i && not (eqb i k)) (xor-lt w s (2 ^ k) fits (pow-lt h))
       (λ i l. bit-xor s (2 ^ k) i ∙ ap (differs (bit s i)) (bit-one i k) ∙ struck i (ℕ-discrete i k)))
     where
-      struck-false : (b : Bool) → b ≡ (b && true)
-      struck-false true = refl
-      struck-false false = refl
-
       struck : (i : ℕ) → Dec (i ≡ k) → differs (bit s i) (eqb i k) ≡ (bit s i && not (eqb i k))
       struck i (yes q) = rw (q, eq-eqb k k refl, e) refl
-      struck i (no f) = rw (ne-eqb i k f) (struck-false (bit s i))
+      struck i (no f) = rw (ne-eqb i k f) (sym (and-one (bit s i)))
 
   -- a router that is no member need not be removed
   pub same-removed : (k : ℕ) → bit s k ≡ false → s ≡ removed w s k
   unfolding removed
   same-removed k e = is-setOf w s (λ i. bit s i && not (eqb i k)) fits (λ i l. kept i (ℕ-discrete i k))
     where
-      and-true : (b : Bool) → b ≡ (b && true)
-      and-true true = refl
-      and-true false = refl
-
       kept : (i : ℕ) → Dec (i ≡ k) → bit s i ≡ (bit s i && not (eqb i k))
       kept i (yes q) = rw (q, eq-eqb k k refl, e) refl
-      kept i (no f) = rw (ne-eqb i k f) (and-true (bit s i))
+      kept i (no f) = rw (ne-eqb i k f) (sym (and-one (bit s i)))
 
   module _ (t : ℕ) (room : t < 2 ^ w) where
     -- s | t

@@ -2,9 +2,9 @@
 --     length-build, build-at, is-build         a list by its elements
 --     cell-tabulate, is-tabulate               a table by its cells
 --     cell-place                               every place of a table is the cell of a row and a column
-use Prim.Native.Nat.{ℕ, zero, suc, _+_, _-_, _*_, _/_, _%_, _≤_, _<_}
-use mathlib.Core.Path.{_≡_, refl, sym, ap, ap₂, _∙_, subst}
-use mathlib.Core.List.{List, [], _∷_}
+use Prim.Native.Nat.{ℕ, zero, suc, _+_, _*_, _/_, _%_, _≤_, _<_}
+use mathlib.Core.Path.{_≡_, refl, sym, ap, ap₂, _∙_}
+use mathlib.Core.List.{List, []}
 use native.Mathlib.Nat.{not-suc-le-zero, mul-le-mul-left, div-add-mod', div-lt-iff-lt-mul, mod-lt, add-mul-div-right, add-mul-mod-self-right, div-eq-of-lt, mod-eq-of-lt, mul-comm}
 use native.Mathlib.Omega.{arith}
 use lib.ListN.{length, getD}

@@ -1,10 +1,10 @@
-// The limits of an area. specs/Limits.antt has the same numbers.
+// The limits of an area. The contracts have them from specs/Limits.antt, and are not met where the two differ.
 
 // Routers of an area, and so members of a set, rows of a table and cells of a row.
 pub const WIDTH: usize = 32;
 
 // Cells of a table.
-pub const CELLS: usize = 1024;
+pub const CELLS: usize = WIDTH * WIDTH;
 
 // The metric of a link that is not used.
 pub const UNUSED: u32 = 16777215;

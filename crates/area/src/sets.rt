@@ -1,7 +1,6 @@
 // Router sets: a number whose bit k stands for router k.
 use crate::limits::WIDTH;
 ghost use mathlib.Core.Path.{_≡_};
-ghost use Prim.Native.Nat.{ℕ};
 ghost use lib.Dec.{eqb};
 ghost use Rattle.area.specs.Limits.{width};
 ghost use Rattle.area.specs.Sets.{bit, added, removed, union, subset};

@@ -3,9 +3,9 @@
 --     begin        it holds of the source alone
 --     step         it is kept when the nearest router is settled and the links from it are gone through
 --     distances, nexts     when no reached router is left, D are the distances and H the next-hop sets
-use Prim.Native.Nat.{ℕ, zero, suc, _+_, _-_, _*_, _^_, _<_, _≤_}
+use Prim.Native.Nat.{ℕ, zero, suc, _+_, _*_, _^_, _<_, _≤_}
 use mathlib.Core.Path.{_≡_, refl, sym, ap, _∙_, subst}
-use mathlib.Core.Bool.{Bool, true, false, _||_, false≢true}
+use mathlib.Core.Bool.{Bool, true, false, false≢true}
 use mathlib.Core.Logic.{_≢_, _↔_, _⊎_, inl, inr, ⊎-elim}
 use native.Mathlib.Decide.{decLt, ℕ-discrete}
 use native.Mathlib.Nat.{not-suc-le-zero}
@@ -13,8 +13,8 @@ use native.Mathlib.Omega.{arith}
 use borrow.Author.Tests.{eq-eqb, ne-eqb, eqb-true}
 use lib.Dec.{eqb}
 use Rattle.area.specs.Limits.{width, unused, unreached}
-use Rattle.area.specs.Sets.{num, bit, added, union}
-use Rattle.area.specs.TestLaws.{look, same-test}
+use Rattle.area.specs.Sets.{num, bit, added}
+use Rattle.area.specs.TestLaws.{look, or-cases, or-left, or-right, or-none, same-test}
 use Rattle.area.specs.SetLaws.{bit-zero, bit-added, bit-union, is-setOf}
 use Rattle.paths.specs.Walk.{Walk, stay, link, sum, links}
 use Rattle.paths.specs.Distance.{distance}
@@ -22,7 +22,7 @@ use Rattle.paths.specs.NextHops.{isNext, nextHops, Next}
 use Rattle.paths.specs.WalkLaws.{Graph, then, sum-then, links-then}
 use Rattle.paths.specs.DistanceLaws.{sum-bound, distance-le, distance-walk, distance-top, distance-self}
 use Rattle.paths.specs.NextHopLaws.{next-true, true-next, next-near, next-nearer, Over, direct, over, over-next, next-over}
-use Rattle.paths.specs.Search.{firstHop, Offered, nearer, equal, farther, Relaxed, no-link, linked}
+use Rattle.paths.specs.Search.{firstHop, nearer, equal, farther, Relaxed, no-link, linked}
 
 -- ---- how many routers below n are settled
 abbrev pub count : ℕ → ℕ → ℕ
@@ -40,18 +40,10 @@ count-le σ (suc k) = omega (arith, count-le σ k, num-top (bit σ k))
 -- one more, when q is added
 module _ (σ q : ℕ) (room : q < width) where
   pub bit-new : bit (added width σ q) q ≡ true
-  bit-new = bit-added width σ q q room ∙ rw (eq-eqb q q refl) (or-true (bit σ q))
-    where
-      or-true : (b : Bool) → (b || true) ≡ true
-      or-true true = refl
-      or-true false = refl
+  bit-new = bit-added width σ q q room ∙ or-right (bit σ q) (eqb q q) (eq-eqb q q refl)
 
   pub bit-old : (i : ℕ) → i < width → i ≢ q → bit (added width σ q) i ≡ bit σ i
-  bit-old i l f = bit-added width σ q i l ∙ rw (ne-eqb i q f) (or-false (bit σ i))
-    where
-      or-false : (b : Bool) → (b || false) ≡ b
-      or-false true = refl
-      or-false false = refl
+  bit-old i l f = bit-added width σ q i l ∙ rw (ne-eqb i q f) (or-none (bit σ i))
 
   count-same : (n : ℕ) → n ≤ q → count (added width σ q) n ≡ count σ n
   count-same zero l = refl
@@ -230,18 +222,6 @@ module _ {n : ℕ} {g : ℕ → ℕ → ℕ} (G : Graph n g) (most : n ≤ width
     (let x = ap D′ e in let v = ap (λ (p : ℕ). g p j) e in omega (arith, y .exact, kept-q .0)),
     ⊎-elim (λ w. inl (sym e ∙ w .0, w .1)) (λ w. inr ((λ x. w .0 (e ∙ x)), subst (λ (h : ℕ). bit h k ≡ true) (ap H′ e ∙ kept-q .1) (w .1))) (y .first),
   )
-
-  or-cases : (a b : Bool) → (a || b) ≡ true → (a ≡ true) ⊎ (b ≡ true)
-  or-cases true b e = inl refl
-  or-cases false b e = inr e
-
-  or-left : (a b : Bool) → a ≡ true → (a || b) ≡ true
-  or-left true b e = refl
-  or-left false b e = absurd (false≢true e)
-
-  or-right : (a b : Bool) → b ≡ true → (a || b) ≡ true
-  or-right true b e = refl
-  or-right false b e = e
 
   shown : (j k : ℕ) → j < n → k < width → Relaxed g s q (D q) (H q) j (D j) (H j) (D′ j) (H′ j) → bit (H′ j) k ≡ true → By g s σ′ D′ H′ j k
   shown j k l h (no-link v e x) b = by-new j k e (f .hops j k l h .0 (rw x at b))

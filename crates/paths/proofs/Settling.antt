@@ -1,15 +1,14 @@
 -- The search's loop over its two rows: what they hold on the way, and when no reached router is left.
-use mathlib.Core.Path.{_≡_, refl, sym, ap, _∙_, subst}
-use mathlib.Core.Bool.{true, false}
-use mathlib.Core.Logic.{_≢_, inl, inr}
+use mathlib.Core.Path.{_≡_, sym, _∙_}
+use mathlib.Core.Bool.{false}
+use mathlib.Core.Logic.{inr}
 use mathlib.Core.List.{List}
-use Prim.Native.Nat.{ℕ, _+_, _-_, _*_, _^_, _<_, _≤_}
+use Prim.Native.Nat.{ℕ, _+_, _-_, _^_, _<_, _≤_}
 use native.Mathlib.Decide.{decLt}
 use native.Mathlib.Omega.{arith}
 use lib.ListN.{length, getD, set, length-set}
 use lib.Seq.{getD-set-same, getD-set-other}
-use lib.Pow.{pow-pos}
-use Rattle.area.specs.Limits.{width, unreached}
+use Rattle.area.specs.Limits.{width, unused, unreached}
 use Rattle.area.specs.Sets.{bit, added}
 use Rattle.area.specs.Tables.{build}
 use Rattle.area.specs.TableLaws.{is-build}
@@ -41,7 +40,7 @@ module _ {n : ℕ} {m : List ℕ} (ready : Ready n m) {s : ℕ} (source : s < n)
   module _ {d h : List ℕ} {σ : ℕ} (f : Settling n m s d h σ) {q : ℕ} (near : Nearest n d σ q) where
     module _ (within : q < n) where
       -- the distance of the router that is taken leaves room for a metric more
-      pub room : getD d q 0 < 4000000000
+      pub room : getD d q 0 + unused ≤ unreached
       room = omega (arith, small-bound (f .front) q within (near .found within .1), ready .most)
 
       -- one router more is settled

@@ -1,7 +1,7 @@
 -- Loops that go through a row from the front.
 --     Blanked v d j        the cells below j hold v
 --     Swept R d₀ h₀ d h j    of two rows d₀ and h₀, the cells below j were changed as R allows, and the others are as they were
-use mathlib.Core.Path.{_≡_, refl, sym, ap, _∙_, subst}
+use mathlib.Core.Path.{_≡_, refl, _∙_}
 use mathlib.Core.List.{List}
 use Prim.Native.Nat.{ℕ, _+_, _<_, _≤_}
 use Rattle.area.specs.Limits.{width}

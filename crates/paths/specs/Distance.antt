@@ -1,5 +1,5 @@
 -- Distances (01, "The area and its paths"): the least sum of a walk.
-use Prim.Native.Nat.{ℕ, zero, suc, _+_, _-_, _≤_, min}
+use Prim.Native.Nat.{ℕ, zero, suc, _+_, _-_, _≤_, _<_, min}
 use mathlib.Core.Path.{_≡_}
 use mathlib.Core.Bool.{Bool}
 use mathlib.Core.List.{List, [], _∷_, _++_, map}
@@ -35,8 +35,8 @@ least (x ∷ l) = min x (least l)
 unfoldable pub distance : ℕ → (ℕ → ℕ → ℕ) → ℕ → ℕ → ℕ
 distance n g i j = least (sums n g (n - 1) i j)
 
--- What it is for δ to be the distance from i to j, over walks of any length: some walk has this sum and none has a smaller one; or no walk exists, and δ is `unreached`.
+-- What it is for δ to be the distance from i to j, over walks of any length: some walk has this sum, none has a smaller one, and it is below `unreached`; or no walk exists, and δ is `unreached`.
 -- DistanceLaws.antt: `distance-is`, `distance` is that, and `same-distance`, nothing else is.
 pub data IsDistance (g : ℕ → ℕ → ℕ) (i j δ : ℕ) : Type 0 where
-  reached : (w : Walk g i j) → sum w ≡ δ → ((v : Walk g i j) → δ ≤ sum v) → IsDistance g i j δ
+  reached : (w : Walk g i j) → sum w ≡ δ → ((v : Walk g i j) → δ ≤ sum v) → δ < unreached → IsDistance g i j δ
   apart : (Walk g i j → ⊥) → δ ≡ unreached → IsDistance g i j δ

@@ -4,9 +4,9 @@
 --     distance-top, distance-bound     it is at most `unreached`; below that, at most (n - 1) * 16777214
 --     distance-self, distance-link, distance-back, distance-through        to oneself, over a first link, over a last link, through a third router
 --     some-last        a distance that is reached ends with a link
-use Prim.Native.Nat.{ℕ, zero, suc, _+_, _-_, _*_, _≤_, _<_, min}
-use mathlib.Core.Path.{_≡_, refl, sym, ap, _∙_, subst}
-use mathlib.Core.Logic.{_≢_, _⊎_, inl, inr, ⊎-elim}
+use Prim.Native.Nat.{ℕ, _+_, _-_, _*_, _≤_, _<_}
+use mathlib.Core.Path.{_≡_}
+use mathlib.Core.Logic.{_≢_, inl, inr}
 use mathlib.Core.List.{List, [], _∷_}
 use native.Mathlib.Nat.{min-eq-left, min-eq-right}
 use native.Mathlib.Decide.{decLe, decLt}
@@ -66,15 +66,15 @@ module _ {n : ℕ} {g : ℕ → ℕ → ℕ} (G : Graph n g) where
 
   pub distance-is : (i j : ℕ) → IsDistance g i j (distance n g i j)
   distance-is i j = elim (decLt (distance n g i j) unreached) [
-    | yes h ↦ let w = distance-walk n g i j h in reached (w .0) (w .2) distance-le
+    | yes h ↦ let w = distance-walk n g i j h in reached (w .0) (w .2) distance-le h
     | no f ↦ apart (λ w. f (walk-near w)) (omega (arith, distance-top n g i j))
   ]
 
 -- nothing else is the distance
 pub same-distance : {g : ℕ → ℕ → ℕ} {i j δ ε : ℕ} → IsDistance g i j δ → IsDistance g i j ε → δ ≡ ε
-same-distance (reached w e f) (reached w′ e′ f′) = omega (arith, f w′, f′ w)
-same-distance (reached w e f) (apart z e′) = absurd (z w)
-same-distance (apart z e) (reached w′ e′ f′) = absurd (z w′)
+same-distance (reached w e f l) (reached w′ e′ f′ l′) = omega (arith, f w′, f′ w)
+same-distance (reached w e f l) (apart z e′) = absurd (z w)
+same-distance (apart z e) (reached w′ e′ f′ l′) = absurd (z w′)
 same-distance (apart z e) (apart z′ e′) = omega arith
 
 -- ---- laws

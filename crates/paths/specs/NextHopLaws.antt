@@ -4,16 +4,16 @@
 --     some-next, nextHops-some    a router that reaches another one has a next hop to it
 --     no-next-self, no-next-unreached      none to oneself, none to what is not reached
 --     over-next, next-over        next hops by the last link: how a search hands them on from router to router
-use Prim.Native.Nat.{ℕ, zero, suc, _+_, _≤_, _<_}
+use Prim.Native.Nat.{ℕ, _+_, _≤_, _<_}
 use mathlib.Core.Path.{_≡_, refl, sym, ap, _∙_, subst}
-use mathlib.Core.Bool.{Bool, true, false, _&&_, false≢true}
+use mathlib.Core.Bool.{true, false≢true}
 use mathlib.Core.Logic.{_≢_, ⊎-elim}
 use native.Mathlib.Decide.{decLt, ℕ-discrete}
 use native.Mathlib.Omega.{arith}
 use lib.Dec.{ltb, eqb}
 use borrow.Author.Tests.{ltb-true, eqb-true, lt-ltb, eq-eqb}
 use Rattle.area.specs.Limits.{unused, unreached}
-use Rattle.area.specs.Sets.{setOf, bit}
+use Rattle.area.specs.Sets.{bit}
 use Rattle.area.specs.TestLaws.{both-true, look}
 use Rattle.area.specs.SetLaws.{bit-setOf, bit-beyond, bit-zero, setOf-none}
 use Rattle.paths.specs.Walk.{Walk, stay, link, sum}

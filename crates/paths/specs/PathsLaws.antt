@@ -1,7 +1,7 @@
 -- Laws of what Paths answers and fills in: those by which the code is proved, and those that callers use.
 use Prim.Native.Nat.{ℕ, _*_, _≤_, _<_}
-use mathlib.Core.Path.{_≡_, refl, sym, ap, _∙_}
-use mathlib.Core.Bool.{Bool, true, false, not, _&&_, _||_, false≢true}
+use mathlib.Core.Path.{_≡_, refl, _∙_}
+use mathlib.Core.Bool.{Bool, true, false, _&&_, _||_}
 use mathlib.Core.Logic.{_≢_, _↔_, _⊎_, inl, inr}
 use mathlib.Core.List.{List}
 use native.Mathlib.Omega.{arith}
@@ -9,10 +9,10 @@ use lib.Dec.{ltb, leb, eqb}
 use lib.ListN.{length}
 use borrow.Author.Tests.{leb-true, eqb-true, lt-ltb, le-ltb, le-leb, lt-leb, eq-eqb, ne-eqb}
 use Rattle.area.specs.Limits.{width, unused, unreached}
-use Rattle.area.specs.Tests.{pick, all}
+use Rattle.area.specs.Tests.{all}
 use Rattle.area.specs.Sets.{bit}
 use Rattle.area.specs.Tables.{cell, tabulate}
-use Rattle.area.specs.TestLaws.{look, both-true, and-true, and-false, all-at}
+use Rattle.area.specs.TestLaws.{look, both-true, and-true, and-false, or-right, all-at}
 use Rattle.area.specs.TableLaws.{cell-tabulate}
 use Rattle.paths.specs.Topology.{topology}
 use Rattle.paths.specs.Distance.{distance, IsDistance}
@@ -36,11 +36,7 @@ module _ (m : List ℕ) (i j : ℕ) where
 
   pub metric-good : 1 ≤ cell width m i j → cell width m i j ≤ unused → (eqb j i || isMetric m i j) ≡ true
   unfolding isMetric
-  metric-good a b = rw (le-leb 1 (cell width m i j) a, le-leb (cell width m i j) unused b) (or-true (eqb j i))
-    where
-      or-true : (b : Bool) → (b || true) ≡ true
-      or-true true = refl
-      or-true false = refl
+  metric-good a b = rw (le-leb 1 (cell width m i j) a, le-leb (cell width m i j) unused b) (or-right (eqb j i) true refl)
 
   pub metric-low : j ≢ i → cell width m i j < 1 → (eqb j i || isMetric m i j) ≡ false
   unfolding isMetric

@@ -1,15 +1,14 @@
 -- A topology is a graph, and its links are those that code reads off a table of valid metrics.
 use Prim.Native.Nat.{ℕ, _≤_, _<_}
-use mathlib.Core.Path.{_≡_, refl, sym, ap, _∙_}
-use mathlib.Core.Bool.{Bool, true, false, not, _&&_, false≢true}
+use mathlib.Core.Path.{_≡_, refl}
+use mathlib.Core.Bool.{true, not, _&&_}
 use mathlib.Core.List.{List}
 use native.Mathlib.Omega.{arith}
 use lib.Dec.{ltb, leb, eqb}
 use borrow.Author.Tests.{ltb-true, leb-true, eqb-false, not-true, lt-ltb, le-leb, ne-eqb}
 use Rattle.area.specs.Limits.{width, unused}
-use Rattle.area.specs.Tests.{pick}
 use Rattle.area.specs.Tables.{cell}
-use Rattle.area.specs.TestLaws.{look, both-true, and-true}
+use Rattle.area.specs.TestLaws.{look, both-true}
 use mathlib.Core.Logic.{_≢_, ⊎-elim}
 use Rattle.paths.specs.Topology.{isLink, topology}
 use Rattle.paths.specs.WalkLaws.{Graph}

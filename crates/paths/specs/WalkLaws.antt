@@ -4,9 +4,9 @@
 --     simple           a walk can be made to meet no router twice, at no larger sum
 --     few-links        a walk that meets no router twice takes fewer links than there are routers
 --     shorten          so each walk can be made to take fewer links than there are routers, at no larger sum
-use Prim.Native.Nat.{ℕ, zero, suc, _+_, _-_, _*_, _≤_, _<_}
-use mathlib.Core.Path.{_≡_, refl, sym, ap, _∙_, subst}
-use mathlib.Core.Logic.{_⊎_, inl, inr, ⊎-elim}
+use Prim.Native.Nat.{ℕ, suc, _+_, _-_, _≤_, _<_}
+use mathlib.Core.Path.{_≡_, refl, sym, ap, subst}
+use mathlib.Core.Logic.{inl, inr}
 use native.Mathlib.Omega.{arith}
 use lib.ListN.{length}
 use Rattle.area.specs.Limits.{unused}

@@ -11,7 +11,7 @@ ghost use Rattle.area.specs.Tests.{all};
 ghost use Rattle.paths.specs.Paths.{isMetric, areMetrics};
 
 // Is the metric of every ordered pair of different routers 1 to 16,777,215?
-pub fn are_valid(n: usize, metric: &[u32]) -> bool
+pub(crate) fn are_valid(n: usize, metric: &[u32]) -> bool
     requires { ⌜ (n ≤ width) × (length (now metric) ≡ width * width) ⌝ }
     ensures { λ r. ⌜ r ≡ areMetrics n (now (metric .entry)) ⌝ }
 {

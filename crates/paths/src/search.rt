@@ -4,9 +4,9 @@ use area::limits::UNUSED;
 use area::limits::WIDTH;
 use area::sets;
 ghost use mathlib.Core.Path.{_≡_};
-ghost use Prim.Native.Nat.{ℕ, _<_, _≤_};
+ghost use Prim.Native.Nat.{ℕ, _+_, _<_, _≤_};
 ghost use lib.ListN.{length, getD};
-ghost use Rattle.area.specs.Limits.{width, unreached};
+ghost use Rattle.area.specs.Limits.{width, unused, unreached};
 ghost use Rattle.area.specs.Tables.{build};
 ghost use Rattle.paths.specs.Topology.{topology};
 ghost use Rattle.paths.specs.Paths.{distanceCell, hopCell};
@@ -14,7 +14,7 @@ ghost use Rattle.paths.specs.PathsLaws.{Ready};
 ghost use Rattle.paths.specs.Search.{Nearest, Offered, Relaxed, firstHop};
 
 // The source's rows of distances and of next hops. Those of a router from n on are blank.
-pub fn search(n: usize, metric: &[u32], source: usize, dist: &mut [u32], hops: &mut [u32])
+pub(crate) fn search(n: usize, metric: &[u32], source: usize, dist: &mut [u32], hops: &mut [u32])
     requires { ⌜ Ready n (now metric) ⌝ }
     requires { ⌜ (length (now dist) ≡ width) × (length (now hops) ≡ width) ⌝ }
     ensures { λ _. ⌜ now (dist .exit) ≡ build width (distanceCell n (now (metric .entry)) source) ⌝ }
@@ -81,7 +81,7 @@ fn nearest(n: usize, dist: &[u32], settled: u32) -> usize
 // Every router that has a link from the settled router q is offered the way by q.
 fn relax(n: usize, metric: &[u32], source: usize, q: usize, dist: &mut [u32], hops: &mut [u32])
     requires { ⌜ Ready n (now metric) ⌝ }
-    requires { ⌜ (q < n) × (length (now dist) ≡ width) × (length (now hops) ≡ width) × (getD (now dist) q 0 < 4000000000) ⌝ }
+    requires { ⌜ (q < n) × (length (now dist) ≡ width) × (length (now hops) ≡ width) × (getD (now dist) q 0 + unused ≤ unreached) ⌝ }
     ensures { λ _. ⌜ ((j : ℕ) → j < width → Relaxed (topology n (now (metric .entry))) source q (getD (now (dist .entry)) q 0) (getD (now (hops .entry)) q 0) j (getD (now (dist .entry)) j 0) (getD (now (hops .entry)) j 0) (getD (now (dist .exit)) j 0) (getD (now (hops .exit)) j 0)) ⌝ }
 {
     let base = dist[q];

@@ -1,17 +1,12 @@
 -- The rows above row i are filled.
 use mathlib.Core.Path.{_≡_, sym, _∙_}
-use mathlib.Core.List.{List}
-use Prim.Native.Nat.{ℕ, _-_, _<_, _≤_}
+use Prim.Native.Nat.{_-_, _<_, _≤_}
 use native.Mathlib.Omega.{arith}
-use denote.Ref.{now}
 use Rattle.area.specs.Limits.{width}
 use Rattle.area.specs.RowLaws.{lent-length, Rows, rows-none, rows-more, rows-all}
 use Rattle.paths.specs.Paths.{distanceCell, hopCell}
 use Rattle.paths.proofs.fill.Statement.{statement}
 use Rattle.paths.proofs.fill.Tie as tie
-use Rattle.paths.proofs.fill.Reads as reads
-use Rattle.paths.proofs.fill.Lts as lts
-use Rattle.paths.proofs.search.search.Reads as search-reads
 
 abbrev Inv-loop : tie.InvT-loop
 Inv-loop n metric dist₀ hops₀ i₀ dist hops i = (i ≤ width) × Rows width (distanceCell n metric) i dist × Rows width (hopCell n metric) i hops

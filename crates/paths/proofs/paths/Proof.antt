@@ -1,9 +1,9 @@
 -- Each return gives the refusal of the tests that led to it.
 use mathlib.Core.Path.{_≡_, refl, sym, _∙_}
-use mathlib.Core.Bool.{Bool, true, false, _&&_}
+use mathlib.Core.Bool.{true, false, _&&_}
 use mathlib.Core.Logic.{_≢_}
 use mathlib.Core.List.{List}
-use Prim.Native.Nat.{ℕ, _<_, _≤_, _*_}
+use Prim.Native.Nat.{ℕ, _≤_, _*_}
 use native.Mathlib.Omega.{arith}
 use borrow.Author.Needs.{needs}
 use borrow.Author.Tests.{not-true, not-false}
@@ -13,13 +13,9 @@ use Rattle.area.specs.Limits.{width}
 use Rattle.area.specs.Tables.{tabulate}
 use Rattle.area.specs.TestLaws.{and-false}
 use Rattle.paths.specs.Paths.{isCount, isTable, areMetrics, refusalOf, distanceCell, hopCell, distancesOf, hopsOf}
-use Rattle.paths.specs.PathsLaws.{Ready, count-true, count-low, count-high, table-true, table-false, areTables, refused-count, refused-tables, refused-metrics, accepted, distances-kept, hops-kept, distances-filled, hops-filled}
+use Rattle.paths.specs.PathsLaws.{count-true, count-low, count-high, table-true, table-false, areTables, refused-count, refused-tables, refused-metrics, accepted, distances-kept, hops-kept, distances-filled, hops-filled}
 use Rattle.paths.proofs.paths.Statement.{statement}
 use Rattle.paths.proofs.paths.Tie as tie
-use Rattle.paths.proofs.paths.Reads as reads
-use Rattle.paths.proofs.paths.Lts as lts
-use Rattle.paths.proofs.fill.Reads as fill-reads
-use Rattle.paths.proofs.metrics.are_valid.Reads as are-valid-reads
 
 -- one law for each return: what leads to it, and the three equations that it owes
 module _ (n : ℕ) (m d h : List ℕ) where

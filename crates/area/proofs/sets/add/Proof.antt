@@ -1,4 +1,5 @@
 use borrow.Author.Needs.{needs}
+use Rattle.area.specs.Limits.{width}
 use Rattle.area.specs.SetLaws.{or-added, same-added}
 use Rattle.area.proofs.sets.add.Statement.{statement}
 use Rattle.area.proofs.sets.add.Tie as tie
@@ -10,10 +11,10 @@ shl-result : tie.Need-shl-result
 shl-result c = search needs
 
 returns : tie.Need-returns
-returns c = or-added 32 (c .before .args .s) (c .before .fits .s .fits) (c .before .args .k) (c .if1 .taken)
+returns c = or-added width (c .before .args .s) (c .before .fits .s .fits) (c .before .args .k) (c .if1 .taken)
 
 returns-2 : tie.Need-returns-2
-returns-2 c = same-added 32 (c .before .args .s) (c .before .fits .s .fits) (c .before .args .k) (c .if1 .left)
+returns-2 c = same-added width (c .before .args .s) (c .before .fits .s .fits) (c .before .args .k) (c .if1 .left)
 
 pub add-spec : {M : Type 1} → statement M
 add-spec = tie.close (tie.spec cast-result shl-result returns returns-2)

@@ -1,10 +1,10 @@
 -- Below the width the bit is read; from there on a set has none.
-use Prim.Native.Nat.{_^_, _<_}
 use mathlib.Core.Path.{refl, sym}
 use native.Mathlib.Omega.{arith}
 use borrow.Author.Needs.{needs}
 use lib.Pow.{pow-mono}
 use Rattle.area.specs.Sets.{bit}
+use Rattle.area.specs.Limits.{width}
 use Rattle.area.specs.SetLaws.{bit-above}
 use Rattle.area.proofs.sets.member.Statement.{statement}
 use Rattle.area.proofs.sets.member.Tie as tie
@@ -22,7 +22,7 @@ returns c = refl
 returns-2 : tie.Need-returns-2
 returns-2 c =
     let a = c .before .args in
-    sym (bit-above (a .s) (a .k) (omega (arith, c .before .fits .s, pow-mono {i = 32} {j = a .k} (c .if1 .left))))
+    sym (bit-above (a .s) (a .k) (omega (arith, c .before .fits .s, pow-mono {i = width} {j = a .k} (c .if1 .left))))
 
 pub member-spec : {M : Type 1} → statement M
 member-spec = tie.close (tie.spec cast-result shr-result returns returns-2)

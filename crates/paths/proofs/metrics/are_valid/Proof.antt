@@ -13,9 +13,6 @@ use Rattle.area.specs.TestLaws.{all-true, all-false}
 use Rattle.paths.specs.Paths.{isMetric, areMetrics}
 use Rattle.paths.proofs.metrics.are_valid.Statement.{statement}
 use Rattle.paths.proofs.metrics.are_valid.Tie as tie
-use Rattle.paths.proofs.metrics.are_valid.Reads as reads
-use Rattle.paths.proofs.metrics.are_valid.Lts as lts
-use Rattle.paths.proofs.metrics.is_valid_row.Reads as is-valid-row-reads
 
 -- the links from router i are valid
 abbrev Row : ℕ → List ℕ → ℕ → Bool

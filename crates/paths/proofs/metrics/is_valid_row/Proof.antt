@@ -1,8 +1,7 @@
 -- The links from router i are gone through: those below j are valid.
 use mathlib.Core.Path.{_≡_, sym}
 use mathlib.Core.Logic.{⊎-elim}
-use mathlib.Core.Bool.{Bool, true, _||_}
-use mathlib.Core.List.{List}
+use mathlib.Core.Bool.{true, _||_}
 use Prim.Native.Nat.{ℕ, _-_, _<_, _≤_}
 use native.Mathlib.Omega.{arith}
 use borrow.Author.Count.{below-none, below-more}
@@ -13,8 +12,6 @@ use Rattle.paths.specs.Paths.{isMetric}
 use Rattle.paths.specs.PathsLaws.{metric-own, metric-good, metric-low, metric-high}
 use Rattle.paths.proofs.metrics.is_valid_row.Statement.{statement}
 use Rattle.paths.proofs.metrics.is_valid_row.Tie as tie
-use Rattle.paths.proofs.metrics.is_valid_row.Reads as reads
-use Rattle.paths.proofs.metrics.is_valid_row.Lts as lts
 
 abbrev Inv-loop : tie.InvT-loop
 Inv-loop n metric i j₀ j = (j ≤ n) × ((k : ℕ) → k < j → (eqb k i || isMetric metric i k) ≡ true)

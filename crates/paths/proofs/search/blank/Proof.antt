@@ -1,15 +1,10 @@
 -- Both rows are gone through: the cells below j are blank.
-use mathlib.Core.Path.{_≡_, _∙_}
-use mathlib.Core.List.{List}
-use Prim.Native.Nat.{ℕ, _-_, _<_, _≤_}
+use Prim.Native.Nat.{_-_, _≤_}
 use native.Mathlib.Omega.{arith}
 use Rattle.area.specs.Limits.{width}
-use lib.ListN.{length, getD, set, length-set}
 use Rattle.paths.proofs.Sweep.{Blanked, blanked-none, blanked-more}
 use Rattle.paths.proofs.search.blank.Statement.{statement}
 use Rattle.paths.proofs.search.blank.Tie as tie
-use Rattle.paths.proofs.search.blank.Reads as reads
-use Rattle.paths.proofs.search.blank.Lts as lts
 
 abbrev Inv-loop : tie.InvT-loop
 Inv-loop dist₀ hops₀ j₀ dist hops j = (j ≤ width) × Blanked 4294967295 dist j × Blanked 0 hops j

@@ -3,9 +3,6 @@ use borrow.Author.Needs.{needs}
 use borrow.Author.Tests.{eq-eqb, ne-eqb}
 use Rattle.paths.proofs.search.first_hop.Statement.{statement}
 use Rattle.paths.proofs.search.first_hop.Tie as tie
-use Rattle.paths.proofs.search.first_hop.Reads as reads
-use Rattle.paths.proofs.search.first_hop.Lts as lts
-use Rattle.area.proofs.sets.add.Reads as add-reads
 
 add-requires : tie.Need-add-requires
 add-requires c κs = search needs

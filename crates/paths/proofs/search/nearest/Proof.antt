@@ -1,21 +1,17 @@
 -- The routers below j were looked at.
 use mathlib.Core.Path.{_≡_, refl, sym, _∙_}
 use mathlib.Core.Logic.{_⊎_, inl, inr, ⊎-elim}
-use mathlib.Core.Bool.{true, false, false≢true}
+use mathlib.Core.Bool.{false, false≢true}
 use mathlib.Core.List.{List}
 use Prim.Native.Nat.{ℕ, _+_, _-_, _<_, _≤_}
 use native.Mathlib.Omega.{arith}
 use borrow.Author.Count.{below-none, below-more}
 use borrow.Author.Tests.{not-true, not-false}
-use lib.ListN.{length, getD}
+use lib.ListN.{getD}
 use Rattle.area.specs.Limits.{unreached}
 use Rattle.area.specs.Sets.{bit}
-use Rattle.paths.specs.Search.{Nearest}
 use Rattle.paths.proofs.search.nearest.Statement.{statement}
 use Rattle.paths.proofs.search.nearest.Tie as tie
-use Rattle.paths.proofs.search.nearest.Reads as reads
-use Rattle.paths.proofs.search.nearest.Lts as lts
-use Rattle.area.proofs.sets.member.Reads as member-reads
 
 -- of the routers below j: `low` is the least distance of one that is not settled, and `best` is that router
 record Seen (n : ℕ) (d : List ℕ) (σ : ℕ) (best low j : ℕ) : Type 0 where

@@ -1,16 +1,11 @@
-use mathlib.Core.Path.{_≡_, refl, sym, ap, _∙_}
-use Prim.Native.Nat.{ℕ, _<_, _≤_}
+use mathlib.Core.Path.{refl, _∙_}
 use native.Mathlib.Omega.{arith}
 use borrow.Author.Needs.{needs}
-use lib.ListN.{length, getD, set, length-set}
 use lib.Seq.{getD-set-same, getD-set-other}
 use denote.Ref.{now}
-use Rattle.paths.specs.Search.{Offered, nearer, equal, farther}
+use Rattle.paths.specs.Search.{nearer, equal, farther}
 use Rattle.paths.proofs.search.offer.Statement.{statement}
 use Rattle.paths.proofs.search.offer.Tie as tie
-use Rattle.paths.proofs.search.offer.Reads as reads
-use Rattle.paths.proofs.search.offer.Lts as lts
-use Rattle.area.proofs.sets.join.Reads as join-reads
 
 mul-old : tie.Need-mul-old
 mul-old c = search needs

@@ -1,12 +1,10 @@
 -- The routers below j were offered the way by q.
-use mathlib.Core.Path.{_≡_, refl, sym, _∙_}
+use mathlib.Core.Path.{_≡_, refl, sym}
 use mathlib.Core.Logic.{_⊎_, inl, inr, ⊎-elim}
 use mathlib.Core.List.{List}
-use Prim.Native.Nat.{ℕ, _+_, _*_, _-_, _<_, _≤_}
+use Prim.Native.Nat.{ℕ, _+_, _-_, _<_, _≤_}
 use native.Mathlib.Omega.{arith}
 use native.Mathlib.Decide.{decLt}
-use borrow.Author.Needs.{needs}
-use lib.ListN.{length, getD}
 use denote.Ref.{now}
 use Rattle.area.specs.Limits.{width, unused}
 use Rattle.paths.specs.Topology.{topology}
@@ -18,9 +16,6 @@ use Rattle.paths.proofs.Sweep.{Swept, swept-none, swept-more, swept-sam
 use Rattle.paths.proofs.search.relax.Statement.{statement}
 use Rattle.paths.proofs.search.relax.Tie as tie
 use Rattle.paths.proofs.search.relax.Reads as reads
-use Rattle.paths.proofs.search.relax.Lts as lts
-use Rattle.paths.proofs.search.first_hop.Reads as first-hop-reads
-use Rattle.paths.proofs.search.offer.Reads as offer-reads
 
 -- the link that the code reads off the table is the topology's
 module _ {n : ℕ} {m : List ℕ} (ready : Ready n m) {s q base via j : ℕ} (from : q < n) (to : j < n) where

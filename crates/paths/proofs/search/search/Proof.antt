@@ -1,4 +1,4 @@
-use mathlib.Core.Path.{_≡_, sym, _∙_}
+use mathlib.Core.Path.{sym, _∙_}
 use mathlib.Core.Logic.{inl}
 use native.Mathlib.Omega.{arith}
 use borrow.Author.Needs.{needs}
@@ -9,10 +9,6 @@ use Rattle.paths.specs.Paths.{distanceCell, hopCell}
 use Rattle.paths.specs.PathsLaws.{distance-out, hops-out}
 use Rattle.paths.proofs.search.search.Statement.{statement}
 use Rattle.paths.proofs.search.search.Tie as tie
-use Rattle.paths.proofs.search.search.Reads as reads
-use Rattle.paths.proofs.search.search.Lts as lts
-use Rattle.paths.proofs.search.blank.Reads as blank-reads
-use Rattle.paths.proofs.search.settle.Reads as settle-reads
 
 blank-requires : tie.Need-blank-requires
 blank-requires c κs = search needs

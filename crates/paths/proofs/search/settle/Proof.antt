@@ -1,10 +1,7 @@
 -- The front goes on from router to router, until no reached router is left.
-use mathlib.Core.Path.{_≡_, refl, sym, ap, _∙_}
-use mathlib.Core.List.{List}
-use Prim.Native.Nat.{ℕ, _+_, _-_, _*_, _^_, _<_, _≤_}
+use mathlib.Core.Path.{_∙_}
+use Prim.Native.Nat.{_-_, _<_}
 use native.Mathlib.Omega.{arith}
-use lib.ListN.{length, getD, set, length-set}
-use lib.Seq.{getD-set-same, getD-set-other}
 use denote.Ref.{now}
 use Rattle.area.specs.Limits.{width}
 use Rattle.paths.proofs.Dijkstra.{count}
@@ -12,11 +9,6 @@ use Rattle.paths.proofs.Settling as S
 use Rattle.paths.proofs.Settling.{Settling}
 use Rattle.paths.proofs.search.settle.Statement.{statement}
 use Rattle.paths.proofs.search.settle.Tie as tie
-use Rattle.paths.proofs.search.settle.Reads as reads
-use Rattle.paths.proofs.search.settle.Lts as lts
-use Rattle.area.proofs.sets.add.Reads as add-reads
-use Rattle.paths.proofs.search.nearest.Reads as nearest-reads
-use Rattle.paths.proofs.search.relax.Reads as relax-reads
 
 abbrev Inv-loop : tie.InvT-loop
 Inv-loop n metric source dist₀ hops₀ settled₀ dist hops settled = Settling n metric source dist hops settled
