@@ -4,6 +4,7 @@ pub mod Refusals
 pub mod Tests
 pub mod Sets
 pub mod Tables
+pub mod RefusalLaws
 pub mod TestLaws
 pub mod SetLaws
 pub mod TableLaws

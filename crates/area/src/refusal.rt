@@ -1,32 +1,53 @@
-// Why a call is refused: a named case for each number of the paper.
+// Why a call is refused: a named case for each number of paper 01.
 ghost use mathlib.Core.Path.{_≡_};
 ghost use Rattle.area.specs.Refusals.{refusalNumber, verdictNumber};
 
 pub enum Refusal {
+    // 1: a file or a change list ends inside an entry.
     Incomplete,
+    // 2: bytes follow the last section of a file.
     Trailing,
+    // 3: the number of routers is outside 1 to 32.
     RouterCount,
+    // 4: a router is not one of the area.
     UnknownRouter,
+    // 5: a link from a router to itself.
     SelfLink,
+    // 6: a metric is outside its range.
     Metric,
+    // 7: a pair of routers is listed twice.
     Repeated,
+    // 8: a table has not 1,024 cells.
     TableSize,
+    // 9: more entries than the format allows.
     TooMany,
+    // 10: an empty change list.
     NoChange,
+    // 11: a change to the metric that is already there.
     SameMetric,
+    // 12: metrics that rise together with metrics that fall.
     Mixed,
+    // 13: no router is an end of every change.
     NoCommonRouter,
+    // 20: a record that no plan hands back.
     Record,
+    // 21: an unknown kind of step.
     Kind,
+    // 23: the router is not in the state that the step starts from.
     State,
+    // 24: the router still waits.
     Waiting,
+    // 25: the destination is not due, or already written.
     NotDue,
+    // 26: something due is not written.
     Unwritten,
+    // 27: the sender is not done.
     NotDone,
+    // 28: the sender does not tell the receiver.
     NotTold,
 }
 
-// What a call that fills tables or reads a file says of its input.
+// What a call says of the input that it was handed.
 pub enum Verdict {
     Accepted,
     Refused(Refusal),
