@@ -1,4 +1,4 @@
--- Distances and next hops, as 01 means them. First the definitions, in reading order; then the laws about them.
+-- Distances and next hops, as 01 means them. First the definitions, in reading order; then the laws about them; last what only the contracts of private functions cite.
 pub mod Topology
 pub mod Walk
 pub mod Distance

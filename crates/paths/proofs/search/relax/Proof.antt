@@ -15,7 +15,6 @@ use Rattle.paths.specs.Search.{Offered, Relaxed, no-link, linked, firstH
 use Rattle.paths.proofs.Sweep.{Swept, swept-none, swept-more, swept-same}
 use Rattle.paths.proofs.search.relax.Statement.{statement}
 use Rattle.paths.proofs.search.relax.Tie as tie
-use Rattle.paths.proofs.search.relax.Reads as reads
 
 -- the link that the code reads off the table is the topology's
 module _ {n : ℕ} {m : List ℕ} (ready : Ready n m) {s q base via j : ℕ} (from : q < n) (to : j < n) where
