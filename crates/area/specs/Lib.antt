@@ -4,8 +4,11 @@ pub mod Refusals
 pub mod Tests
 pub mod Sets
 pub mod Tables
+pub mod Entries
 pub mod RefusalLaws
 pub mod TestLaws
 pub mod SetLaws
 pub mod TableLaws
+pub mod EntryLaws
 pub mod RowLaws
+pub mod PerRouterLaws

@@ -1,5 +1,5 @@
 -- The limits of 01, "The area and its paths".
-use Prim.Native.Nat.{ℕ}
+use Prim.Native.Nat.{ℕ, _*_, _-_}
 
 -- An area has at most so many routers. A set has as many bits, and a table as many rows of as many cells: every other size below is this one.
 abbrev pub width : ℕ
@@ -12,3 +12,7 @@ unused = 16777215
 -- The distance where no walk exists.
 abbrev pub unreached : ℕ
 unreached = 4294967295
+
+-- A change list has at most so many changes: those between one router and each of the others, both ways.
+abbrev pub mostChanges : ℕ
+mostChanges = 2 * (width - 1)

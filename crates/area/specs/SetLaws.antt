@@ -3,6 +3,7 @@
 --     setOf-same, same-set                 when two sets are equal
 --     setOf-none, empty-bit, bit-empty     when a set is empty
 --     bit-added, bit-removed, bit-union, subset-at, at-subset      the members of each
+--     setOf-start, setOf-skip, setOf-more       a set that is found router by router
 --     bit-one, or-added, .. and-subset     what code computes, at a type of w bits
 use Prim.Native.Nat.{ℕ, zero, suc, _+_, _-_, _*_, _/_, _%_, _^_, _≤_, _<_}
 use mathlib.Core.Path.{_≡_, refl, sym, ap, ap₂, _∙_}
@@ -11,13 +12,14 @@ use mathlib.Core.Logic.{⊎-elim}
 use native.Mathlib.Nat.{not-suc-le-zero, le-of-suc-le-suc, eq-or-lt-of-le, sub-add-cancel, pow-succ', mul-assoc, mod-one, mod-eq-of-lt, div-eq-of-lt, add-mul-div-right, add-mul-mod-self-right}
 use native.Mathlib.Decide.{decLt, ℕ-discrete}
 use native.Mathlib.Omega.{arith}
+use native.Mathlib.Numerals.{add-one}
 use borrow.Author.Tests.{eq-eqb, ne-eqb, eqb-true}
 use lib.Dec.{eqb}
 use lib.Arith.{mod-mul}
 use lib.Bits.{bitAnd, bitOr, bitXor, or-shr, or-mod, and-shr, and-mod, xor-shr, xor-mod, or-lt, and-lt, xor-lt}
 use lib.Pow.{pow-pos, pow-add, pow-mono, pow-lt, shl-exact}
 use Rattle.area.specs.Sets.{num, bit, setOf, added, removed, union, subset}
-use Rattle.area.specs.TestLaws.{and-one, or-none, same-test}
+use Rattle.area.specs.TestLaws.{and-one, or-right, or-none, same-test}
 
 -- ---- what stands in a set
 num-le : (b : Bool) (c : ℕ) → num b * c ≤ c
@@ -109,6 +111,10 @@ pub none-setOf : (w : ℕ) (p : ℕ → Bool) → setOf w p ≡ 0 → (k : ℕ) 
 none-setOf w p e k h = sym (bit-setOf w p k h) ∙ ap (λ (s : ℕ). bit s k) e ∙ bit-zero k
 
 -- ---- the members of a set that was added to, removed from, joined
+added-lt : (w s k : ℕ) → added w s k < 2 ^ w
+unfolding added
+added-lt w s k = setOf-lt w (λ i. bit s i || eqb i k)
+
 pub bit-added : (w s i k : ℕ) → k < w → bit (added w s i) k ≡ (bit s k || eqb k i)
 unfolding added
 bit-added w s i k h = bit-setOf w (λ j. bit s j || eqb j i) k h
@@ -120,6 +126,26 @@ bit-removed w s i k h = bit-setOf w (λ j. bit s j && not (eqb j i)) k h
 pub bit-union : (w s t k : ℕ) → k < w → bit (union w s t) k ≡ (bit s k || bit t k)
 unfolding union
 bit-union w s t k h = bit-setOf w (λ j. bit s j || bit t j) k h
+
+-- ---- a set that is found router by router: what a loop over the routers below k has
+pub setOf-start : (p : ℕ → Bool) → 0 ≡ setOf 0 p
+unfolding setOf
+setOf-start p = refl
+
+pub setOf-skip : (k : ℕ) (p : ℕ → Bool) → p k ≡ false → setOf k p ≡ setOf (k + 1) p
+unfolding setOf
+setOf-skip k p e = rw (add-one, e) (omega arith)
+
+pub setOf-more : (w k : ℕ) (p : ℕ → Bool) → k < w → p k ≡ true → added w (setOf k p) k ≡ setOf (k + 1) p
+setOf-more w k p l e =
+    same-set w (added w (setOf k p) k) (setOf (k + 1) p) (added-lt w (setOf k p) k)
+    (omega (arith, setOf-lt (k + 1) p, pow-mono {i = k + 1} {j = w} (omega arith)))
+    (λ i h. bit-added w (setOf k p) k i h ∙ found i (ℕ-discrete i k) (decLt i k))
+  where
+    found : (i : ℕ) → Dec (i ≡ k) → Dec (i < k) → (bit (setOf k p) i || eqb i k) ≡ bit (setOf (k + 1) p) i
+    found i (yes q) d = rw (q, eq-eqb k k refl, bit-setOf (k + 1) p k (omega arith), e) (or-right (bit (setOf k p) k) true refl)
+    found i (no f) (yes h) = rw (ne-eqb i k f, bit-setOf k p i h, bit-setOf (k + 1) p i (omega arith)) (or-none (p i))
+    found i (no f) (no g) = rw (ne-eqb i k f, bit-beyond k p i (omega arith), bit-beyond (k + 1) p i (omega arith)) refl
 
 outside : (a b : Bool) → (a ≡ true → b ≡ true) → (a && not b) ≡ false
 outside true true f = refl

@@ -11,3 +11,9 @@ pub const UNUSED: u32 = 16777215;
 
 // The distance to a router that no walk reaches.
 pub const UNREACHED: u32 = 4294967295;
+
+// Bytes of an entry of a list of links or changes.
+pub const ENTRY: usize = 5;
+
+// Changes of a list: those of one router with each of the others, both ways.
+pub const MOST_CHANGES: usize = 2 * (WIDTH - 1);

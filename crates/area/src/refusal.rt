@@ -1,5 +1,6 @@
 // Why a call is refused: a named case for each number of paper 01.
 ghost use mathlib.Core.Path.{_≡_};
+ghost use lib.Dec.{eqb};
 ghost use Rattle.area.specs.Refusals.{refusalNumber, verdictNumber};
 
 pub enum Refusal {
@@ -93,5 +94,12 @@ impl Verdict {
             Verdict::Accepted => 0,
             Verdict::Refused(k) => k.number(),
         }
+    }
+
+    // Is the input accepted?
+    pub fn is_accepted(self) -> bool
+        ensures { λ r. ⌜ r ≡ eqb (verdictNumber self) 0 ⌝ }
+    {
+        self.number() == 0
     }
 }

@@ -28,6 +28,10 @@ isMetric m i j = leb 1 (cell width m i j) && leb (cell width m i j) unused
 unfoldable pub areMetrics : ℕ → List ℕ → Bool
 areMetrics n m = all n (λ i. all n (λ j. eqb j i || isMetric m i j))
 
+-- n routers and a metric table that none of Paths' refusals is for
+unfoldable pub isArea : ℕ → List ℕ → Bool
+isArea n m = isCount n && (isTable m && areMetrics n m)
+
 -- The number of the first refusal that applies, in the order 3, 8, 6; 0 where the input is accepted.
 unfoldable pub refusalOf : ℕ → List ℕ → List ℕ → List ℕ → ℕ
 refusalOf n m d h =

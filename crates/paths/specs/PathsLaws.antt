@@ -12,7 +12,7 @@ use Rattle.area.specs.Limits.{width, unused, unreached}
 use Rattle.area.specs.Tests.{all}
 use Rattle.area.specs.Sets.{bit}
 use Rattle.area.specs.Tables.{cell, tabulate}
-use Rattle.area.specs.TestLaws.{look, both-true, and-true, and-false, or-right, all-at}
+use Rattle.area.specs.TestLaws.{look, both-true, and-true, and-false, or-right, all-at, all-true}
 use Rattle.area.specs.TableLaws.{cell-tabulate}
 use Rattle.paths.specs.Topology.{topology}
 use Rattle.paths.specs.Distance.{distance, IsDistance}
@@ -20,7 +20,7 @@ use Rattle.paths.specs.NextHops.{nextHops, Next}
 use Rattle.paths.specs.DistanceLaws.{distance-is}
 use Rattle.paths.specs.NextHopLaws.{bit-next, next-set}
 use Rattle.paths.specs.TopologyLaws.{topology-graph}
-use Rattle.paths.specs.Paths.{isCount, isTable, isMetric, areMetrics, refusalOf, distanceCell, hopCell, distancesOf, hopsOf}
+use Rattle.paths.specs.Paths.{isCount, isTable, isMetric, areMetrics, isArea, refusalOf, distanceCell, hopCell, distancesOf, hopsOf}
 
 -- n routers and a metric table that are not refused
 pub record Ready (n : ℕ) (m : List ℕ) : Type 0 where
@@ -57,6 +57,10 @@ pub metrics-at : (n : ℕ) (m : List ℕ) → areMetrics n m ≡ true → (i j :
 unfolding areMetrics
 metrics-at n m e i j a b f =
     metric-range m i j (all-at n (λ j. eqb j i || isMetric m i j) (all-at n (λ i. all n (λ j. eqb j i || isMetric m i j)) e i a) j b) f
+
+pub metrics-true : (n : ℕ) (m : List ℕ) → ((i j : ℕ) → i < n → j < n → (eqb j i || isMetric m i j) ≡ true) → areMetrics n m ≡ true
+unfolding areMetrics
+metrics-true n m f = all-true n (λ i. all n (λ j. eqb j i || isMetric m i j)) (λ i a. all-true n (λ j. eqb j i || isMetric m i j) (λ j b. f i j a b))
 
 -- ---- the cells
 module _ (n : ℕ) (m : List ℕ) (i j : ℕ) where
@@ -96,13 +100,47 @@ pub count-high : (n : ℕ) → width < n → isCount n ≡ false
 unfolding isCount
 count-high n a = and-false (leb 1 n) (leb n width) (lt-leb n width a)
 
+pub table-is : (t : List ℕ) → isTable t ≡ eqb (length t) (width * width)
+unfolding isTable
+table-is t = refl
+
 pub table-true : (t : List ℕ) → length t ≡ width * width → isTable t ≡ true
 unfolding isTable
 table-true t e = eq-eqb (length t) (width * width) e
 
+pub table-size : (t : List ℕ) → isTable t ≡ true → length t ≡ width * width
+unfolding isTable
+table-size t e = eqb-true (length t) (width * width) e
+
 pub table-false : (t : List ℕ) → length t ≢ width * width → isTable t ≡ false
 unfolding isTable
 table-false t f = ne-eqb (length t) (width * width) f
+
+-- ---- n routers and a metric table, before it is known which tables are lent
+pub area-of : (n : ℕ) (m : List ℕ) → Ready n m → isArea n m ≡ true
+unfolding isArea
+area-of n m r = rw (count-true n (r .some) (r .most), table-true m (r .size)) (r .metrics)
+
+module _ (n : ℕ) (m : List ℕ) where
+  pub area-uncounted : isCount n ≡ false → isArea n m ≡ false
+  unfolding isArea
+  area-uncounted e = rw e refl
+
+  pub area-unsized : isTable m ≡ false → isArea n m ≡ false
+  unfolding isArea
+  area-unsized e = and-false (isCount n) (isTable m && areMetrics n m) (rw e refl)
+
+  pub area-metrics : isCount n ≡ true → isTable m ≡ true → isArea n m ≡ areMetrics n m
+  unfolding isArea
+  area-metrics a b = rw (a, b) refl
+
+  pub area-ready : isArea n m ≡ true → Ready n m
+  unfolding isArea isCount isTable
+  area-ready e =
+      let t = both-true (isCount n) (isTable m && areMetrics n m) e in
+      let a = both-true (leb 1 n) (leb n width) (t .0) in
+      let b = both-true (isTable m) (areMetrics n m) (t .1) in
+      record { some = leb-true 1 n (a .0); most = leb-true n width (a .1); size = eqb-true (length m) (width * width) (b .0); metrics = b .1 }
 
 module _ (n : ℕ) (m d h : List ℕ) where
   abbrev pub areTables : Bool
@@ -156,11 +194,10 @@ module _ (n : ℕ) (m d h : List ℕ) where
       by-tests (inl a) (inl b) (inl c) = (a, b, c)
 
   pub accepted-ready : refusalOf n m d h ≡ 0 → Ready n m
-  unfolding isCount isTable
-  accepted-ready e =
-      let t = accepted-tests e in
-      let a = both-true (leb 1 n) (leb n width) (t .0) in
-      record { some = leb-true 1 n (a .0); most = leb-true n width (a .1); size = eqb-true (length m) (width * width) (both-true (isTable m) (isTable d && isTable h) (t .1) .0); metrics = t .2 }
+  accepted-ready e = let t = accepted-tests e in area-ready n m (area-metrics n m (t .0) (both-true (isTable m) (isTable d && isTable h) (t .1) .0) ∙ t .2)
+
+  pub ready-accepted : Ready n m → length d ≡ width * width → length h ≡ width * width → refusalOf n m d h ≡ 0
+  ready-accepted r a b = accepted (count-true n (r .some) (r .most)) (rw (table-true m (r .size), table-true d a) (table-true h b)) (r .metrics)
 
   module _ (e : refusalOf n m d h ≡ 0) {i j : ℕ} where
     -- the cells of routers are their distances and next-hop sets

@@ -1,8 +1,12 @@
 -- A topology is a graph, and its links are those that code reads off a table of valid metrics.
+--     Link, link-metric, metric-link       the used links
+--     topology-graph                       a topology is a graph
+--     topology-top, topology-same, topology-le     two topologies compared by their metric tables
 use Prim.Native.Nat.{ℕ, _≤_, _<_}
 use mathlib.Core.Path.{_≡_, refl}
 use mathlib.Core.Bool.{true, not, _&&_}
 use mathlib.Core.List.{List}
+use native.Mathlib.Decide.{decLt}
 use native.Mathlib.Omega.{arith}
 use lib.Dec.{ltb, leb, eqb}
 use borrow.Author.Tests.{ltb-true, leb-true, eqb-false, not-true, lt-ltb, le-leb, ne-eqb}
@@ -51,3 +55,26 @@ topology-graph n m h = record {
   inside = λ i j u. let l = metric-link n m i j u in (l .from, l .to);
   positive = λ i j u. let l = metric-link n m i j u in rw (link-metric l) (l .positive);
 }
+
+-- ---- two topologies, by their metric tables
+pub topology-top : (n : ℕ) (m : List ℕ) (i j : ℕ) → topology n m i j ≤ unused
+unfolding topology
+topology-top n m i j = ⊎-elim (λ e. let l = link-true n m i j e in rw e (omega (arith, l .used))) (λ e. rw e (omega arith)) (look (isLink n m i j))
+
+-- Where the metric of (i, j) in m is at most that in o, and is not 0 where that in o is not, the topology of m has at most that of o. Off the pairs of routers nothing is asked.
+pub topology-le : (n : ℕ) (m o : List ℕ) (i j : ℕ) → (i < n → j < n → i ≢ j → cell width m i j ≤ cell width o i j) → (i < n → j < n → i ≢ j → 1 ≤ cell width o i j → 1 ≤ cell width m i j) → topology n m i j ≤ topology n o i j
+topology-le n m o i j f g = elim (decLt (topology n o i j) unused) [
+  | yes h ↦
+      let b = metric-link n o i j h in
+      let le = f (b .from) (b .to) (b .other) in
+      let a : Link n m i j = record { from = b .from; to = b .to; other = b .other; positive = g (b .from) (b .to) (b .other) (b .positive); used = omega (arith, b .used) } in
+      rw (link-metric a, link-metric b) le
+  | no h ↦ omega (arith, topology-top n m i j)
+]
+
+-- where the two metrics are equal, so are the two topologies
+pub topology-same : (n : ℕ) (m o : List ℕ) (i j : ℕ) → (i < n → j < n → i ≢ j → cell width m i j ≡ cell width o i j) → topology n m i j ≡ topology n o i j
+topology-same n m o i j f =
+    let a = topology-le n m o i j (λ a b c. omega (arith, f a b c)) (λ a b c h. omega (arith, f a b c)) in
+    let b = topology-le n o m i j (λ a b c. omega (arith, f a b c)) (λ a b c h. omega (arith, f a b c)) in
+    omega arith

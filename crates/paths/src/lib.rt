@@ -12,7 +12,7 @@ ghost use lib.ListN.{length};
 ghost use Rattle.area.specs.Limits.{width};
 ghost use Rattle.area.specs.Refusals.{verdictNumber};
 ghost use Rattle.area.specs.Tables.{tabulate};
-ghost use Rattle.paths.specs.Paths.{refusalOf, distancesOf, hopsOf, distanceCell, hopCell};
+ghost use Rattle.paths.specs.Paths.{isArea, refusalOf, distancesOf, hopsOf, distanceCell, hopCell};
 ghost use Rattle.paths.specs.PathsLaws.{Ready};
 
 // Paths: the distance and the next-hop set of every ordered pair of the n routers, or a refusal that writes no cell.
@@ -41,6 +41,22 @@ pub fn paths(n: usize, metric: &[u32], dist: &mut [u32], hops: &mut [u32]) -> Ve
     }
     fill(n, metric, dist, hops);
     Verdict::Accepted
+}
+
+// Are these n routers with a metric table of the right size and valid metrics? Where they are, Paths refuses no tables of the right size.
+pub fn is_area(n: usize, metric: &[u32]) -> bool
+    ensures { λ r. ⌜ r ≡ isArea n (now (metric .entry)) ⌝ }
+{
+    if n < 1 {
+        return false;
+    }
+    if WIDTH < n {
+        return false;
+    }
+    if metric.len() != CELLS {
+        return false;
+    }
+    metrics::are_valid(n, metric)
 }
 
 // Both tables, row by row: the search for a source is lent that source's rows.

@@ -1,0 +1,47 @@
+// Entries of five bytes, as links and changes are listed: a pair of routers and a metric.
+use crate::limits::ENTRY;
+ghost use mathlib.Core.Path.{_≡_};
+ghost use Prim.Native.Nat.{_<_};
+ghost use Rattle.area.specs.Entries.{count, entryOf};
+
+pub struct Entry {
+    pub from: usize,
+    pub to: usize,
+    pub metric: u32,
+}
+
+// How many whole entries the list has.
+pub fn count(list: &[u8]) -> usize
+    ensures { λ r. ⌜ r ≡ count (now (list .entry)) ⌝ }
+{
+    list.len() / ENTRY
+}
+
+// Entry e of the list, all 0 where the list has no such entry.
+pub fn decode(list: &[u8], e: usize) -> Entry
+    ensures { λ r. ⌜ r ≡ entryOf (now (list .entry)) e ⌝ }
+{
+    if e < list.len() / ENTRY {
+        let at = ENTRY * e;
+        let high = wide(list[at + 2]);
+        let middle = wide(list[at + 3]);
+        let low = wide(list[at + 4]);
+        Entry {
+            from: wide(list[at]) as usize,
+            to: wide(list[at + 1]) as usize,
+            metric: 65536 * high + 256 * middle + low,
+        }
+    } else {
+        Entry {
+            from: 0,
+            to: 0,
+            metric: 0,
+        }
+    }
+}
+
+fn wide(byte: u8) -> u32
+    ensures { λ r. ⌜ (r ≡ byte) × (r < 256) ⌝ }
+{
+    byte as u32
+}

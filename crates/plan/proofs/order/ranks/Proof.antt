@@ -1,0 +1,55 @@
+use mathlib.Core.Path.{_≡_, sym, _∙_}
+use Prim.Native.Nat.{ℕ, suc, _+_, _-_, _<_, _≤_}
+use native.Mathlib.Omega.{arith}
+use borrow.Author.Needs.{needs}
+use lib.ListN.{getD}
+use Rattle.area.specs.Limits.{width}
+use Rattle.plan.specs.Rank.{rank}
+use Rattle.plan.proofs.Rounds.{Made, made-none, made-le, made-more}
+use Rattle.plan.proofs.order.ranks.Statement.{statement}
+use Rattle.plan.proofs.order.ranks.Tie as tie
+
+abbrev Inv-loop : tie.InvT-loop
+Inv-loop n waiting ranks₀ h₀ ranks h = (1 ≤ h) × (h - 1 ≤ n - 1) × Made width n (λ r. getD waiting r 0) (h - 1) ranks
+
+abbrev μ-loop : tie.MeasureT-loop
+μ-loop n waiting ranks₀ h₀ ranks h = n - h
+
+loop-holds : tie.Need-loop-holds Inv-loop μ-loop
+loop-holds c = (omega arith, omega arith, made-none width _ _)
+
+longer-requires : tie.Need-longer-requires Inv-loop μ-loop
+longer-requires c κs =
+    let at-loop = c .before .loop in
+    let a = c .before .before .args in (
+      omega arith,
+      λ s l. omega (arith, made-le width (a .n) (λ r. getD (a .waiting) r 0) (omega arith) (at-loop .h - 1) (at-loop .ranks) (at-loop .inv .2) s l),
+    )
+
+add-h : tie.Need-add-h Inv-loop μ-loop
+add-h c = omega arith
+
+loop-less : tie.Need-loop-less Inv-loop μ-loop
+loop-less c = omega arith
+
+loop-again : tie.Need-loop-again Inv-loop μ-loop
+loop-again c =
+    let at-loop = c .before .before .loop in
+    let a = c .before .before .before .args in
+    let e : at-loop .h + 1 - 1 ≡ suc (at-loop .h - 1) = omega arith in (
+      omega arith,
+      omega arith,
+      rw e (c .longer .ensures ∙ made-more width (a .n) (λ r. getD (a .waiting) r 0) (omega arith) (at-loop .h - 1) (at-loop .ranks) (at-loop .inv .2)),
+    )
+
+returns : tie.Need-returns Inv-loop μ-loop
+unfolding rank
+returns c =
+    let at-loop = c .before .loop in
+    let e : at-loop .h - 1 ≡ c .before .before .args .n - 1 = omega arith in
+    rw e at (at-loop .inv .2)
+
+pub ranks-spec : {M : Type 1} → statement M
+ranks-spec =
+    tie.close
+    (tie.spec Inv-loop μ-loop loop-holds longer-requires add-h loop-less loop-again returns)

@@ -1,0 +1,47 @@
+-- Ranks (01, "The plan"). w r is the set of routers that r waits for.
+use Prim.Native.Nat.{ℕ, zero, suc, _-_, _≤_, max}
+use mathlib.Core.Path.{_≡_}
+use mathlib.Core.Bool.{true}
+use mathlib.Core.List.{List, [], _∷_}
+use Rattle.area.specs.Tests.{pick}
+use Rattle.area.specs.Sets.{bit}
+
+-- A chain from r: r alone, or r and a chain from a router that it waits for.
+pub data Chain (w : ℕ → ℕ) : ℕ → Type 0 where
+  alone : {r : ℕ} → Chain w r
+  waits : {r s : ℕ} → bit (w r) s ≡ true → Chain w s → Chain w r
+
+module _ {w : ℕ → ℕ} where
+  -- how many links it has
+  abbrev pub links : {r : ℕ} → Chain w r → ℕ
+  links alone = 0
+  links (waits e c) = suc (links c)
+
+  -- the routers that it meets
+  abbrev pub routers : {r : ℕ} → Chain w r → List ℕ
+  routers (alone {r}) = r ∷ []
+  routers (waits {r} e c) = r ∷ routers c
+
+-- the greatest of f 0, f 1, .. f (n - 1)
+unfoldable pub greatest : ℕ → (ℕ → ℕ) → ℕ
+greatest zero f = 0
+greatest (suc n) f = max (greatest n f) (f n)
+
+-- One more than the greatest f s of a member s of the set; 0 where it has no member below n.
+unfoldable pub above : ℕ → ℕ → (ℕ → ℕ) → ℕ
+above n set f = greatest n (λ s. pick (bit set s) (suc (f s)) 0)
+
+-- the greatest number of links of a chain from r that has at most h
+unfoldable pub longest : ℕ → (ℕ → ℕ) → ℕ → ℕ → ℕ
+longest n w zero r = 0
+longest n w (suc h) r = above n (w r) (longest n w h)
+
+-- The rank of r among n routers. Chains of more than n - 1 links need not be looked for: RankLaws.antt, `rank-is`, says why.
+unfoldable pub rank : ℕ → (ℕ → ℕ) → ℕ → ℕ
+rank n w r = longest n w (n - 1) r
+
+-- What it is for k to be the rank of r, over chains of any length: some chain from r has k links, and none has more.
+pub record IsRank (w : ℕ → ℕ) (r k : ℕ) : Type 0 where
+  pub chain : Chain w r
+  pub exact : links chain ≡ k
+  pub most : (c : Chain w r) → links c ≤ k

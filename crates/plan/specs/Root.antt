@@ -1,0 +1,17 @@
+-- The root of a change list l (01, "The plan", "Root c").
+use Prim.Native.Nat.{ℕ}
+use mathlib.Core.Bool.{Bool, _||_}
+use mathlib.Core.List.{List}
+use lib.Dec.{eqb}
+use Rattle.area.specs.Tests.{pick, all}
+use Rattle.area.specs.Entries.{count}
+use Rattle.plan.specs.Changes.{from, to}
+
+-- router c is an end of every change
+unfoldable pub isCommon : List ℕ → ℕ → Bool
+isCommon l c = all (count l) (λ e. eqb (from l e) c || eqb (to l e) c)
+
+-- A router that is an end of every change is one of the first: its far end, where that one is, and else its near end.
+-- RootLaws.antt: `common-root`, where any router is an end of every change, this one is.
+unfoldable pub root : List ℕ → ℕ
+root l = pick (isCommon l (to l 0)) (to l 0) (from l 0)

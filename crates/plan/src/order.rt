@@ -1,0 +1,135 @@
+// Who waits for whom, who tells whom, ranks, and what is due. A table per router has an entry for each of WIDTH routers, 0 from n on; `old` and `new` are the next-hop tables of the two topologies.
+use area::limits::WIDTH;
+use area::sets::add;
+use area::sets::member;
+ghost use mathlib.Core.Path.{_≡_};
+ghost use mathlib.Core.Bool.{not};
+ghost use Prim.Native.Nat.{ℕ, _≤_, _<_, _*_};
+ghost use lib.Dec.{eqb};
+ghost use lib.ListN.{length, getD};
+ghost use Rattle.area.specs.Limits.{width};
+ghost use Rattle.area.specs.Tests.{pick};
+ghost use Rattle.area.specs.Sets.{bit, setOf};
+ghost use Rattle.area.specs.Tables.{cell, perRouter};
+ghost use Rattle.plan.specs.Rank.{above, rank};
+
+// The routers that each waits for. In a rise they are those that go through it to the root in the old topology, in a fall its own next hops to the root in the new one.
+pub(crate) fn waiting(n: usize, root: usize, rising: bool, old: &[u32], new: &[u32]) -> [u32; 32]
+    requires { ⌜ (n ≤ width) × (root < width) ⌝ }
+    requires { ⌜ (length (now old) ≡ width * width) × (length (now new) ≡ width * width) ⌝ }
+    ensures { λ w. ⌜ w ≡ perRouter width n (λ r. pick rising (setOf n (λ s. bit (cell width (now (old .entry)) s root) r)) (cell width (now (new .entry)) r root)) ⌝ }
+{
+    if rising {
+        converse(n, toward(n, root, old))
+    } else {
+        toward(n, root, new)
+    }
+}
+
+// Each router's next hops to the root.
+fn toward(n: usize, root: usize, hops: &[u32]) -> [u32; 32]
+    requires { ⌜ (n ≤ width) × (root < width) × (length (now hops) ≡ width * width) ⌝ }
+    ensures { λ t. ⌜ t ≡ perRouter width n (λ r. cell width (now (hops .entry)) r root) ⌝ }
+{
+    let mut out = [0u32; 32];
+    for r in 0..n {
+        out[r] = hops[WIDTH * r + root];
+    }
+    out
+}
+
+// For each router, those whose set it is a member of.
+pub(crate) fn converse(n: usize, sets: [u32; 32]) -> [u32; 32]
+    requires { ⌜ n ≤ width ⌝ }
+    ensures { λ t. ⌜ t ≡ perRouter width n (λ r. setOf n (λ s. bit (getD sets s 0) r)) ⌝ }
+{
+    let mut out = [0u32; 32];
+    for r in 0..n {
+        out[r] = holders(n, sets, r);
+    }
+    out
+}
+
+// The routers whose set has router r.
+fn holders(n: usize, sets: [u32; 32], r: usize) -> u32
+    requires { ⌜ n ≤ width ⌝ }
+    ensures { λ t. ⌜ t ≡ setOf n (λ s. bit (getD sets s 0) r) ⌝ }
+{
+    let mut found = 0u32;
+    for s in 0..n {
+        if member(sets[s], r) {
+            found = add(found, s);
+        }
+    }
+    found
+}
+
+// The ranks: each round allows chains of one link more, and a chain has fewer links than there are routers.
+pub(crate) fn ranks(n: usize, waiting: [u32; 32]) -> [u8; 32]
+    requires { ⌜ n ≤ width ⌝ }
+    ensures { λ t. ⌜ t ≡ perRouter width n (rank n (λ r. getD waiting r 0)) ⌝ }
+{
+    let mut ranks = [0u8; 32];
+    for h in 1..n {
+        let next = longer(n, waiting, ranks);
+        ranks = next;
+    }
+    ranks
+}
+
+// One round: for each router one more than the largest rank of those that it waits for.
+fn longer(n: usize, waiting: [u32; 32], ranks: [u8; 32]) -> [u8; 32]
+    requires { ⌜ (n ≤ width) × ((s : ℕ) → s < n → getD ranks s 0 < 255) ⌝ }
+    ensures { λ t. ⌜ t ≡ perRouter width n (λ r. above n (getD waiting r 0) (λ s. getD ranks s 0)) ⌝ }
+{
+    let mut out = [0u8; 32];
+    for r in 0..n {
+        out[r] = after(n, waiting[r], ranks);
+    }
+    out
+}
+
+// One more than the largest rank in a set, 0 for the empty set.
+fn after(n: usize, set: u32, ranks: [u8; 32]) -> u8
+    requires { ⌜ (n ≤ width) × ((s : ℕ) → s < n → getD ranks s 0 < 255) ⌝ }
+    ensures { λ k. ⌜ k ≡ above n set (λ s. getD ranks s 0) ⌝ }
+{
+    let mut most = 0u8;
+    for s in 0..n {
+        if member(set, s) {
+            let rank = ranks[s];
+            if most <= rank {
+                most = rank + 1;
+            }
+        }
+    }
+    most
+}
+
+// The destinations that are due at each router.
+pub(crate) fn due(n: usize, old: &[u32], new: &[u32]) -> [u32; 32]
+    requires { ⌜ (n ≤ width) × (length (now old) ≡ width * width) × (length (now new) ≡ width * width) ⌝ }
+    ensures { λ t. ⌜ t ≡ perRouter width n (λ r. setOf n (λ d. not (eqb (cell width (now (old .entry)) r d) (cell width (now (new .entry)) r d)))) ⌝ }
+{
+    let mut out = [0u32; 32];
+    for r in 0..n {
+        out[r] = changed(n, old, new, r);
+    }
+    out
+}
+
+// The destinations to which the next hops of router r change.
+fn changed(n: usize, old: &[u32], new: &[u32], r: usize) -> u32
+    requires { ⌜ (n ≤ width) × (r < width) ⌝ }
+    requires { ⌜ (length (now old) ≡ width * width) × (length (now new) ≡ width * width) ⌝ }
+    ensures { λ t. ⌜ t ≡ setOf n (λ d. not (eqb (cell width (now (old .entry)) r d) (cell width (now (new .entry)) r d))) ⌝ }
+{
+    let mut found = 0u32;
+    for d in 0..n {
+        let k = WIDTH * r + d;
+        if old[k] != new[k] {
+            found = add(found, d);
+        }
+    }
+    found
+}
