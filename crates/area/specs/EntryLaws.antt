@@ -1,7 +1,6 @@
 -- Laws of entries.
 --     metric-fits      a metric of three bytes is at most `unused`
 use Prim.Native.Nat.{ℕ, _+_, _*_, _≤_, _<_}
-use mathlib.Core.Path.{_≡_}
 use mathlib.Core.Logic.{⊎-elim}
 use mathlib.Core.List.{List}
 use native.Mathlib.Omega.{arith}

@@ -15,7 +15,6 @@ use Rattle.area.specs.TableLaws.{cell-tabulate}
 use Rattle.area.specs.PerRouterLaws.{per-at, per-same}
 use Rattle.paths.specs.Paths.{hopCell}
 use Rattle.paths.specs.PathsLaws.{hops-in}
-use Rattle.plan.specs.declared.Record.{Record}
 use Rattle.plan.specs.Changes.{isRise}
 use Rattle.plan.specs.Root.{root}
 use Rattle.plan.specs.NewMetrics.{newMetrics}

@@ -5,18 +5,17 @@
 --     sound-of, of-sound, sound-ends           the same of the whole list
 use Prim.Native.Nat.{ℕ, zero, suc, _<_, _≤_}
 use mathlib.Core.Path.{_≡_, refl, sym, subst, _∙_}
-use mathlib.Core.Bool.{Bool, true, false, not, _&&_}
+use mathlib.Core.Bool.{true, false}
 use mathlib.Core.Logic.{_≢_, _⊎_, inl, inr, ⊎-elim}
 use mathlib.Core.List.{List}
 use native.Mathlib.Nat.{eq-or-lt-of-le, le-of-suc-le-suc, not-suc-le-zero}
 use native.Mathlib.Decide.{decLt, ℕ-discrete}
 use native.Mathlib.Omega.{arith}
-use lib.Dec.{ltb, eqb}
-use borrow.Author.Tests.{ltb-true, eqb-true, eqb-false, lt-ltb, le-ltb, eq-eqb, ne-eqb, not-true, not-false}
-use Rattle.area.specs.Tests.{pick, all}
+use lib.Dec.{ltb}
+use borrow.Author.Tests.{lt-ltb, le-ltb, eq-eqb, ne-eqb}
 use Rattle.area.specs.Entries.{count}
-use Rattle.area.specs.TestLaws.{look, both-true, and-true, and-false, all-at, all-true}
-use Rattle.plan.specs.Changes.{from, to, metric, before, isOf, isNew, changeRefusal, firstRefusal}
+use Rattle.area.specs.TestLaws.{look, and-false}
+use Rattle.plan.specs.Changes.{from, to, metric, before, isNew, changeRefusal, firstRefusal}
 
 pub record Change (n : ℕ) (m l : List ℕ) (e : ℕ) : Type 0 where
   pub from-in : from l e < n

@@ -11,3 +11,4 @@ pub mod RootLaws
 pub mod MetricLaws
 pub mod WaitingLaws
 pub mod PlanLaws
+pub mod FreshLaws

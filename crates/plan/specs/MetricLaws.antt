@@ -155,11 +155,11 @@ module _ (n : ℕ) (m l : List ℕ) where
 
 -- ---- the old table and the new one
 module _ (m l : List ℕ) (e : ℕ) (b : e < count l) where
-  rise-at : isRise m l ≡ true → before m l e < metric l e
+  pub rise-at : isRise m l ≡ true → before m l e < metric l e
   unfolding isRise moves
   rise-at r = ltb-true (before m l e) (metric l e) (all-at (count l) (moves m l true) r e b)
 
-  fall-at : isFall m l ≡ true → metric l e < before m l e
+  pub fall-at : isFall m l ≡ true → metric l e < before m l e
   unfolding isFall moves
   fall-at r = ltb-true (metric l e) (before m l e) (all-at (count l) (moves m l false) r e b)
 

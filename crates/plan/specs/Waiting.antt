@@ -1,6 +1,6 @@
 -- Who waits for whom, who tells whom, and what is due (01, "The plan"), in an area of n routers with the old metrics m and the change list l.
 use Prim.Native.Nat.{ℕ}
-use mathlib.Core.Bool.{Bool, not}
+use mathlib.Core.Bool.{not}
 use mathlib.Core.List.{List}
 use lib.Dec.{eqb}
 use Rattle.area.specs.Limits.{width}

@@ -4,6 +4,7 @@ mod metrics;
 mod order;
 
 use area::limits::CELLS;
+use area::limits::WIDTH;
 use area::refusal::Verdict;
 use paths::paths;
 ghost use mathlib.Core.Path.{_≡_};
@@ -25,13 +26,13 @@ pub struct Record {
     pub root: u8,
     // 1 for a rise, 2 for a fall.
     pub direction: u8,
-    pub ranks: [u8; 32],
-    pub waiting: [u32; 32],
-    pub telling: [u32; 32],
-    pub due: [u32; 32],
+    pub ranks: [u8; WIDTH],
+    pub waiting: [u32; WIDTH],
+    pub telling: [u32; WIDTH],
+    pub due: [u32; WIDTH],
     // 0 idle, 1 holding, 2 ongoing, 3 done.
-    pub states: [u8; 32],
-    pub written: [u32; 32],
+    pub states: [u8; WIDTH],
+    pub written: [u32; WIDTH],
 }
 
 // What Plan hands back: the answer, with the record.
@@ -127,12 +128,12 @@ fn blank() -> Record
         n: 0,
         root: 0,
         direction: 0,
-        ranks: [0; 32],
-        waiting: [0; 32],
-        telling: [0; 32],
-        due: [0; 32],
-        states: [0; 32],
-        written: [0; 32],
+        ranks: [0; WIDTH],
+        waiting: [0; WIDTH],
+        telling: [0; WIDTH],
+        due: [0; WIDTH],
+        states: [0; WIDTH],
+        written: [0; WIDTH],
     }
 }
 
@@ -158,7 +159,7 @@ fn fresh(n: usize, old: &[u32], list: &[u8], old_hops: &[u32], new_hops: &[u32])
         waiting,
         telling,
         due,
-        states: [0; 32],
-        written: [0; 32],
+        states: [0; WIDTH],
+        written: [0; WIDTH],
     }
 }

@@ -14,7 +14,7 @@ ghost use Rattle.area.specs.Tables.{cell, perRouter};
 ghost use Rattle.plan.specs.Rank.{above, rank};
 
 // The routers that each waits for. In a rise they are those that go through it to the root in the old topology, in a fall its own next hops to the root in the new one.
-pub(crate) fn waiting(n: usize, root: usize, rising: bool, old: &[u32], new: &[u32]) -> [u32; 32]
+pub(crate) fn waiting(n: usize, root: usize, rising: bool, old: &[u32], new: &[u32]) -> [u32; WIDTH]
     requires { ⌜ (n ≤ width) × (root < width) ⌝ }
     requires { ⌜ (length (now old) ≡ width * width) × (length (now new) ≡ width * width) ⌝ }
     ensures { λ w. ⌜ w ≡ perRouter width n (λ r. pick rising (setOf n (λ s. bit (cell width (now (old .entry)) s root) r)) (cell width (now (new .entry)) r root)) ⌝ }
@@ -27,11 +27,11 @@ pub(crate) fn waiting(n: usize, root: usize, rising: bool, old: &[u32], new: &[u
 }
 
 // Each router's next hops to the root.
-fn toward(n: usize, root: usize, hops: &[u32]) -> [u32; 32]
+fn toward(n: usize, root: usize, hops: &[u32]) -> [u32; WIDTH]
     requires { ⌜ (n ≤ width) × (root < width) × (length (now hops) ≡ width * width) ⌝ }
     ensures { λ t. ⌜ t ≡ perRouter width n (λ r. cell width (now (hops .entry)) r root) ⌝ }
 {
-    let mut out = [0u32; 32];
+    let mut out = [0u32; WIDTH];
     for r in 0..n {
         out[r] = hops[WIDTH * r + root];
     }
@@ -39,11 +39,11 @@ fn toward(n: usize, root: usize, hops: &[u32]) -> [u32; 32]
 }
 
 // For each router, those whose set it is a member of.
-pub(crate) fn converse(n: usize, sets: [u32; 32]) -> [u32; 32]
+pub(crate) fn converse(n: usize, sets: [u32; WIDTH]) -> [u32; WIDTH]
     requires { ⌜ n ≤ width ⌝ }
     ensures { λ t. ⌜ t ≡ perRouter width n (λ r. setOf n (λ s. bit (getD sets s 0) r)) ⌝ }
 {
-    let mut out = [0u32; 32];
+    let mut out = [0u32; WIDTH];
     for r in 0..n {
         out[r] = holders(n, sets, r);
     }
@@ -51,7 +51,7 @@ pub(crate) fn converse(n: usize, sets: [u32; 32]) -> [u32; 32]
 }
 
 // The routers whose set has router r.
-fn holders(n: usize, sets: [u32; 32], r: usize) -> u32
+fn holders(n: usize, sets: [u32; WIDTH], r: usize) -> u32
     requires { ⌜ n ≤ width ⌝ }
     ensures { λ t. ⌜ t ≡ setOf n (λ s. bit (getD sets s 0) r) ⌝ }
 {
@@ -65,11 +65,11 @@ fn holders(n: usize, sets: [u32; 32], r: usize) -> u32
 }
 
 // The ranks: each round allows chains of one link more, and a chain has fewer links than there are routers.
-pub(crate) fn ranks(n: usize, waiting: [u32; 32]) -> [u8; 32]
+pub(crate) fn ranks(n: usize, waiting: [u32; WIDTH]) -> [u8; WIDTH]
     requires { ⌜ n ≤ width ⌝ }
     ensures { λ t. ⌜ t ≡ perRouter width n (rank n (λ r. getD waiting r 0)) ⌝ }
 {
-    let mut ranks = [0u8; 32];
+    let mut ranks = [0u8; WIDTH];
     for h in 1..n {
         let next = longer(n, waiting, ranks);
         ranks = next;
@@ -78,11 +78,11 @@ pub(crate) fn ranks(n: usize, waiting: [u32; 32]) -> [u8; 32]
 }
 
 // One round: for each router one more than the largest rank of those that it waits for.
-fn longer(n: usize, waiting: [u32; 32], ranks: [u8; 32]) -> [u8; 32]
+fn longer(n: usize, waiting: [u32; WIDTH], ranks: [u8; WIDTH]) -> [u8; WIDTH]
     requires { ⌜ (n ≤ width) × ((s : ℕ) → s < n → getD ranks s 0 < 255) ⌝ }
     ensures { λ t. ⌜ t ≡ perRouter width n (λ r. above n (getD waiting r 0) (λ s. getD ranks s 0)) ⌝ }
 {
-    let mut out = [0u8; 32];
+    let mut out = [0u8; WIDTH];
     for r in 0..n {
         out[r] = after(n, waiting[r], ranks);
     }
@@ -90,7 +90,7 @@ fn longer(n: usize, waiting: [u32; 32], ranks: [u8; 32]) -> [u8; 32]
 }
 
 // One more than the largest rank in a set, 0 for the empty set.
-fn after(n: usize, set: u32, ranks: [u8; 32]) -> u8
+fn after(n: usize, set: u32, ranks: [u8; WIDTH]) -> u8
     requires { ⌜ (n ≤ width) × ((s : ℕ) → s < n → getD ranks s 0 < 255) ⌝ }
     ensures { λ k. ⌜ k ≡ above n set (λ s. getD ranks s 0) ⌝ }
 {
@@ -107,11 +107,11 @@ fn after(n: usize, set: u32, ranks: [u8; 32]) -> u8
 }
 
 // The destinations that are due at each router.
-pub(crate) fn due(n: usize, old: &[u32], new: &[u32]) -> [u32; 32]
+pub(crate) fn due(n: usize, old: &[u32], new: &[u32]) -> [u32; WIDTH]
     requires { ⌜ (n ≤ width) × (length (now old) ≡ width * width) × (length (now new) ≡ width * width) ⌝ }
     ensures { λ t. ⌜ t ≡ perRouter width n (λ r. setOf n (λ d. not (eqb (cell width (now (old .entry)) r d) (cell width (now (new .entry)) r d)))) ⌝ }
 {
-    let mut out = [0u32; 32];
+    let mut out = [0u32; WIDTH];
     for r in 0..n {
         out[r] = changed(n, old, new, r);
     }

@@ -1,20 +1,14 @@
-use mathlib.Core.Path.{_≡_, refl, sym, ap, _∙_}
+use mathlib.Core.Path.{_≡_, sym, ap, _∙_}
 use mathlib.Core.Bool.{Bool}
 use mathlib.Core.Logic.{⊎-elim}
-use Prim.Native.Nat.{ℕ, _-_, _<_, _≤_}
+use Prim.Native.Nat.{ℕ, _-_, _≤_}
 use native.Mathlib.Omega.{arith}
-use borrow.Author.Needs.{needs}
-use lib.ListN.{length, getD, set}
-use denote.Ref.{now}
+use lib.ListN.{getD}
 use Rattle.area.specs.Limits.{width}
 use Rattle.area.specs.Sets.{bit, setOf, added}
 use Rattle.area.specs.SetLaws.{setOf-start, setOf-skip, setOf-more}
 use Rattle.plan.proofs.order.holders.Statement.{statement}
 use Rattle.plan.proofs.order.holders.Tie as tie
-use Rattle.plan.proofs.order.holders.Reads as reads
-use Rattle.plan.proofs.order.holders.Lts as lts
-use Rattle.area.proofs.sets.add.Reads as add-reads
-use Rattle.area.proofs.sets.member.Reads as member-reads
 
 abbrev Inv-loop : tie.InvT-loop
 Inv-loop n r sets found₀ s₀ found s = (s ≤ n) × (found ≡ setOf s (λ k. bit (getD sets k 0) r))

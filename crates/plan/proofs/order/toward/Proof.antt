@@ -1,11 +1,7 @@
 use mathlib.Core.Path.{_≡_, refl}
-use Prim.Native.Nat.{ℕ, _-_, _≤_}
+use Prim.Native.Nat.{_-_, _≤_}
 use native.Mathlib.Omega.{arith}
-use borrow.Author.Needs.{needs}
-use lib.ListN.{getD}
-use denote.Ref.{now}
 use Rattle.area.specs.Limits.{width}
-use Rattle.area.specs.Sets.{bit, setOf}
 use Rattle.area.specs.Tables.{cell}
 use Rattle.area.specs.PerRouterLaws.{Filled, filled-none, filled-more, filled-all}
 use Rattle.plan.proofs.order.toward.Statement.{statement}

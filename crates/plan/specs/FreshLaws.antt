@@ -1,0 +1,92 @@
+-- What the layer above knows of an input that is planned, and of the record that it starts from.
+--     plan-root, plan-fall, plan-not-both      the root is a router; a plan is a rise or a fall, and not both
+--     plan-differs, plan-larger, plan-smaller      metrics differ only in pairs with the root as an end, and all the same way
+--     plan-elsewhere, plan-rises, plan-falls   the same of the two topologies
+--     fresh-rank, fresh-waiting, fresh-telling, fresh-due, fresh-state, fresh-written, fresh-beyond    the fresh record's entries
+use Prim.Native.Nat.{ℕ, _≤_, _<_}
+use mathlib.Core.Path.{_≡_, sym, _∙_}
+use mathlib.Core.Bool.{true, false, false≢true}
+use mathlib.Core.Logic.{_≢_, _⊎_, ⊎-elim}
+use mathlib.Core.List.{List}
+use native.Mathlib.Omega.{arith}
+use lib.ListN.{getD, getD-replicate}
+use Rattle.area.specs.Limits.{width}
+use Rattle.area.specs.TestLaws.{look}
+use Rattle.area.specs.Tables.{cell}
+use Rattle.area.specs.PerRouterLaws.{per-at, per-beyond}
+use Rattle.paths.specs.Topology.{topology}
+use Rattle.plan.specs.Changes.{isRise, isFall}
+use Rattle.plan.specs.Root.{root}
+use Rattle.plan.specs.NewMetrics.{newMetrics}
+use Rattle.plan.specs.Waiting.{waiting, telling, due}
+use Rattle.plan.specs.Rank.{rank}
+use Rattle.plan.specs.Plan.{fresh}
+use Rattle.plan.specs.RootLaws.{root-in}
+use Rattle.plan.specs.MetricLaws.{rise-at, fall-at, differs-common, differs-rise, differs-fall, topology-elsewhere, topology-rise, topology-fall}
+use Rattle.plan.specs.PlanLaws.{Plan}
+
+module _ (n : ℕ) (m l : List ℕ) (p : Plan n m l) where
+  pub plan-root : root l < n
+  plan-root = let first = p .sound 0 (p .some) in root-in n l (first .from-in) (first .to-in)
+
+  pub plan-fall : isRise m l ≡ false → isFall m l ≡ true
+  plan-fall f = ⊎-elim (λ t. absurd (false≢true (sym f ∙ t))) (λ t. t) (p .way)
+
+  -- the first change cannot go both ways
+  pub plan-not-both : isRise m l ≡ true → isFall m l ≡ false
+  plan-not-both r = ⊎-elim (λ t. absurd (let a = rise-at m l 0 (p .some) r in let b = fall-at m l 0 (p .some) t in let x : ⊥ = omega arith in x)) (λ f. f) (look (isFall m l))
+
+  -- ---- the metrics of two different routers
+  module _ (i j : ℕ) (a : i < n) (b : j < n) (f : i ≢ j) (d : cell width (newMetrics n m l) i j ≢ cell width m i j) where
+    pub plan-differs : (i ≡ root l) ⊎ (j ≡ root l)
+    plan-differs = differs-common n m l (p .ready .most) (root l) (p .common) i j a b f d
+
+    pub plan-larger : isRise m l ≡ true → cell width m i j < cell width (newMetrics n m l) i j
+    plan-larger r = differs-rise n m l (p .ready .most) r i j a b f d
+
+    pub plan-smaller : isRise m l ≡ false → cell width (newMetrics n m l) i j < cell width m i j
+    plan-smaller r = differs-fall n m l (p .ready .most) (plan-fall r) i j a b f d
+
+  -- ---- the topologies
+  pub plan-elsewhere : (i j : ℕ) → i ≢ root l → j ≢ root l → topology n (newMetrics n m l) i j ≡ topology n m i j
+  plan-elsewhere = topology-elsewhere n m l (p .ready .most) (root l) (p .common)
+
+  pub plan-rises : isRise m l ≡ true → (i j : ℕ) → topology n m i j ≤ topology n (newMetrics n m l) i j
+  plan-rises r = topology-rise n m l (p .ready) r
+
+  pub plan-falls : isRise m l ≡ false → (i j : ℕ) → topology n (newMetrics n m l) i j ≤ topology n m i j
+  plan-falls r = topology-fall n m l (p .ready .most) (p .sound) (plan-fall r)
+
+-- ---- the fresh record, router by router
+module _ (n : ℕ) (m l : List ℕ) where
+  module _ (most : n ≤ width) (r : ℕ) (a : r < n) where
+    pub fresh-rank : getD (fresh n m l .ranks) r 0 ≡ rank n (waiting n m l) r
+    unfolding fresh
+    fresh-rank = per-at width n (rank n (waiting n m l)) r a most
+
+    pub fresh-waiting : getD (fresh n m l .waiting) r 0 ≡ waiting n m l r
+    unfolding fresh
+    fresh-waiting = per-at width n (waiting n m l) r a most
+
+    pub fresh-telling : getD (fresh n m l .telling) r 0 ≡ telling n m l r
+    unfolding fresh
+    fresh-telling = per-at width n (telling n m l) r a most
+
+    pub fresh-due : getD (fresh n m l .due) r 0 ≡ due n m l r
+    unfolding fresh
+    fresh-due = per-at width n (due n m l) r a most
+
+  module _ (r : ℕ) (b : r < width) where
+    pub fresh-state : getD (fresh n m l .states) r 0 ≡ 0
+    unfolding fresh
+    fresh-state = getD-replicate width r 0 0 b
+
+    pub fresh-written : getD (fresh n m l .written) r 0 ≡ 0
+    unfolding fresh
+    fresh-written = getD-replicate width r 0 0 b
+
+    -- from n on there is nothing
+    pub fresh-beyond : n ≤ r → (getD (fresh n m l .ranks) r 0 ≡ 0) × (getD (fresh n m l .waiting) r 0 ≡ 0) × (getD (fresh n m l .telling) r 0 ≡ 0) × (getD (fresh n m l .due) r 0 ≡ 0)
+    unfolding fresh
+    fresh-beyond h =
+        (per-beyond width n (rank n (waiting n m l)) r h b, per-beyond width n (waiting n m l) r h b, per-beyond width n (telling n m l) r h b, per-beyond width n (due n m l) r h b)
