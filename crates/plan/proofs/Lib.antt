@@ -1,7 +1,7 @@
--- What several functions' proofs share.
-pub mod Rounds
-pub mod Converse
+-- What several functions' proofs share, or what would make one too long.
 pub mod Reading
 pub mod Applying
+pub mod Converse
+pub mod Rounds
 pub mod Recording
 pub mod Filling

@@ -1,6 +1,7 @@
 -- Laws of the change list.
 --     Change n m l e       what is known of a change that has no fault
---     change-faultless, faultless-change       it is what `changeRefusal` gives 0 for
+--     refused-from, .. refused-same, faultless     the refusals of one change, each where it is given
+--     change-of, change-faultless              a change is not refused exactly where it has no fault
 --     first-none, none-first, first-fault      the first fault; `firstRefusal` is 0 exactly where no change has one
 --     sound-of, of-sound, sound-ends           the same of the whole list
 use Prim.Native.Nat.{ℕ, zero, suc, _<_, _≤_}

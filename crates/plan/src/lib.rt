@@ -151,9 +151,11 @@ fn fresh(n: usize, old: &[u32], list: &[u8], old_hops: &[u32], new_hops: &[u32])
     let telling = order::converse(n, waiting);
     let ranks = order::ranks(n, waiting);
     let due = order::due(n, old_hops, new_hops);
+    let routers = n as u8;
+    let root = root as u8;
     Record {
-        n: n as u8,
-        root: root as u8,
+        n: routers,
+        root,
         direction: if rising { 1 } else { 2 },
         ranks,
         waiting,

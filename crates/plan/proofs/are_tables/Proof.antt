@@ -1,3 +1,4 @@
+-- The tables are measured one after another.
 use mathlib.Core.Path.{_≡_, refl}
 use mathlib.Core.Bool.{false}
 use mathlib.Core.Logic.{_≢_}

@@ -1,3 +1,4 @@
+-- Paths refuses neither table, so what it fills in is what is asked for.
 use Prim.Native.Nat.{ℕ, _<_}
 use borrow.Author.Needs.{needs}
 use lib.ListN.{getD}

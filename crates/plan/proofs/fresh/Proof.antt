@@ -1,3 +1,4 @@
+-- The record from its parts; the root is one of the routers, so it fits a byte.
 use mathlib.Core.Path.{_≡_, refl, ap, _∙_}
 use mathlib.Core.List.{List}
 use Prim.Native.Nat.{ℕ, _*_, _<_}
@@ -40,11 +41,11 @@ ranks-requires c κs = search needs
 due-requires : tie.Need-due-requires
 due-requires c κs = let start = c .before .before .before .before .before .before .before .before .before in (omega arith, size _ (start .pre .1 .1 .0), size _ (start .pre .1 .1 .1))
 
-cast-t28 : tie.Need-cast-t28
-cast-t28 c = search needs
+cast-routers : tie.Need-cast-routers
+cast-routers c = search needs
 
-cast-t30 : tie.Need-cast-t30
-cast-t30 c = let start = c .before .before .before .before .before .before .before .before .before .before in omega (arith, below start, c .before .before .before .before .before .root .ensures)
+cast-root : tie.Need-cast-root
+cast-root c = let start = c .before .before .before .before .before .before .before .before .before .before in omega (arith, below start, c .before .before .before .before .before .root .ensures)
 
 returns : tie.Need-returns
 returns c =
@@ -72,7 +73,7 @@ fresh-spec =
     converse-requires
     ranks-requires
     due-requires
-    cast-t28
-    cast-t30
+    cast-routers
+    cast-root
     returns
     returns-2)

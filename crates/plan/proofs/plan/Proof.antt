@@ -1,3 +1,4 @@
+-- The input was judged: it is refused and nothing is written, or it is planned and all is filled.
 use mathlib.Core.Path.{_≡_, sym, ap, _∙_}
 use mathlib.Core.Bool.{Bool, true, false, not}
 use mathlib.Core.List.{List}

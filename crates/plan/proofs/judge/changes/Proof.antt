@@ -1,3 +1,4 @@
+-- Each return gives the refusal of the tests that led to it.
 use mathlib.Core.Path.{_≡_, sym, ap, _∙_}
 use mathlib.Core.Bool.{Bool, true, false, not, _||_}
 use mathlib.Core.List.{List}

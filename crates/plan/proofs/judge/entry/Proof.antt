@@ -1,3 +1,4 @@
+-- Each return gives the refusal of the tests that led to it.
 use mathlib.Core.Path.{_≡_, sym, _∙_}
 use mathlib.Core.Bool.{Bool, true, false, not}
 use mathlib.Core.Logic.{_≢_}

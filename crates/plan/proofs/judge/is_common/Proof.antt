@@ -1,3 +1,4 @@
+-- Router c is an end of the changes before e.
 use mathlib.Core.Path.{_≡_, refl, sym, _∙_}
 use mathlib.Core.Bool.{Bool, true, false, _||_}
 use mathlib.Core.Logic.{_≢_, ⊎-elim}

@@ -1,3 +1,4 @@
+-- A rise, and if it is none a fall.
 use mathlib.Core.Path.{refl, sym, _∙_}
 use borrow.Author.Needs.{needs}
 use Rattle.plan.proofs.judge.is_one_way.Statement.{statement}

@@ -1,3 +1,4 @@
+-- The metric before the change is the cell of its pair.
 use mathlib.Core.Path.{ap₂}
 use native.Mathlib.Omega.{arith}
 use borrow.Author.Needs.{needs}

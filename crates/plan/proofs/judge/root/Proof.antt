@@ -1,3 +1,4 @@
+-- The far end of the first change where it is common, and else the near end.
 use mathlib.Core.Path.{sym, ap, _∙_}
 use borrow.Author.Needs.{needs}
 use denote.Ref.{now}

@@ -1,3 +1,4 @@
+-- The places before k are copied.
 use mathlib.Core.Path.{_≡_}
 use mathlib.Core.List.{[]}
 use Prim.Native.Nat.{_-_, _*_, _/_, _%_, _≤_}

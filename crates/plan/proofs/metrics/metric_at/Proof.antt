@@ -1,3 +1,4 @@
+-- Each return is a kind of cell: the diagonal, a row beyond n, a column beyond n, a pair of routers.
 use mathlib.Core.Path.{sym}
 use mathlib.Core.Logic.{inl, inr}
 use mathlib.Core.List.{[]}

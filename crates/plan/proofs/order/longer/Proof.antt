@@ -1,3 +1,4 @@
+-- The routers below r have their rank of this round.
 use mathlib.Core.Path.{_≡_}
 use Prim.Native.Nat.{_-_, _≤_}
 use native.Mathlib.Omega.{arith}

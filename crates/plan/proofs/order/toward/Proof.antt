@@ -1,3 +1,4 @@
+-- The routers below r have their next hops to the root.
 use mathlib.Core.Path.{_≡_, refl}
 use Prim.Native.Nat.{_-_, _≤_}
 use native.Mathlib.Omega.{arith}

@@ -1,3 +1,4 @@
+-- A rise takes the converse of the next hops to the root, a fall the next hops themselves.
 use mathlib.Core.Path.{_∙_}
 use Prim.Native.Nat.{_-_}
 use native.Mathlib.Omega.{arith}
