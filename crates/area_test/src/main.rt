@@ -1,4 +1,5 @@
-// Runs the functions on router sets and refusals, and prints what they give.
+// Runs the functions on router sets, entries and refusals, and prints what they give.
+use area::entries;
 use area::refusal::Refusal;
 use area::refusal::Verdict;
 use area::sets;
@@ -7,6 +8,7 @@ use libc::STDOUT_FILENO;
 fn main() {
     one_router();
     two_sets();
+    listed();
     refusals();
 }
 
@@ -69,9 +71,35 @@ fn pair(s: u32, t: u32) {
     io::write_all(STDOUT_FILENO, b"\n");
 }
 
+// Three entries, and two bytes of a fourth.
+fn listed() {
+    let list = [0, 1, 0, 0, 1, 31, 255, 255, 255, 255, 2, 3, 1, 2, 3, 9, 9];
+    field(b"entries ", entries::count(&list) as u64);
+    io::write_all(STDOUT_FILENO, b"\n");
+    entry(&list, 0);
+    entry(&list, 1);
+    entry(&list, 2);
+    entry(&list, 3);
+    entry(&list, 18446744073709551615);
+    field(b"entries ", entries::count(&list[..4]) as u64);
+    io::write_all(STDOUT_FILENO, b"\n");
+    entry(&list[..4], 0);
+}
+
+fn entry(list: &[u8], e: usize) {
+    let found = entries::decode(list, e);
+    field(b"entry ", e as u64);
+    field(b" from ", found.from as u64);
+    field(b" to ", found.to as u64);
+    field(b" metric ", found.metric as u64);
+    io::write_all(STDOUT_FILENO, b"\n");
+}
+
 // The numbers of all refusals, in the order in which the paper first names them.
 fn refusals() {
     field(b"accepted ", Verdict::Accepted.number() as u64);
+    truth(b" ", Verdict::Accepted.is_accepted());
+    truth(b" ", Verdict::Refused(Refusal::Incomplete).is_accepted());
     io::write_all(STDOUT_FILENO, b"\nrefused");
     of_tables();
     of_entries();

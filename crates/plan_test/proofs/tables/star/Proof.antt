@@ -1,0 +1,35 @@
+-- `tables::star` is safe and ends. The loop has passed i of the 32 routers.
+use Prim.Native.Nat.{_-_, _≤_}
+use native.Mathlib.Omega.{arith}
+use borrow.Author.Needs.{needs}
+use Rattle.plan_test.proofs.tables.star.Statement.{statement}
+use Rattle.plan_test.proofs.tables.star.Tie as tie
+
+abbrev Inv-loop : tie.InvT-loop
+Inv-loop metric₀ hub m i₀ metric i = i ≤ 32
+
+abbrev μ-loop : tie.MeasureT-loop
+μ-loop metric₀ hub m i₀ metric i = 32 - i
+
+loop-holds : tie.Need-loop-holds Inv-loop μ-loop
+loop-holds c = search needs
+
+link-requires : tie.Need-link-requires Inv-loop μ-loop
+link-requires c κs = omega arith
+
+add-i : tie.Need-add-i Inv-loop μ-loop
+add-i c = omega arith
+
+loop-less : tie.Need-loop-less Inv-loop μ-loop
+loop-less c = omega arith
+
+loop-again : tie.Need-loop-again Inv-loop μ-loop
+loop-again c = search needs
+
+returns : tie.Need-returns Inv-loop μ-loop
+returns c = search needs
+
+pub star-spec : {M : Type 1} → statement M
+star-spec =
+    tie.close
+    (tie.spec Inv-loop μ-loop loop-holds link-requires add-i loop-less loop-again returns)
