@@ -1,4 +1,4 @@
-// Who waits for whom, who tells whom, ranks, and what is due. A table per router has an entry for each of WIDTH routers, 0 from n on; `old` and `new` are the next-hop tables of the two topologies.
+// Who waits for whom, who tells whom, ranks, and what is due. `old` and `new` are the next-hop tables of the two topologies. A table per router has WIDTH entries, 0 from n on.
 use area::limits::WIDTH;
 use area::sets::add;
 use area::sets::member;
@@ -13,7 +13,7 @@ ghost use Rattle.area.specs.Sets.{bit, setOf};
 ghost use Rattle.area.specs.Tables.{cell, perRouter};
 ghost use Rattle.plan.specs.Rank.{above, rank};
 
-// The routers that each waits for. In a rise they are those that go through it to the root in the old topology, in a fall its own next hops to the root in the new one.
+// The routers that each waits for: in a rise those for which it is an old next hop to the root, in a fall its own new next hops to the root.
 pub(crate) fn waiting(n: usize, root: usize, rising: bool, old: &[u32], new: &[u32]) -> [u32; WIDTH]
     requires { ⌜ (n ≤ width) × (root < width) ⌝ }
     requires { ⌜ (length (now old) ≡ width * width) × (length (now new) ≡ width * width) ⌝ }
