@@ -117,10 +117,6 @@ unfolding isTable
 table-false t f = ne-eqb (length t) (width * width) f
 
 -- ---- n routers and a metric table, before it is known which tables are lent
-pub area-of : (n : ℕ) (m : List ℕ) → Ready n m → isArea n m ≡ true
-unfolding isArea
-area-of n m r = rw (count-true n (r .some) (r .most), table-true m (r .size)) (r .metrics)
-
 module _ (n : ℕ) (m : List ℕ) where
   pub area-uncounted : isCount n ≡ false → isArea n m ≡ false
   unfolding isArea

@@ -6,7 +6,7 @@
 --     longest-le, longest-same, rank-le, rank-same     their bounds; what the n routers wait for decides them
 --     chain-distinct, chain-few            where waiting comes down in some measure, a chain meets no router twice, and takes fewer links than there are routers
 --     rank-is, same-rank                   so the rank is over chains of any length; nothing else is
---     rank-less, no-wait-self              a router ranks above those it waits for, and does not wait for itself
+--     rank-less                            a router ranks above those it waits for
 use Prim.Native.Nat.{ℕ, zero, suc, _+_, _-_, _≤_, _<_, max}
 use mathlib.Core.Path.{_≡_, refl, sym, ap, ap₂, _∙_}
 use mathlib.Core.Bool.{Bool, true, false}
@@ -155,9 +155,6 @@ module _ (n : ℕ) (w : ℕ → ℕ) (inside : (r s : ℕ) → bit (w r) s ≡ t
 
   pub rank-less : (r s : ℕ) → bit (w r) s ≡ true → rank n w s < rank n w r
   rank-less r s e = let a = rank-is s in omega (arith, a .exact, rank-is r .most (waits e (a .chain)))
-
-  pub no-wait-self : (r : ℕ) → bit (w r) r ≡ false
-  no-wait-self r = ⊎-elim (λ e. absurd (omega (arith, down r r e))) (λ f. f) (look (bit (w r) r))
 
 -- nothing else is the rank
 pub same-rank : {w : ℕ → ℕ} {r j k : ℕ} → IsRank w r j → IsRank w r k → j ≡ k

@@ -5,6 +5,7 @@ use native.Mathlib.Omega.{arith}
 use borrow.Author.Count.{below-none, below-more}
 use borrow.Author.Tests.{eqb-true, eqb-false, not-true, not-false}
 use denote.Ref.{now}
+use Rattle.area.specs.Refusals.{verdictNumber}
 use Rattle.area.specs.Entries.{count}
 use Rattle.plan.specs.Changes.{changeRefusal}
 use Rattle.plan.specs.ChangeLaws.{first-none, first-fault}
@@ -46,7 +47,7 @@ loop-less c = omega arith
 loop-again : tie.Need-loop-again Inv-loop μ-loop
 loop-again c =
     let at-loop = c .before .before .before .before .loop in
-    let passed = eqb-true _ 0 (sym (c .before .is-accepted .ensures) ∙ not-false _ (c .if1 .left)) in
+    let passed : verdictNumber (c .before .before .entry .result) ≡ 0 = eqb-true _ 0 (sym (c .before .is-accepted .ensures) ∙ not-false _ (c .if1 .left)) in
     (at-loop .inv .0, omega arith, below-more _ (at-loop .e) (at-loop .inv .2) (sym (c .before .before .entry .ensures) ∙ passed))
 
 returns-2 : tie.Need-returns-2 Inv-loop μ-loop
