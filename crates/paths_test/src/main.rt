@@ -17,4 +17,5 @@ fn main() {
     refused::table_sizes();
     refused::metrics();
     refused::order();
+    refused::areas();
 }

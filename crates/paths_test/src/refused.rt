@@ -1,4 +1,4 @@
-// Input that Paths refuses: the refusal's number, and how many cells of the two tables changed.
+// Input that Paths refuses: the refusal's number, and how many cells of the two tables changed. Then the test of n and the metrics alone.
 use crate::compare;
 use crate::print;
 use crate::tables;
@@ -111,4 +111,30 @@ pub fn order() {
     refuse(32, &metric[..1024], 1024, 1023);
     print::text(b"all three");
     refuse(33, &metric[..1023], 1023, 1023);
+}
+
+// Routers and metric tables, some of them no area: 1 is a metric and 0 is none.
+pub fn areas() {
+    let ones = [1; 1025];
+    let zeros = [0; 1024];
+    area(b"ones", 0, &ones[..1024]);
+    area(b"ones", 1, &ones[..1024]);
+    area(b"ones", 32, &ones[..1024]);
+    area(b"ones", 33, &ones[..1024]);
+    area(b"ones", 18446744073709551615, &ones[..1024]);
+    area(b"ones", 3, &ones[..1023]);
+    area(b"ones", 3, &ones);
+    area(b"zeros", 1, &zeros);
+    area(b"zeros", 2, &zeros);
+}
+
+fn area(name: &[u8], n: usize, metric: &[u32]) {
+    print::text(name);
+    print::field(b" routers", n as u64);
+    print::field(b" cells", metric.len() as u64);
+    if paths::is_area(n, metric) {
+        print::text(b" area\n");
+    } else {
+        print::text(b" no area\n");
+    }
 }

@@ -1,6 +1,6 @@
 -- The change list (01, "The plan"): entries of five bytes, each of them a change of one metric. m is the old metric table, l the list, and e the place of a change in it.
 use Prim.Native.Nat.{ℕ, zero, suc}
-use mathlib.Core.Bool.{Bool, true, false, not, _&&_}
+use mathlib.Core.Bool.{Bool, not, _&&_}
 use mathlib.Core.List.{List}
 use lib.Dec.{ltb, eqb}
 use Rattle.area.specs.Limits.{width}
@@ -44,13 +44,9 @@ unfoldable pub firstRefusal : ℕ → List ℕ → List ℕ → ℕ → ℕ
 firstRefusal n m l zero = 0
 firstRefusal n m l (suc k) = pick (eqb (firstRefusal n m l k) 0) (changeRefusal n m l k) (firstRefusal n m l k)
 
--- The new metric of change e is larger than the old one, where it is asked for a rise, or smaller.
-unfoldable pub moves : List ℕ → List ℕ → Bool → ℕ → Bool
-moves m l rising e = pick rising (ltb (before m l e) (metric l e)) (ltb (metric l e) (before m l e))
-
 -- Every new metric is larger than the old one, or every one smaller.
 unfoldable pub isRise : List ℕ → List ℕ → Bool
-isRise m l = all (count l) (moves m l true)
+isRise m l = all (count l) (λ e. ltb (before m l e) (metric l e))
 
 unfoldable pub isFall : List ℕ → List ℕ → Bool
-isFall m l = all (count l) (moves m l false)
+isFall m l = all (count l) (λ e. ltb (metric l e) (before m l e))

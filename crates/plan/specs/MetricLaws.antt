@@ -25,7 +25,7 @@ use Rattle.paths.specs.Paths.{isMetric}
 use Rattle.paths.specs.Topology.{topology}
 use Rattle.paths.specs.TopologyLaws.{topology-le, topology-same}
 use Rattle.paths.specs.PathsLaws.{Ready, metric-own, metric-good, metrics-at, metrics-true}
-use Rattle.plan.specs.Changes.{from, to, metric, before, isOf, isNew, moves, isRise, isFall}
+use Rattle.plan.specs.Changes.{from, to, metric, before, isOf, isNew, isRise, isFall}
 use Rattle.plan.specs.Root.{isCommon}
 use Rattle.plan.specs.NewMetrics.{changed, newCell, newMetrics}
 use Rattle.plan.specs.ChangeLaws.{Sound}
@@ -156,12 +156,12 @@ module _ (n : ℕ) (m l : List ℕ) where
 -- ---- the old table and the new one
 module _ (m l : List ℕ) (e : ℕ) (b : e < count l) where
   pub rise-at : isRise m l ≡ true → before m l e < metric l e
-  unfolding isRise moves
-  rise-at r = ltb-true (before m l e) (metric l e) (all-at (count l) (moves m l true) r e b)
+  unfolding isRise
+  rise-at r = ltb-true (before m l e) (metric l e) (all-at (count l) (λ e. ltb (before m l e) (metric l e)) r e b)
 
   pub fall-at : isFall m l ≡ true → metric l e < before m l e
-  unfolding isFall moves
-  fall-at r = ltb-true (metric l e) (before m l e) (all-at (count l) (moves m l false) r e b)
+  unfolding isFall
+  fall-at r = ltb-true (metric l e) (before m l e) (all-at (count l) (λ e. ltb (metric l e) (before m l e)) r e b)
 
 module _ (n : ℕ) (m l : List ℕ) (most : n ≤ width) where
   -- a pair of routers whose metric differs has a common router as an end

@@ -11,7 +11,6 @@ use Rattle.plan.specs.Changes.{from, to}
 unfoldable pub isCommon : List ℕ → ℕ → Bool
 isCommon l c = all (count l) (λ e. eqb (from l e) c || eqb (to l e) c)
 
--- A router that is an end of every change is one of the first: its far end, where that one is, and else its near end.
--- RootLaws.antt: `common-root`, where any router is an end of every change, this one is.
+-- The far end of the first change where it is an end of every change, and else the near end. RootLaws.antt: where any router is an end of every change, this one is (`common-root`).
 unfoldable pub root : List ℕ → ℕ
 root l = pick (isCommon l (to l 0)) (to l 0) (from l 0)

@@ -10,12 +10,13 @@ use paths::is_area;
 ghost use mathlib.Core.Path.{_≡_};
 ghost use mathlib.Core.Bool.{true, _||_};
 ghost use Prim.Native.Nat.{_≤_, _<_, _*_};
+ghost use lib.Dec.{ltb};
 ghost use lib.ListN.{length};
 ghost use Rattle.area.specs.Limits.{width};
 ghost use Rattle.area.specs.Refusals.{verdictNumber};
 ghost use Rattle.area.specs.Tests.{pick};
 ghost use Rattle.area.specs.Entries.{count};
-ghost use Rattle.plan.specs.Changes.{from, to, isNew, changeRefusal, firstRefusal, moves, isRise, isFall};
+ghost use Rattle.plan.specs.Changes.{from, to, metric, before, isNew, changeRefusal, firstRefusal, isRise, isFall};
 ghost use Rattle.plan.specs.Root.{isCommon, root};
 ghost use Rattle.plan.specs.ChangeLaws.{Ends};
 ghost use Rattle.plan.specs.Plan.{changesRefusal, planRefusal};
@@ -153,11 +154,11 @@ pub(crate) fn all_move(old: &[u32], list: &[u8], rising: bool) -> bool
     true
 }
 
-// Is change e a rise (`rising`), or a fall?
+// Is change e a rise (`rising`), or is it a fall (not `rising`)?
 fn moves(old: &[u32], list: &[u8], e: usize, rising: bool) -> bool
     requires { ⌜ length (now old) ≡ width * width ⌝ }
     requires { ⌜ (from (now list) e < width) × (to (now list) e < width) ⌝ }
-    ensures { λ r. ⌜ r ≡ moves (now (old .entry)) (now (list .entry)) rising e ⌝ }
+    ensures { λ r. ⌜ r ≡ pick rising (ltb (before (now (old .entry)) (now (list .entry)) e) (metric (now (list .entry)) e)) (ltb (metric (now (list .entry)) e) (before (now (old .entry)) (now (list .entry)) e)) ⌝ }
 {
     let change = decode(list, e);
     let from = change.from;

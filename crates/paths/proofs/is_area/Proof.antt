@@ -1,3 +1,4 @@
+-- Each return gives the answer of the tests that led to it.
 use mathlib.Core.Path.{sym, _∙_}
 use native.Mathlib.Omega.{arith}
 use borrow.Author.Needs.{needs}

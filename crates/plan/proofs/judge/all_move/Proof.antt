@@ -6,21 +6,26 @@ use Prim.Native.Nat.{ℕ, _-_, _<_, _≤_}
 use native.Mathlib.Omega.{arith}
 use borrow.Author.Count.{below-none, below-more}
 use borrow.Author.Tests.{not-true, not-false}
+use lib.Dec.{ltb}
 use denote.Ref.{now}
 use Rattle.area.specs.Tests.{pick, all}
 use Rattle.area.specs.Entries.{count}
 use Rattle.area.specs.TestLaws.{all-true, all-false}
-use Rattle.plan.specs.Changes.{moves, isRise, isFall}
+use Rattle.plan.specs.Changes.{metric, before, isRise, isFall}
 use Rattle.plan.proofs.judge.all_move.Statement.{statement}
 use Rattle.plan.proofs.judge.all_move.Tie as tie
 
-all-moves : (m l : List ℕ) (rising : Bool) → all (count l) (moves m l rising) ≡ pick rising (isRise m l) (isFall m l)
+-- change e goes the asked way
+abbrev Moves : List ℕ → List ℕ → Bool → ℕ → Bool
+Moves m l rising e = pick rising (ltb (before m l e) (metric l e)) (ltb (metric l e) (before m l e))
+
+all-moves : (m l : List ℕ) (rising : Bool) → all (count l) (Moves m l rising) ≡ pick rising (isRise m l) (isFall m l)
 unfolding isRise isFall
 all-moves m l true = refl
 all-moves m l false = refl
 
 abbrev Inv-loop : tie.InvT-loop
-Inv-loop old list rising e₀ e-end e = (e-end ≡ count list) × (e ≤ e-end) × ((k : ℕ) → k < e → moves old list rising k ≡ true)
+Inv-loop old list rising e₀ e-end e = (e-end ≡ count list) × (e ≤ e-end) × ((k : ℕ) → k < e → Moves old list rising k ≡ true)
 
 abbrev μ-loop : tie.MeasureT-loop
 μ-loop old list rising e₀ e-end e = e-end - e
@@ -38,7 +43,7 @@ returns : tie.Need-returns Inv-loop μ-loop
 returns c =
     let at-loop = c .before .before .before .loop in
     let a = c .before .before .before .before .before .before .before .args in
-    sym (all-false (count (now (a .list))) (moves (now (a .old)) (now (a .list)) (a .rising)) (at-loop .e) (omega arith) (sym (c .before .moves .ensures) ∙ not-true _ (c .if1 .taken))) ∙ all-moves (now (a .old)) (now (a .list)) (a .rising)
+    sym (all-false (count (now (a .list))) (Moves (now (a .old)) (now (a .list)) (a .rising)) (at-loop .e) (omega arith) (sym (c .before .moves .ensures) ∙ not-true _ (c .if1 .taken))) ∙ all-moves (now (a .old)) (now (a .list)) (a .rising)
 
 add-e : tie.Need-add-e Inv-loop μ-loop
 add-e c = omega arith

@@ -4,7 +4,6 @@ use native.Mathlib.Omega.{arith}
 use borrow.Author.Needs.{needs}
 use lib.Dec.{ltb}
 use denote.Ref.{now}
-use Rattle.plan.specs.Changes.{moves}
 use Rattle.plan.proofs.Reading.{read-from, read-to, read-metric, read-cell}
 use Rattle.plan.proofs.judge.moves.Statement.{statement}
 use Rattle.plan.proofs.judge.moves.Tie as tie
@@ -25,11 +24,9 @@ shared-slice-read-before : tie.Need-shared-slice-read-before
 shared-slice-read-before c = let ends = c .before .before .before .before .pre .1 in omega (arith, ends, read-from (c .before .decode .ensures), read-to (c .before .decode .ensures))
 
 returns : tie.Need-returns
-unfolding moves
 returns c = let is = c .before .before .decode .ensures in rw (c .if1 .taken) (ap₂ ltb (read-cell is (now (c .before .before .before .before .before .args .old))) (read-metric is))
 
 returns-2 : tie.Need-returns-2
-unfolding moves
 returns-2 c = let is = c .before .before .decode .ensures in rw (c .if1 .left) (ap₂ ltb (read-metric is) (read-cell is (now (c .before .before .before .before .before .args .old))))
 
 pub moves-spec : {M : Type 1} → statement M
