@@ -1,5 +1,6 @@
 -- Laws of tables per router, once for every width w.
 --     per-at, per-beyond, per-same     the entries of one, and when two are equal
+--     zeros-at         the entries of a table of zeros
 --     Filled w n f t   the entries of t before n are those of f, and the rest is 0
 --     filled-none, filled-more, filled-all     it holds of zeros, of one entry more when that is written, and then t is the table of f
 use Prim.Native.Nat.{ℕ, _+_, _≤_, _<_}
@@ -9,7 +10,7 @@ use native.Mathlib.Decide.{decLt}
 use native.Mathlib.Omega.{arith}
 use borrow.Author.Tests.{lt-ltb, le-ltb}
 use lib.Dec.{ltb}
-use lib.ListN.{length, getD, set, replicate, length-set, length-replicate, getD-replicate}
+use lib.ListN.{length, getD, set, replicate, length-set, length-replicate, getD-replicate, List·getD-eq-default}
 use lib.Seq.{getD-set-other}
 use Rattle.area.specs.Tests.{pick}
 use Rattle.area.specs.Tables.{perRouter}
@@ -41,6 +42,10 @@ module _ (w n : ℕ) (f : ℕ → ℕ) where
 
 pub per-same : (w n : ℕ) (f g : ℕ → ℕ) → n ≤ w → ((r : ℕ) → r < n → f r ≡ g r) → perRouter w n f ≡ perRouter w n g
 per-same w n f g l e = is-per w n g (perRouter w n f) (per-length w n f) (λ r a b. per-at w n f r b l ∙ e r b) (λ r a b. per-beyond w n f r b a)
+
+-- ---- a table of zeros has no other entry, and none beyond its end
+pub zeros-at : (w r : ℕ) → getD {A = ℕ} (replicate w 0) r 0 ≡ 0
+zeros-at w r = elim (decLt r w) [ yes h ↦ getD-replicate w r 0 0 h | no f ↦ List·getD-eq-default (replicate {A = ℕ} w 0) 0 (omega (arith, length-replicate {A = ℕ} w 0)) ]
 
 -- ---- a loop that writes the entries from the first on
 pub record Filled (w n : ℕ) (f : ℕ → ℕ) (t : List ℕ) : Type 0 where

@@ -1,14 +1,15 @@
 -- Laws of router sets, once for every width w.
 --     setOf-lt, bit-setOf, bit-beyond      what stands in `setOf w p`
---     setOf-same, same-set                 when two sets are equal
---     setOf-none, empty-bit, bit-empty     when a set is empty
+--     setOf-same, same-set, same-members   when two sets are equal
+--     setOf-none, none-setOf, member-some  when a set is empty
 --     bit-added, bit-removed, bit-union, subset-at, at-subset      the members of each
+--     added-below      a set of routers below n and one more of them
 --     setOf-start, setOf-skip, setOf-more       a set that is found router by router
 --     bit-one, or-added, .. and-subset     what code computes, at a type of w bits
 use Prim.Native.Nat.{ℕ, zero, suc, _+_, _-_, _*_, _/_, _%_, _^_, _≤_, _<_}
 use mathlib.Core.Path.{_≡_, refl, sym, ap, ap₂, _∙_}
 use mathlib.Core.Bool.{Bool, true, false, not, _&&_, _||_, false≢true}
-use mathlib.Core.Logic.{⊎-elim}
+use mathlib.Core.Logic.{_≢_, ⊎-elim}
 use native.Mathlib.Nat.{not-suc-le-zero, le-of-suc-le-suc, eq-or-lt-of-le, sub-add-cancel, pow-succ', mul-assoc, mod-one, mod-eq-of-lt, div-eq-of-lt, add-mul-div-right, add-mul-mod-self-right}
 use native.Mathlib.Decide.{decLt, ℕ-discrete}
 use native.Mathlib.Omega.{arith}
@@ -103,12 +104,27 @@ is-setOf w s p h f = sym (setOf-bits w s h) ∙ setOf-same w (bit s) p f
 pub same-set : (w s t : ℕ) → s < 2 ^ w → t < 2 ^ w → ((k : ℕ) → k < w → bit s k ≡ bit t k) → s ≡ t
 same-set w s t hs ht f = is-setOf w s (bit t) hs f ∙ setOf-bits w t ht
 
+-- a number is below the power of two that it is the exponent of
+below-power : (k : ℕ) → k < 2 ^ k
+below-power zero = omega arith
+below-power (suc k) = omega (arith, below-power k, pow-succ' 2 k)
+
+-- whatever their width, sets with the same members are equal
+pub same-members : (s t : ℕ) → ((k : ℕ) → bit s k ≡ bit t k) → s ≡ t
+same-members s t f =
+    same-set (s + t) s t (omega (arith, below-power s, pow-mono {i = s} {j = s + t} (omega arith)))
+    (omega (arith, below-power t, pow-mono {i = t} {j = s + t} (omega arith)))
+    (λ k h. f k)
+
 -- ---- the empty set
 pub setOf-none : (w : ℕ) (p : ℕ → Bool) → ((k : ℕ) → k < w → p k ≡ false) → setOf w p ≡ 0
 setOf-none w p f = sym (is-setOf w 0 p (pow-pos w) (λ k h. bit-zero k ∙ sym (f k h)))
 
 pub none-setOf : (w : ℕ) (p : ℕ → Bool) → setOf w p ≡ 0 → (k : ℕ) → k < w → p k ≡ false
 none-setOf w p e k h = sym (bit-setOf w p k h) ∙ ap (λ (s : ℕ). bit s k) e ∙ bit-zero k
+
+pub member-some : (s k : ℕ) → bit s k ≡ true → s ≢ 0
+member-some s k e z = false≢true (sym (bit-zero k) ∙ ap (λ (t : ℕ). bit t k) (sym z) ∙ e)
 
 -- ---- the members of a set that was added to, removed from, joined
 added-lt : (w s k : ℕ) → added w s k < 2 ^ w
@@ -269,3 +285,7 @@ module _ (w s : ℕ) (fits : s < 2 ^ w) where
 
         up : subset w s t ≡ true → eqb (bitAnd s t) s ≡ true
         up e = eq-eqb (bitAnd s t) s (same-set w (bitAnd s t) s (and-lt w s t fits room) fits (λ k h. bit-and s t k ∙ whole (bit s k) (bit t k) (subset-at w s t e k h)))
+
+pub added-below : (w n s k : ℕ) → n ≤ w → s < 2 ^ n → k < n → added w s k < 2 ^ n
+added-below w n s k b h l =
+    rw (← or-added w s (omega (arith, pow-mono b)) k (omega arith), one-shifted w k (omega arith)) (or-lt n s (2 ^ k) h (pow-lt l))

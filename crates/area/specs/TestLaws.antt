@@ -1,7 +1,7 @@
 -- Laws of tests.
 --     look             a test holds or fails
---     both-true, and-true, and-false, and-one      a test and another
---     or-cases, or-left, or-right, or-none         a test or another
+--     both-true, and-true, and-false, and-one, and-self        a test and another
+--     or-cases, or-left, or-right, or-false, or-none       a test or another
 --     same-test        two tests that hold together are equal
 --     all-at, all-true, all-false      a test of all numbers below n
 use Prim.Native.Nat.{ℕ, zero, suc, _<_}
@@ -32,6 +32,10 @@ pub and-one : (b : Bool) → (b && true) ≡ b
 and-one true = refl
 and-one false = refl
 
+pub and-self : (b : Bool) → (b && b) ≡ b
+and-self true = refl
+and-self false = refl
+
 pub or-cases : (a b : Bool) → (a || b) ≡ true → (a ≡ true) ⊎ (b ≡ true)
 or-cases true b e = inl refl
 or-cases false b e = inr e
@@ -43,6 +47,10 @@ or-left false b e = absurd (false≢true e)
 pub or-right : (a b : Bool) → b ≡ true → (a || b) ≡ true
 or-right true b e = refl
 or-right false b e = e
+
+pub or-false : (a b : Bool) → (a || b) ≡ false → (a ≡ false) × (b ≡ false)
+or-false true b e = absurd (false≢true (sym e))
+or-false false b e = (refl, e)
 
 pub or-none : (b : Bool) → (b || false) ≡ b
 or-none true = refl

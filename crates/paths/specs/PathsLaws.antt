@@ -100,6 +100,10 @@ pub count-high : (n : ℕ) → width < n → isCount n ≡ false
 unfolding isCount
 count-high n a = and-false (leb 1 n) (leb n width) (lt-leb n width a)
 
+pub count-most : (n : ℕ) → isCount n ≡ true → n ≤ width
+unfolding isCount
+count-most n e = leb-true n width (both-true (leb 1 n) (leb n width) e .1)
+
 pub table-is : (t : List ℕ) → isTable t ≡ eqb (length t) (width * width)
 unfolding isTable
 table-is t = refl

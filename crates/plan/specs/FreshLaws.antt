@@ -2,18 +2,18 @@
 --     plan-root, plan-fall, plan-not-both      the root is a router; a plan is a rise or a fall, and not both
 --     plan-differs, plan-larger, plan-smaller      metrics differ only in pairs with the root as an end, and all the same way
 --     plan-elsewhere, plan-rises, plan-falls   the same of the two topologies
---     fresh-rank, fresh-waiting, fresh-telling, fresh-due, fresh-state, fresh-written, fresh-beyond    the fresh record's entries
+--     fresh-count, fresh-size, fresh-rank, fresh-waiting, fresh-telling, fresh-due, fresh-state, fresh-written, fresh-beyond       the fresh record's entries
 use Prim.Native.Nat.{ℕ, _≤_, _<_}
-use mathlib.Core.Path.{_≡_, sym, _∙_}
+use mathlib.Core.Path.{_≡_, refl, sym, _∙_}
 use mathlib.Core.Bool.{true, false, false≢true}
 use mathlib.Core.Logic.{_≢_, _⊎_, ⊎-elim}
 use mathlib.Core.List.{List}
 use native.Mathlib.Omega.{arith}
-use lib.ListN.{getD, getD-replicate}
+use lib.ListN.{length, getD, length-replicate}
 use Rattle.area.specs.Limits.{width}
 use Rattle.area.specs.TestLaws.{look}
 use Rattle.area.specs.Tables.{cell}
-use Rattle.area.specs.PerRouterLaws.{per-at, per-beyond}
+use Rattle.area.specs.PerRouterLaws.{per-at, per-beyond, zeros-at}
 use Rattle.paths.specs.Topology.{topology}
 use Rattle.plan.specs.Changes.{isRise, isFall}
 use Rattle.plan.specs.Root.{root}
@@ -76,17 +76,25 @@ module _ (n : ℕ) (m l : List ℕ) where
     unfolding fresh
     fresh-due = per-at width n (due n m l) r a most
 
-  module _ (r : ℕ) (b : r < width) where
-    pub fresh-state : getD (fresh n m l .states) r 0 ≡ 0
-    unfolding fresh
-    fresh-state = getD-replicate width r 0 0 b
+  pub fresh-count : fresh n m l .n ≡ n
+  unfolding fresh
+  fresh-count = refl
 
-    pub fresh-written : getD (fresh n m l .written) r 0 ≡ 0
-    unfolding fresh
-    fresh-written = getD-replicate width r 0 0 b
+  -- there is a written set for each router that an area can have
+  pub fresh-size : length (fresh n m l .written) ≡ width
+  unfolding fresh
+  fresh-size = length-replicate {A = ℕ} width 0
 
-    -- from n on there is nothing
-    pub fresh-beyond : n ≤ r → (getD (fresh n m l .ranks) r 0 ≡ 0) × (getD (fresh n m l .waiting) r 0 ≡ 0) × (getD (fresh n m l .telling) r 0 ≡ 0) × (getD (fresh n m l .due) r 0 ≡ 0)
-    unfolding fresh
-    fresh-beyond h =
-        (per-beyond width n (rank n (waiting n m l)) r h b, per-beyond width n (waiting n m l) r h b, per-beyond width n (telling n m l) r h b, per-beyond width n (due n m l) r h b)
+  pub fresh-state : (r : ℕ) → getD (fresh n m l .states) r 0 ≡ 0
+  unfolding fresh
+  fresh-state = zeros-at width
+
+  pub fresh-written : (r : ℕ) → getD (fresh n m l .written) r 0 ≡ 0
+  unfolding fresh
+  fresh-written = zeros-at width
+
+  -- from n on there is nothing
+  pub fresh-beyond : (r : ℕ) → r < width → n ≤ r → (getD (fresh n m l .ranks) r 0 ≡ 0) × (getD (fresh n m l .waiting) r 0 ≡ 0) × (getD (fresh n m l .telling) r 0 ≡ 0) × (getD (fresh n m l .due) r 0 ≡ 0)
+  unfolding fresh
+  fresh-beyond r b h =
+      (per-beyond width n (rank n (waiting n m l)) r h b, per-beyond width n (waiting n m l) r h b, per-beyond width n (telling n m l) r h b, per-beyond width n (due n m l) r h b)

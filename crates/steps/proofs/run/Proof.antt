@@ -1,0 +1,114 @@
+-- Between two steps: the record at hand and the bytes that are left lead to the same last record as the first one and all bytes.
+use mathlib.Core.Path.{_≡_, refl, sym, _∙_, subst}
+use mathlib.Core.List.{List, [], _∷_}
+use Prim.Native.Nat.{ℕ, suc, _+_, _-_, _<_, _≤_}
+use native.Mathlib.Omega.{arith}
+use borrow.Author.Needs.{needs}
+use lib.ListN.{length, getD, drop, length-drop}
+use lib.Seq.{drop-cons}
+use Rattle.plan.specs.declared.Record.{Record}
+use Rattle.steps.specs.Answers.{Outcome}
+use Rattle.steps.specs.Machine.{stepOf}
+use Rattle.steps.specs.Run.{call, run, callsOf}
+use Rattle.steps.proofs.run.Statement.{statement}
+use Rattle.steps.proofs.run.Tie as tie
+
+-- ---- the calls that are left
+few-bytes : (l : List ℕ) → length l ≤ 2 → callsOf l ≡ []
+unfolding callsOf
+few-bytes [] h = refl
+few-bytes (x ∷ []) h = refl
+few-bytes (x ∷ y ∷ []) h = refl
+few-bytes (x ∷ y ∷ z ∷ l) h = absurd (omega arith)
+
+module _ (l : List ℕ) where
+  drop-next : (i j : ℕ) → suc i ≡ j → i < length l → drop i l ≡ getD l i 0 ∷ drop j l
+  drop-next i j e h = subst (λ (k : ℕ). drop i l ≡ getD l i 0 ∷ drop k l) e (drop-cons l i 0 h)
+
+module _ (l : List ℕ) (i : ℕ) where
+  no-call : length l ≤ i + 2 → callsOf (drop i l) ≡ []
+  no-call h = few-bytes (drop i l) (omega (arith, length-drop i l))
+
+  next-call : i + 2 < length l → callsOf (drop i l) ≡ call (getD l i 0) (getD l (i + 1) 0) (getD l (i + 2) 0) ∷ callsOf (drop (i + 3) l)
+  unfolding callsOf
+  next-call h = rw (drop-next l i (i + 1) (omega arith) (omega arith), drop-next l (i + 1) (i + 2) (omega arith) (omega arith), drop-next l (i + 2) (i + 3) (omega arith) (omega arith)) refl
+
+-- ---- the record at hand
+module _ (first : Record) (l : List ℕ) where
+  abbrev Left : Record → ℕ → Type 0
+  Left r i = run first (callsOf l) ≡ run r (callsOf (drop i l))
+
+  left-more : (r : Record) (i : ℕ) (o : Outcome) → Left r i → i + 2 < length l → o ≡ stepOf r (getD l i 0) (getD l (i + 1) 0) (getD l (i + 2) 0) → Left (o .next) (i + 3)
+  unfolding run
+  left-more r i o e h s = e ∙ rw (next-call l i h, s) refl
+
+  left-none : (r : Record) (i : ℕ) → Left r i → length l ≤ i + 2 → r ≡ run first (callsOf l)
+  unfolding run
+  left-none r i e h = sym (e ∙ rw (no-call l i h) refl)
+
+abbrev Inv-loop : tie.InvT-loop
+Inv-loop bytes current₀ at₀ current at = (at ≤ length bytes) × Left current₀ bytes current at
+
+abbrev μ-loop : tie.MeasureT-loop
+μ-loop bytes current₀ at₀ current at = length bytes - at
+
+loop-holds : tie.Need-loop-holds Inv-loop μ-loop
+loop-holds c = (omega arith, refl)
+
+add-loop : tie.Need-add-loop Inv-loop μ-loop
+add-loop c = search needs
+
+shared-slice-read-kind : tie.Need-shared-slice-read-kind Inv-loop μ-loop
+shared-slice-read-kind c = omega arith
+
+add-a : tie.Need-add-a Inv-loop μ-loop
+add-a c = omega arith
+
+shared-slice-read-a : tie.Need-shared-slice-read-a Inv-loop μ-loop
+shared-slice-read-a c = omega arith
+
+add-b : tie.Need-add-b Inv-loop μ-loop
+add-b c = omega arith
+
+shared-slice-read-b : tie.Need-shared-slice-read-b Inv-loop μ-loop
+shared-slice-read-b c = omega arith
+
+step-requires : tie.Need-step-requires Inv-loop μ-loop
+step-requires c κs = search needs
+
+add-at : tie.Need-add-at Inv-loop μ-loop
+add-at c = search needs
+
+loop-less : tie.Need-loop-less Inv-loop μ-loop
+loop-less c = omega arith
+
+loop-again : tie.Need-loop-again Inv-loop μ-loop
+loop-again c =
+    let start = c .before .before .before .before .before .before .before .before .args in
+    let at-loop = c .before .before .before .before .before .before .loop in
+    (omega arith, left-more (start .first) (start .bytes .now) (at-loop .current) (at-loop .at) _ (at-loop .inv .1) (omega arith) (c .before .step .ensures))
+
+returns : tie.Need-returns Inv-loop μ-loop
+returns c =
+    let start = c .before .before .before .args in
+    let at-loop = c .before .loop in
+    left-none (start .first) (start .bytes .now) (at-loop .current) (at-loop .at) (at-loop .inv .1) (omega arith)
+
+pub run-spec : {M : Type 1} → statement M
+run-spec =
+    tie.close
+    (tie.spec
+    Inv-loop
+    μ-loop
+    loop-holds
+    add-loop
+    shared-slice-read-kind
+    add-a
+    shared-slice-read-a
+    add-b
+    shared-slice-read-b
+    step-requires
+    add-at
+    loop-less
+    loop-again
+    returns)

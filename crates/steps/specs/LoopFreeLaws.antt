@@ -1,0 +1,148 @@
+-- Demand 3 is met: `loop-free`.
+-- The waiting sets and written sets of the record give the order that the crate convergence asks for, and the plan gives the two topologies and the next hops in both.
+use Prim.Native.Nat.{ℕ, _≤_, _<_}
+use mathlib.Core.Path.{_≡_, sym, ap, _∙_}
+use mathlib.Core.Bool.{true, false}
+use mathlib.Core.Logic.{_≢_, _↔_, ⊎-elim}
+use mathlib.Core.List.{List}
+use native.Mathlib.Decide.{decLt}
+use native.Mathlib.Omega.{arith}
+use borrow.Author.Tests.{eqb-true, eq-eqb}
+use lib.Dec.{eqb}
+use lib.ListN.{getD}
+use Rattle.area.specs.Limits.{width, unused}
+use Rattle.area.specs.TestLaws.{look, same-test}
+use Rattle.area.specs.Sets.{bit, setOf}
+use Rattle.area.specs.SetLaws.{same-members, member-some}
+use Rattle.paths.specs.Topology.{topology}
+use Rattle.paths.specs.TopologyLaws.{topology-graph}
+use Rattle.paths.specs.NextHops.{Next}
+use Rattle.plan.specs.declared.Record.{Record}
+use Rattle.plan.specs.Changes.{isRise}
+use Rattle.plan.specs.Root.{root}
+use Rattle.plan.specs.NewMetrics.{newMetrics}
+use Rattle.plan.specs.Waiting.{oldHops, newHops, waiting}
+use Rattle.plan.specs.Plan.{Tables, areTables, planRefusal, fresh, recordOf}
+use Rattle.plan.specs.WaitingLaws.{old-next, new-next, waits-rise, waits-fall, waits-inside, due-at}
+use Rattle.plan.specs.PlanLaws.{Plan, plan-of, planned-true, record-planned}
+use Rattle.plan.specs.FreshLaws.{plan-elsewhere, plan-rises, plan-falls, fresh-count, fresh-waiting, fresh-due}
+use Rattle.convergence.specs.Change.{Change, Part, Sets, Ordered, WaitsRise, WaitsFall}
+use Rattle.convergence.specs.Convergence.{Safe, rise, fall}
+use Rattle.steps.specs.Machine.{done, stateOf, waitingOf, dueOf, writtenOf}
+use Rattle.steps.specs.Run.{Call, run, hasWritten}
+use Rattle.steps.specs.LoopFree.{pointsTo, LoopFree}
+use Rattle.steps.specs.RunLaws.{Kept, run-kept, run-bit, run-written, fresh-start}
+
+-- ---- sets that hold exactly the next hops toward d
+abbrev Exact : ℕ → ℕ → (ℕ → ℕ → ℕ) → (ℕ → ℕ) → Type 0
+Exact n d g f = (r k : ℕ) → (bit (f r) k ≡ true) ↔ Next n g r d k
+
+exact-part : {n d : ℕ} {g : ℕ → ℕ → ℕ} {f : ℕ → ℕ} → Exact n d g f → Part n d g f
+exact-part a = record { next = λ r k. a r k .0; some = λ r k x. (k, a r k .1 x) }
+
+exact-sets : {n d : ℕ} {lo hi : ℕ → ℕ → ℕ} {at-lo at-hi : ℕ → ℕ} → Exact n d lo at-lo → Exact n d hi at-hi → Sets n d lo hi at-lo at-hi
+exact-sets {at-lo} {at-hi} a b = record {
+  in-lo = exact-part a;
+  in-hi = exact-part b;
+  same = λ r q. same-members (at-lo r) (at-hi r)
+      (λ k. same-test (bit (at-lo r) k) (bit (at-hi r) k) (λ t. b r k .1 (q k .0 (a r k .0 t))) (λ t. a r k .1 (q k .1 (b r k .0 t))));
+}
+
+-- `Safe` asks the same of both topologies
+swapped : {n d : ℕ} {lo hi : ℕ → ℕ → ℕ} {p : ℕ → ℕ} → Safe n d lo hi p → Safe n d hi lo p
+swapped s = record { no-router-twice = s .no-router-twice; arrives = λ x l a b. s .arrives x l b a }
+
+-- ---- what the plan gives
+module _ (n : ℕ) (m l : List ℕ) (p : Plan n m l) where
+  most : n ≤ width
+  most = p .ready .most
+
+  rises : isRise m l ≡ true → Change n (root l) (topology n m) (topology n (newMetrics n m l))
+  rises t = record {
+    lo-graph = topology-graph n m most;
+    hi-graph = topology-graph n (newMetrics n m l) most;
+    lower = plan-rises n m l p t;
+    elsewhere = plan-elsewhere n m l p;
+  }
+
+  falls : isRise m l ≡ false → Change n (root l) (topology n (newMetrics n m l)) (topology n m)
+  falls f = record {
+    lo-graph = topology-graph n (newMetrics n m l) most;
+    hi-graph = topology-graph n m most;
+    lower = plan-falls n m l p f;
+    elsewhere = λ i k a b. sym (plan-elsewhere n m l p i k a b);
+  }
+
+  module _ (d : ℕ) where
+    old-exact : Exact n d (topology n m) (λ r. oldHops n m r d)
+    old-exact r k = old-next n m l most r d k
+
+    new-exact : Exact n d (topology n (newMetrics n m l)) (λ r. newHops n m l r d)
+    new-exact r k = new-next n m l most r d k
+
+    -- no router beyond the area has a next hop, before the change or after it
+    hops-beyond : (r : ℕ) → n ≤ r → oldHops n m r d ≡ newHops n m l r d
+    hops-beyond r b = exact-sets old-exact new-exact .same r (λ k. ((λ x. absurd (none m k (x .uses))), (λ x. absurd (none (newMetrics n m l) k (x .uses)))))
+      where
+        none : (o : List ℕ) (k : ℕ) → topology n o r k < unused → ⊥
+        none o k u = omega (arith, topology-graph n o most .inside r k u .0)
+
+  -- ---- what the record has after the calls
+  module _ (calls : List Call) where
+    abbrev now : Record
+    now = run (fresh n m l) calls
+
+    kept : Kept (fresh n m l) now
+    kept = run-kept (fresh n m l) calls (fresh-start n m l)
+
+    -- a router that waits for none any more waited for routers that are done
+    waited : (r w : ℕ) → waitingOf now r ≡ 0 → bit (waiting n m l r) w ≡ true → stateOf now w ≡ done
+    waited r w z e =
+        let i = waits-inside n m l most r w e in
+        ⊎-elim (λ b. absurd (member-some (waitingOf now r) w b z)) (λ q. q)
+        (kept .waits r w (omega (arith, i .1, most)) (ap (λ (s : ℕ). bit s w) (fresh-waiting n m l most r (i .0)) ∙ e))
+
+    module _ (d : ℕ) (d-in : d < n) where
+      -- a destination to which the next hops of r change is due at r
+      is-due : (r : ℕ) → oldHops n m r d ≢ newHops n m l r d → bit (dueOf now r) d ≡ true
+      is-due r f = elim (decLt r n) [
+        | yes h ↦ ap (λ (s : ℕ). bit s d) (ap (λ (t : List ℕ). getD t r 0) (kept .due) ∙ fresh-due n m l most r h) ∙ due-at n m l most r d d-in .1 f
+        | no g ↦ absurd (f (hops-beyond d r (omega arith)))
+      ]
+
+      -- the order in which routers write and are done, where `waits r w` puts w into the fresh waiting set of r
+      ordered : (waits : ℕ → ℕ → Type 0) → ((r w : ℕ) → waits r w → bit (waiting n m l r) w ≡ true)
+          → Ordered waits (λ r. oldHops n m r d) (λ r. newHops n m l r d) (λ r. hasWritten (fresh n m l) calls r d) (λ r. eqb (stateOf now r) done)
+      ordered waits f = record {
+        wrote-after = λ r w e x. eq-eqb (stateOf now w) done (waited r w (kept .wrote-free r d (wrote-bit r ∙ e)) (f r w x));
+        done-after = λ r w e x. eq-eqb (stateOf now w) done (waited r w (kept .done-free r (eqb-true (stateOf now r) done e)) (f r w x));
+        done-wrote = λ r e x. sym (wrote-bit r) ∙ kept .done-wrote r d (omega (arith, most)) (eqb-true (stateOf now r) done e) (is-due r x);
+      }
+        where
+          wrote-bit : (r : ℕ) → bit (writtenOf now r) d ≡ hasWritten (fresh n m l) calls r d
+          wrote-bit r = run-bit (fresh n m l) calls (fresh-start n m l) r d (omega (arith, most))
+
+      safe : Safe n d (topology n m) (topology n (newMetrics n m l)) (pointsTo n m l (fresh n m l) calls d)
+      safe = ⊎-elim by-rise by-fall (look (isRise m l))
+        where
+          by-rise : isRise m l ≡ true → Safe n d (topology n m) (topology n (newMetrics n m l)) (pointsTo n m l (fresh n m l) calls d)
+          by-rise t =
+              rise (rises t) d-in (exact-sets (old-exact d) (new-exact d))
+              (ordered (WaitsRise n (root l) (topology n m)) (λ r w. waits-rise n m l most t r w .1))
+
+          by-fall : isRise m l ≡ false → Safe n d (topology n m) (topology n (newMetrics n m l)) (pointsTo n m l (fresh n m l) calls d)
+          by-fall f =
+              swapped (fall (falls f) d-in (exact-sets (new-exact d) (old-exact d))
+              (ordered (WaitsFall n (root l) (topology n (newMetrics n m l))) (λ r w. waits-fall n m l most f r w .1)))
+
+    fresh-free : LoopFree n m l (fresh n m l) calls
+    fresh-free = record {
+      written = λ r. run-written (fresh n m l) calls (fresh-start n m l) (omega (arith, fresh-count n m l, most)) r
+          ∙ ap (λ (k : ℕ). setOf k (hasWritten (fresh n m l) calls r)) (fresh-count n m l);
+      no-router-twice = λ d x walk h. safe d h .no-router-twice x walk;
+      arrives = λ d x walk h. safe d h .arrives x walk;
+    }
+
+-- Demand 3: for every input that Plan accepts and every list of calls.
+pub loop-free : (n : ℕ) (m l : List ℕ) (t : Tables) → planRefusal n m l (areTables m t) ≡ 0 → (calls : List Call) → LoopFree n m l (recordOf n m l t) calls
+loop-free n m l t z calls = rw (record-planned n m l t (planned-true n m l t z)) (fresh-free n m l (plan-of n m l t z) calls)
