@@ -30,7 +30,7 @@ pub enum Refusal {
     Mixed,
     // 13: no router is an end of every change.
     NoCommonRouter,
-    // 20: a record that no plan hands back.
+    // 20: a record with a number of routers or a state that is out of range.
     Record,
     // 21: an unknown kind of step.
     Kind,

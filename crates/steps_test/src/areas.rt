@@ -18,10 +18,10 @@ fn one_way(metric: &mut [u32; 1024], from: u64, to: u64, m: u64) {
     metric[32 * from as usize + to as usize] = set(m);
 }
 
-// A change of both directions or of one, after the first e entries. Gives how many there are then.
+// A change of both directions or of one, after the first e entries. Gives how many there are then, and 9 where the list has no room.
 pub fn change(list: &mut [u8; 40], e: usize, from: u64, to: u64, both: bool, m: u64) -> usize {
-    if 6 < e {
-        return e;
+    if 7 < e {
+        return 9;
     }
     entry(list, 5 * e, from, to, m);
     if !both {

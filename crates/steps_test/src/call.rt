@@ -18,7 +18,7 @@ pub fn kind(letter: u8) -> u8 {
     }
 }
 
-// A step by the method of its kind. Other kinds have no method.
+// A step by the method of its kind. Kinds that have none are left to `step`.
 pub fn method(now: Record, kind: u8, a: u8, b: u8) -> Stepped {
     let machine = Machine { now };
     match kind {

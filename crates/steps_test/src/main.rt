@@ -2,7 +2,6 @@
 mod areas;
 mod call;
 mod compare;
-mod order;
 mod print;
 mod reader;
 mod records;
@@ -16,16 +15,9 @@ fn main() {
     whole::rises();
     whole::falls();
     whole::messages();
-    whole::nothing_due();
-    refused::records();
-    refused::kinds();
-    refused::routers();
-    refused::states();
-    refused::waiting_and_due();
-    refused::messages();
-    order::common();
-    order::by_kind();
-    unplanned::beyond();
-    unplanned::others();
-    unplanned::short_lists();
+    refused::records_and_kinds();
+    refused::routers_and_states();
+    refused::sets();
+    refused::order();
+    unplanned::records();
 }

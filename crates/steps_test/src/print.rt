@@ -37,7 +37,7 @@ pub fn answer(number: u8, changed: u64) {
     field(b"/", changed);
 }
 
-// The entries of each router of the area.
+// State, waiting, due and written set of each router of the area.
 pub fn routers(r: Record) {
     let n = r.n as usize;
     for k in 0..32 {

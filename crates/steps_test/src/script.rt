@@ -35,6 +35,7 @@ pub fn run(text: &[u8]) {
     let mut old = [16777215; 1024];
     let mut list = [0; 40];
     let mut changes = 0;
+    // The bytes of the steps. What follows them would begin a learn of router 1.
     let mut bytes = [1; 194];
     let mut r = Reader::new(0);
     let mut c = new(records::blank(0, 0, 0));
@@ -54,7 +55,7 @@ fn new(first: Record) -> Case {
     }
 }
 
-// A word of an area, if it is one. Gives how many changes are listed.
+// A word of an area, if it is one. Gives how many changes are listed. The area is forgotten at the end of the line.
 fn area(r: Reader, old: &mut [u32; 1024], list: &mut [u8; 40], changes: usize) -> usize {
     let from = r.numbers[0];
     let to = r.numbers[1];
@@ -114,9 +115,11 @@ fn step(mut c: Case, r: Reader, bytes: &mut [u8; 194]) -> Case {
     let number = call::number(answer);
     print::answer(number, compare::records(now, next));
     let differing = methods(now, kind, a, b, number, next);
+    // No text is long enough for this sum to wrap.
     let sum = std::num::wrapping_add_u64(c.differing, differing);
     c.now = next;
     c.differing = sum;
+    // There is room for 64 steps and two bytes more.
     if steps < 64 {
         bytes[3 * steps] = kind;
         bytes[3 * steps + 1] = a;
@@ -134,7 +137,7 @@ fn methods(now: Record, kind: u8, a: u8, b: u8, number: u8, next: Record) -> u64
     compare::records(next, other_next) + compare::unlike(number, call::number(other_answer))
 }
 
-// The end of a line. The next case goes on from the last record, and its bytes begin after it with a step that an idle router 1 would take.
+// The end of a line. The next case goes on from the last record.
 fn end(c: Case, bytes: &mut [u8; 194]) -> Case {
     let first = c.first;
     let now = c.now;

@@ -1,4 +1,4 @@
--- `script::run` is safe and ends. The loop has passed i bytes of the text, whose length fits its type.
+-- `script::run` is safe and ends. The loop has passed i bytes of the text.
 use Prim.Native.Nat.{_-_, _<_, _≤_}
 use lib.ListN.{length}
 use native.Mathlib.Omega.{arith}
