@@ -1,4 +1,4 @@
--- Ordered convergence is safe. Two topologies differ at links of one router, the root, and routers write their new sets in order. Then, whichever routers have written:
+-- Ordered convergence is safe (01, "The steps", what demand 3 says of walks). Two topologies differ at links of one router, the root, and routers write their new sets in order. Then, whichever routers have written:
 --     rise, fall       no walk along the pointers meets a router twice, and from a router that reaches the destination in both topologies each can be prolonged to it
 use Prim.Native.Nat.{ℕ, _-_, _<_}
 use mathlib.Core.Path.{_≡_, refl, _∙_}

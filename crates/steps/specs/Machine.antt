@@ -1,6 +1,7 @@
 -- Step (01, "The steps"): the machine over a plan's record, for every record, every kind and all numbers a and b.
 use Prim.Native.Nat.{ℕ}
 use mathlib.Core.Bool.{Bool, not, _&&_, _||_}
+use mathlib.Core.List.{List}
 use lib.Dec.{eqb, leb, ltb}
 use lib.ListN.{getD, set}
 use Rattle.area.specs.Limits.{width}
@@ -39,48 +40,30 @@ dueOf r a = getD (r .due) a 0
 abbrev pub writtenOf : Record → ℕ → ℕ
 writtenOf r a = getD (r .written) a 0
 
--- ---- the record with one entry of router a replaced, and all else as it was
-abbrev pub withState : Record → ℕ → ℕ → Record
-withState r a s =
+-- ---- the record with one entry of router a replaced
+-- a call changes no other tables than these
+abbrev pub withTables : Record → (waiting states written : List ℕ) → Record
+withTables r waiting states written =
     record {
       n = r .n;
       root = r .root;
       direction = r .direction;
       ranks = r .ranks;
-      waiting = r .waiting;
+      waiting = waiting;
       telling = r .telling;
       due = r .due;
-      states = set (r .states) a s;
-      written = r .written;
+      states = states;
+      written = written;
     }
+
+abbrev pub withState : Record → ℕ → ℕ → Record
+withState r a s = withTables r (r .waiting) (set (r .states) a s) (r .written)
 
 abbrev pub withWaiting : Record → ℕ → ℕ → Record
-withWaiting r a s =
-    record {
-      n = r .n;
-      root = r .root;
-      direction = r .direction;
-      ranks = r .ranks;
-      waiting = set (r .waiting) a s;
-      telling = r .telling;
-      due = r .due;
-      states = r .states;
-      written = r .written;
-    }
+withWaiting r a s = withTables r (set (r .waiting) a s) (r .states) (r .written)
 
 abbrev pub withWritten : Record → ℕ → ℕ → Record
-withWritten r a s =
-    record {
-      n = r .n;
-      root = r .root;
-      direction = r .direction;
-      ranks = r .ranks;
-      waiting = r .waiting;
-      telling = r .telling;
-      due = r .due;
-      states = r .states;
-      written = set (r .written) a s;
-    }
+withWritten r a s = withTables r (r .waiting) (r .states) (set (r .written) a s)
 
 -- ---- the five kinds, where a and b are routers: first the refusals in their order, then the move
 -- learn: an idle router holds from now on
@@ -116,16 +99,16 @@ finish r a =
     (pick (not (subset width (dueOf r a) (writtenOf r a))) (gives r (refused 26))
     (gives (withState r a done) ok))
 
--- b has learned of the change and is not done, and it waits for a
-unfoldable pub listens : Record → ℕ → ℕ → Bool
-listens r a b = (eqb (stateOf r b) holding || eqb (stateOf r b) ongoing) && bit (waitingOf r b) a
+-- A router in state s that waits for the set w listens for the message of a: it is holding or ongoing, and waits for a.
+unfoldable pub listens : ℕ → ℕ → ℕ → Bool
+listens s w a = (eqb s holding || eqb s ongoing) && bit w a
 
 -- deliver: the message that a is done arrives at b, which no longer waits for a; it is lost on a router that does not listen for it
 unfoldable pub deliver : Record → ℕ → ℕ → Outcome
 deliver r a b =
     pick (not (eqb (stateOf r a) done)) (gives r (refused 27))
     (pick (not (bit (tellingOf r a) b)) (gives r (refused 28))
-    (pick (listens r a b) (gives (withWaiting r b (removed width (waitingOf r b) a)) ok)
+    (pick (listens (stateOf r b) (waitingOf r b) a) (gives (withWaiting r b (removed width (waitingOf r b) a)) ok)
     (gives r ignored)))
 
 -- ---- the refusals that come before

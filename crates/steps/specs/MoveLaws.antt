@@ -86,7 +86,7 @@ module _ (r : Record) (kind a b : ℕ) where
   unless : (t : Bool) (k : ℕ) {y : Outcome} → (t ≡ false → Move r kind a b y) → Move r kind a b (pick t (gives r (refused k)) y)
   unless t k g = chosen t (λ e. stays refl refl) g
 
-  listening : listens r a b ≡ true → ((stateOf r b ≡ holding) ⊎ (stateOf r b ≡ ongoing)) × (bit (waitingOf r b) a ≡ true)
+  listening : listens (stateOf r b) (waitingOf r b) a ≡ true → ((stateOf r b ≡ holding) ⊎ (stateOf r b ≡ ongoing)) × (bit (waitingOf r b) a ≡ true)
   unfolding listens
   listening e =
       let x = both-true (eqb (stateOf r b) holding || eqb (stateOf r b) ongoing) (bit (waitingOf r b) a) e in
@@ -128,7 +128,7 @@ module _ (r : Record) (kind a b : ℕ) where
     deliver-moves k h =
         unless (not (eqb (stateOf r a) done)) 27
         (λ s. unless (not (bit (tellingOf r a) b)) 28
-        (λ t. chosen (listens r a b)
+        (λ t. chosen (listens (stateOf r b) (waitingOf r b) a)
         (λ e. let x = listening e in delivered k (in-state done s) (record { inside = h; told = not-false (bit (tellingOf r a) b) t; state = x .0; waits = x .1 }) refl)
         (λ e. stays refl refl)))
 

@@ -29,15 +29,19 @@ unfoldable pub replies : Record → List Call → List Reply
 replies r [] = []
 replies r (c ∷ cs) = step r c .reply ∷ replies (step r c .next) cs
 
--- The list holds a write by router a of destination d that is answered ok.
 abbrev pub isOk : Reply → Bool
 isOk ok = true
 isOk ignored = false
 isOk (refused k) = false
 
+-- the call c, with the outcome o, is a write by router a of destination d that is answered ok
+abbrev pub isWrite : Call → Outcome → ℕ → ℕ → Bool
+isWrite c o a d = (eqb (c .kind) 3 && (eqb (c .a) a && eqb (c .b) d)) && isOk (o .reply)
+
+-- Router a has written d: the list, started from r, holds such a write.
 unfoldable pub hasWritten : Record → List Call → ℕ → ℕ → Bool
 hasWritten r [] a d = false
-hasWritten r (c ∷ cs) a d = ((eqb (c .kind) 3 && (eqb (c .a) a && eqb (c .b) d)) && isOk (step r c .reply)) || hasWritten (step r c .next) cs a d
+hasWritten r (c ∷ cs) a d = isWrite c (step r c) a d || hasWritten (step r c .next) cs a d
 
 -- The calls that a list of bytes stands for, three bytes each: kind, a, b. One or two bytes at the end are no call.
 unfoldable pub callsOf : List ℕ → List Call

@@ -23,7 +23,7 @@ use Rattle.plan.specs.Plan.{fresh}
 use Rattle.plan.specs.FreshLaws.{fresh-size, fresh-state, fresh-written}
 use Rattle.steps.specs.Answers.{Outcome}
 use Rattle.steps.specs.Machine.{idle, holding, ongoing, done, stateOf, waitingOf, dueOf, writtenOf, withState, withWaiting, withWritten}
-use Rattle.steps.specs.Run.{Call, step, run, isOk, hasWritten}
+use Rattle.steps.specs.Run.{Call, call, step, run, isWrite, hasWritten}
 use Rattle.steps.specs.MoveLaws.{Entry, entry, Finishes, Move, stays, learned, released, wrote, finished, delivered, moves}
 
 -- Every router is idle and has written nothing. The table of written sets has its size, so that a set can be put into it.
@@ -143,13 +143,9 @@ run-kept first calls s = calls-kept calls (start-kept first s)
 eqb-swap : (x y : ℕ) → eqb x y ≡ eqb y x
 eqb-swap x y = same-test (eqb x y) (eqb y x) (λ e. eq-eqb y x (sym (eqb-true x y e))) (λ e. eq-eqb x y (sym (eqb-true y x e)))
 
--- the call (kind, a, b) with the outcome o is a write of d by x that is answered ok
-abbrev writesNow : ℕ → ℕ → ℕ → Outcome → ℕ → ℕ → Bool
-writesNow kind a b o x d = (eqb kind 3 && (eqb a x && eqb b d)) && isOk (o .reply)
-
 module _ {r : Record} {kind a b : ℕ} {o : Outcome} (size : length (r .written) ≡ width) (x d : ℕ) (h : d < width) where
   -- such a write adds d to the written set of x, and no other call does
-  move-written : Move r kind a b o → bit (writtenOf (o .next) x) d ≡ (bit (writtenOf r x) d || writesNow kind a b o x d)
+  move-written : Move r kind a b o → bit (writtenOf (o .next) x) d ≡ (bit (writtenOf r x) d || isWrite (call kind a b) o x d)
   move-written (stays e f) = rw (e, f, and-false (eqb kind 3 && (eqb a x && eqb b d)) false refl) (sym (or-none (bit (writtenOf r x) d)))
   move-written (learned k at e) = rw (k, e) (sym (or-none (bit (writtenOf r x) d)))
   move-written (released k at e) = rw (k, e) (sym (or-none (bit (writtenOf r x) d)))
@@ -174,7 +170,7 @@ module _ {first : Record} (size : length (first .written) ≡ width) (x d : ℕ)
       let m = moves r (c .kind) (c .a) (c .b) in
       calls-written cs (move-kept kept m)
       ∙ ap (λ (t : Bool). t || hasWritten (step r c .next) cs x d) (move-written (kept .written-size ∙ size) x d h m)
-      ∙ or-assoc (bit (writtenOf r x) d) (writesNow (c .kind) (c .a) (c .b) (step r c) x d) (hasWritten (step r c .next) cs x d)
+      ∙ or-assoc (bit (writtenOf r x) d) (isWrite c (step r c) x d) (hasWritten (step r c .next) cs x d)
 
 module _ (first : Record) (calls : List Call) (s : Start first) where
   pub run-bit : (x d : ℕ) → d < width → bit (writtenOf (run first calls) x) d ≡ hasWritten first calls x d

@@ -3,11 +3,12 @@
 --     step-learn, step-release, step-write, step-finish, step-deliver      each kind, where none of these is given
 --     learn-unread, release-unread, finish-unread      b is not read
 --     learn-state, learn-ok, .. deliver-ok     the ends of each kind
+--     listens-holding, listens-ongoing, listens-neither        who listens for a message
 use Prim.Native.Nat.{ℕ, _≤_, _<_}
 use mathlib.Core.Path.{_≡_, refl, _∙_}
-use mathlib.Core.Bool.{true, false, _&&_, _||_}
+use mathlib.Core.Bool.{true, false, _&&_}
 use mathlib.Core.Logic.{_≢_, _⊎_, inl, inr}
-use lib.Dec.{eqb, leb, ltb}
+use lib.Dec.{leb, ltb}
 use borrow.Author.Tests.{eq-eqb, ne-eqb, lt-ltb, le-leb, lt-leb}
 use Rattle.area.specs.Limits.{width}
 use Rattle.area.specs.Tests.{all}
@@ -176,12 +177,22 @@ module _ (r : Record) (a b : ℕ) where
         unfolding write ready
         write-ok u = rw (eq-eqb (stateOf r a) ongoing e, eq-eqb (waitingOf r a) 0 w, t, u) refl
 
+-- ---- who listens
+module _ (s w a : ℕ) where
+  pub listens-holding : s ≡ holding → listens s w a ≡ bit w a
+  unfolding listens
+  listens-holding e = rw (eq-eqb s holding e) refl
+
+  pub listens-ongoing : s ≡ ongoing → listens s w a ≡ bit w a
+  unfolding listens
+  listens-ongoing e = rw e refl
+
+  pub listens-neither : s ≢ holding → s ≢ ongoing → listens s w a ≡ false
+  unfolding listens
+  listens-neither f g = rw (ne-eqb s holding f, ne-eqb s ongoing g) refl
+
 -- ---- the ends of deliver
 module _ (r : Record) (a b : ℕ) where
-  pub listens-is : listens r a b ≡ ((eqb (stateOf r b) holding || eqb (stateOf r b) ongoing) && bit (waitingOf r b) a)
-  unfolding listens
-  listens-is = refl
-
   pub deliver-not-done : stateOf r a ≢ done → deliver r a b ≡ gives r (refused 27)
   unfolding deliver
   deliver-not-done f = rw (ne-eqb (stateOf r a) done f) refl
@@ -192,10 +203,10 @@ module _ (r : Record) (a b : ℕ) where
     deliver-not-told f = rw (eq-eqb (stateOf r a) done e, f) refl
 
     module _ (t : bit (tellingOf r a) b ≡ true) where
-      pub deliver-lost : listens r a b ≡ false → deliver r a b ≡ gives r ignored
+      pub deliver-lost : listens (stateOf r b) (waitingOf r b) a ≡ false → deliver r a b ≡ gives r ignored
       unfolding deliver
       deliver-lost f = rw (eq-eqb (stateOf r a) done e, t, f) refl
 
-      pub deliver-ok : listens r a b ≡ true → deliver r a b ≡ gives (withWaiting r b (removed width (waitingOf r b) a)) ok
+      pub deliver-ok : listens (stateOf r b) (waitingOf r b) a ≡ true → deliver r a b ≡ gives (withWaiting r b (removed width (waitingOf r b) a)) ok
       unfolding deliver
       deliver-ok u = rw (eq-eqb (stateOf r a) done e, t, u) refl

@@ -7,13 +7,12 @@ use area::sets::member;
 use area::sets::remove;
 use plan::Record;
 ghost use mathlib.Core.Path.{_≡_};
-ghost use mathlib.Core.Bool.{_&&_, _||_};
-ghost use lib.Dec.{eqb, ltb};
+ghost use mathlib.Core.Bool.{_&&_};
+ghost use lib.Dec.{ltb};
 ghost use Rattle.area.specs.Refusals.{refusalNumber};
 ghost use Rattle.area.specs.Tests.{pick};
-ghost use Rattle.area.specs.Sets.{bit};
 ghost use Rattle.steps.specs.Answers.{refused, gives, outcomeOf};
-ghost use Rattle.steps.specs.Machine.{holding, ongoing, isRecord, stepOf};
+ghost use Rattle.steps.specs.Machine.{listens, isRecord, stepOf};
 ghost use Rattle.steps.specs.Run.{run, callsOf};
 
 // A router's states.
@@ -280,7 +279,7 @@ fn is_record(current: Record) -> bool
 
 // Does a router in this state, with this waiting set, listen for the message of this sender?
 fn listens(state: u8, waiting: u32, sender: usize) -> bool
-    ensures { λ r. ⌜ r ≡ ((eqb state holding || eqb state ongoing) && bit waiting sender) ⌝ }
+    ensures { λ r. ⌜ r ≡ listens state waiting sender ⌝ }
 {
     if state == HOLDING {
         return member(waiting, sender);

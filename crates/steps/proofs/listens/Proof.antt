@@ -1,26 +1,24 @@
 -- One law for each return.
-use mathlib.Core.Path.{_≡_, refl}
-use mathlib.Core.Bool.{Bool, false, _&&_, _||_}
+use mathlib.Core.Path.{_≡_, sym, _∙_}
+use mathlib.Core.Bool.{Bool, false}
 use mathlib.Core.Logic.{_≢_}
 use Prim.Native.Nat.{ℕ}
-use lib.Dec.{eqb}
 use borrow.Author.Needs.{needs}
-use borrow.Author.Tests.{eq-eqb, ne-eqb}
 use Rattle.area.specs.Sets.{bit}
-use Rattle.steps.specs.Machine.{holding, ongoing}
+use Rattle.steps.specs.Machine.{holding, ongoing, listens}
+use Rattle.steps.specs.StepLaws.{listens-holding, listens-ongoing, listens-neither}
 use Rattle.steps.proofs.listens.Statement.{statement}
 use Rattle.steps.proofs.listens.Tie as tie
-use Rattle.area.proofs.sets.member.Reads as member-reads
 
 module _ (s w a : ℕ) (t : Bool) (told : t ≡ bit w a) where
-  is-holding : s ≡ holding → t ≡ ((eqb s holding || eqb s ongoing) && bit w a)
-  is-holding e = rw (told, eq-eqb s holding e) refl
+  is-holding : s ≡ holding → t ≡ listens s w a
+  is-holding e = told ∙ sym (listens-holding s w a e)
 
-  is-ongoing : s ≢ holding → s ≡ ongoing → t ≡ ((eqb s holding || eqb s ongoing) && bit w a)
-  is-ongoing f e = rw (told, ne-eqb s holding f, eq-eqb s ongoing e) refl
+  is-ongoing : s ≡ ongoing → t ≡ listens s w a
+  is-ongoing e = told ∙ sym (listens-ongoing s w a e)
 
-neither : (s w a : ℕ) → s ≢ holding → s ≢ ongoing → false ≡ ((eqb s holding || eqb s ongoing) && bit w a)
-neither s w a f g = rw (ne-eqb s holding f, ne-eqb s ongoing g) refl
+neither : (s w a : ℕ) → s ≢ holding → s ≢ ongoing → false ≡ listens s w a
+neither s w a f g = sym (listens-neither s w a f g)
 
 member-requires : tie.Need-member-requires
 member-requires c κs = search needs

@@ -1,10 +1,10 @@
 -- One law for each return after the first tests.
 use Prim.Native.Nat.{ℕ}
 use mathlib.Core.Path.{_≡_, sym, _∙_}
-use mathlib.Core.Bool.{Bool, true, false, not, _&&_, _||_}
+use mathlib.Core.Bool.{Bool, true, false, not, _&&_}
 use mathlib.Core.Logic.{_≢_}
 use native.Mathlib.Omega.{arith}
-use lib.Dec.{eqb, ltb}
+use lib.Dec.{ltb}
 use borrow.Author.Needs.{needs}
 use borrow.Author.Tests.{not-true, not-false}
 use Rattle.area.specs.Limits.{width}
@@ -12,8 +12,8 @@ use Rattle.area.specs.Sets.{bit, removed}
 use Rattle.plan.specs.declared.Record.{Record}
 use Rattle.steps.specs.declared.Stepped.{Stepped}
 use Rattle.steps.specs.Answers.{ok, ignored, refused, gives, outcomeOf}
-use Rattle.steps.specs.Machine.{holding, ongoing, done, stateOf, waitingOf, tellingOf, withWaiting, deliver, isRecord, stepOf}
-use Rattle.steps.specs.StepLaws.{kind-known, reads-two, step-deliver, listens-is, deliver-not-done, deliver-not-told, deliver-lost, deliver-ok}
+use Rattle.steps.specs.Machine.{done, stateOf, waitingOf, tellingOf, withWaiting, listens, deliver, isRecord, stepOf}
+use Rattle.steps.specs.StepLaws.{kind-known, reads-two, step-deliver, deliver-not-done, deliver-not-told, deliver-lost, deliver-ok}
 use Rattle.steps.proofs.Checked.{away-two, is-good, first-in, second-in, first-fits, second-fits}
 use Rattle.steps.proofs.Machine.deliver.Statement.{statement}
 use Rattle.steps.proofs.Machine.deliver.Tie as tie
@@ -29,15 +29,15 @@ module _ (r : Record) (a b : ℕ) (admitted : Bool) (told : admitted ≡ (isReco
     not-told : (s : Stepped) → not tells ≡ true → outcomeOf s ≡ gives r (refused 28) → outcomeOf s ≡ stepOf r 5 a b
     not-told s f e = e ∙ sym (is-deliver ∙ deliver-not-told r a b at (sym is-tells ∙ not-true tells f))
 
-    module _ (t : not tells ≡ false) (hears : Bool) (is-hears : hears ≡ ((eqb (stateOf r b) holding || eqb (stateOf r b) ongoing) && bit (waitingOf r b) a)) where
+    module _ (t : not tells ≡ false) (hears : Bool) (is-hears : hears ≡ listens (stateOf r b) (waitingOf r b) a) where
       is-told : bit (tellingOf r a) b ≡ true
       is-told = sym is-tells ∙ not-false tells t
 
       lost : not hears ≡ true → gives r ignored ≡ stepOf r 5 a b
-      lost f = sym (is-deliver ∙ deliver-lost r a b at is-told (listens-is r a b ∙ sym is-hears ∙ not-true hears f))
+      lost f = sym (is-deliver ∙ deliver-lost r a b at is-told (sym is-hears ∙ not-true hears f))
 
       arrives : (set : ℕ) → not hears ≡ false → set ≡ removed width (waitingOf r b) a → gives (withWaiting r b set) ok ≡ stepOf r 5 a b
-      arrives set u e = rw e (sym (is-deliver ∙ deliver-ok r a b at is-told (listens-is r a b ∙ sym is-hears ∙ not-false hears u)))
+      arrives set u e = rw e (sym (is-deliver ∙ deliver-ok r a b at is-told (sym is-hears ∙ not-false hears u)))
 
 admits-requires : tie.Need-admits-requires
 admits-requires c κs = search needs
