@@ -16,3 +16,7 @@ unreached = 4294967295
 -- A change list has at most so many changes: those between one router and each of the others, both ways.
 abbrev pub mostChanges : ℕ
 mostChanges = 2 * (width - 1)
+
+-- a bench file has at most so many steps (01, "The bench file")
+abbrev pub mostSteps : ℕ
+mostSteps = 4096

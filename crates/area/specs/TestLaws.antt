@@ -4,13 +4,18 @@
 --     or-cases, or-left, or-right, or-false, or-none       a test or another
 --     same-test        two tests that hold together are equal
 --     all-at, all-true, all-false      a test of all numbers below n
+--     then-some, then-none, then-both      a refusal, and then another
+--     first-none, first-fault, none-first      the first refusal; it is 0 exactly where there is none
+--     first-same       equal refusals have the same first one
 use Prim.Native.Nat.{ℕ, zero, suc, _<_}
-use mathlib.Core.Path.{_≡_, refl, sym, _∙_, subst}
+use mathlib.Core.Path.{_≡_, refl, sym, ap₂, _∙_, subst}
 use mathlib.Core.Bool.{Bool, true, false, _&&_, _||_, false≢true}
-use mathlib.Core.Logic.{_⊎_, inl, inr, ⊎-elim}
+use mathlib.Core.Logic.{_≢_, _⊎_, inl, inr, ⊎-elim}
 use native.Mathlib.Nat.{eq-or-lt-of-le, le-of-suc-le-suc, not-suc-le-zero}
+use native.Mathlib.Decide.{ℕ-discrete}
 use native.Mathlib.Omega.{arith}
-use Rattle.area.specs.Tests.{all}
+use borrow.Author.Tests.{eq-eqb, ne-eqb}
+use Rattle.area.specs.Tests.{all, orThen, first}
 
 pub look : (b : Bool) → (b ≡ true) ⊎ (b ≡ false)
 look true = inl refl
@@ -73,3 +78,45 @@ all-true (suc n) p f = and-true (all n p) (p n) (all-true n p (λ k h. f k (omeg
 
 pub all-false : (n : ℕ) (p : ℕ → Bool) (k : ℕ) → k < n → p k ≡ false → all n p ≡ false
 all-false n p k h e = ⊎-elim (λ t. absurd (false≢true (sym e ∙ all-at n p t k h))) (λ f. f) (look (all n p))
+
+-- ---- refusals
+pub then-some : (a b : ℕ) → a ≢ 0 → orThen a b ≡ a
+then-some a b f = rw (ne-eqb a 0 f) refl
+
+pub then-none : (a b : ℕ) → a ≡ 0 → orThen a b ≡ b
+then-none a b z = rw (eq-eqb a 0 z) refl
+
+pub then-both : (a b : ℕ) → orThen a b ≡ 0 → (a ≡ 0) × (b ≡ 0)
+then-both a b z = by-first (ℕ-discrete a 0)
+  where
+    by-first : Dec (a ≡ 0) → (a ≡ 0) × (b ≡ 0)
+    by-first (yes e) = (e, sym (then-none a b e) ∙ z)
+    by-first (no f) = absurd (f (sym (then-some a b f) ∙ z))
+
+module _ (f : ℕ → ℕ) where
+  pub first-none : (n : ℕ) → ((k : ℕ) → k < n → f k ≡ 0) → first n f ≡ 0
+  unfolding first
+  first-none zero g = refl
+  first-none (suc n) g = then-none (first n f) (f n) (first-none n (λ k h. g k (omega arith))) ∙ g n (omega arith)
+
+  -- the first fault stays the first
+  pub first-fault : (k n : ℕ) → k < n → ((d : ℕ) → d < k → f d ≡ 0) → f k ≢ 0 → first n f ≡ f k
+  unfolding first
+  first-fault k zero h g bad = absurd (not-suc-le-zero h)
+  first-fault k (suc n) h g bad =
+      ⊎-elim
+      (λ (q : k ≡ n). subst (λ (x : ℕ). first (suc x) f ≡ f k) q (then-none (first k f) (f k) (first-none k g)))
+      (λ (b : k < n). let before = first-fault k n b g bad in then-some (first n f) (f n) (λ z. bad (sym before ∙ z)) ∙ before)
+      (eq-or-lt-of-le (le-of-suc-le-suc h))
+
+  pub none-first : (n : ℕ) → first n f ≡ 0 → (k : ℕ) → k < n → f k ≡ 0
+  unfolding first
+  none-first zero z k h = absurd (not-suc-le-zero h)
+  none-first (suc n) z k h =
+      let b = then-both (first n f) (f n) z in
+      ⊎-elim (λ (q : k ≡ n). rw q (b .1)) (λ (l : k < n). none-first n (b .0) k l) (eq-or-lt-of-le (le-of-suc-le-suc h))
+
+pub first-same : (n : ℕ) (f g : ℕ → ℕ) → ((k : ℕ) → k < n → f k ≡ g k) → first n f ≡ first n g
+unfolding first
+first-same zero f g e = refl
+first-same (suc n) f g e = ap₂ orThen (first-same n f g (λ k h. e k (omega arith))) (e n (omega arith))

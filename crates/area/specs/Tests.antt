@@ -1,6 +1,7 @@
 -- Tests, and what is chosen by them.
 use Prim.Native.Nat.{ℕ, zero, suc}
 use mathlib.Core.Bool.{Bool, true, false, _&&_}
+use lib.Dec.{eqb}
 
 -- a where the test holds, and b where it does not
 abbrev pub pick : {A : Type 0} → Bool → A → A → A
@@ -11,3 +12,12 @@ pick false a b = b
 unfoldable pub all : ℕ → (ℕ → Bool) → Bool
 all zero p = true
 all (suc n) p = all n p && p n
+
+-- the refusal a, and b where a is none; 0 stands for none
+abbrev pub orThen : ℕ → ℕ → ℕ
+orThen a b = pick (eqb a 0) b a
+
+-- the first of the refusals f 0, f 1, .. f (n - 1); 0 where each of them is none
+unfoldable pub first : ℕ → (ℕ → ℕ) → ℕ
+first zero f = 0
+first (suc n) f = orThen (first n f) (f n)

@@ -1,8 +1,11 @@
 // Entries of five bytes, as links and changes are listed: a pair of routers and a metric.
 use crate::limits::ENTRY;
+use crate::refusal::Refusal;
+use crate::refusal::Verdict;
 ghost use mathlib.Core.Path.{_≡_};
 ghost use Prim.Native.Nat.{_<_};
-ghost use Rattle.area.specs.Entries.{count, entryOf};
+ghost use Rattle.area.specs.Refusals.{verdictNumber};
+ghost use Rattle.area.specs.Entries.{count, entryOf, entryRefusal};
 
 pub struct Entry {
     pub from: usize,
@@ -38,6 +41,27 @@ pub fn decode(list: &[u8], e: usize) -> Entry
             metric: 0,
         }
     }
+}
+
+// The refusal of an entry by itself, in an area of n routers.
+pub fn check(n: usize, entry: Entry) -> Verdict
+    ensures { λ r. ⌜ verdictNumber r ≡ entryRefusal n entry ⌝ }
+{
+    let from = entry.from;
+    let to = entry.to;
+    if n <= from {
+        return Verdict::Refused(Refusal::UnknownRouter);
+    }
+    if n <= to {
+        return Verdict::Refused(Refusal::UnknownRouter);
+    }
+    if from == to {
+        return Verdict::Refused(Refusal::SelfLink);
+    }
+    if entry.metric == 0 {
+        return Verdict::Refused(Refusal::Metric);
+    }
+    Verdict::Accepted
 }
 
 fn wide(byte: u8) -> u32

@@ -17,3 +17,9 @@ pub const ENTRY: usize = 5;
 
 // Changes of a list: those of one router with each of the others, both ways.
 pub const MOST_CHANGES: usize = 2 * (WIDTH - 1);
+
+// Bytes of a step: kind, a, b.
+pub const STEP: usize = 3;
+
+// Steps of a bench file.
+pub const MOST_STEPS: usize = 4096;

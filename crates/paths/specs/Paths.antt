@@ -1,24 +1,16 @@
 -- Paths (01, "The area and its paths"): its answer, and what its tables hold when it returns, on every input.
 -- n is the number of routers, m the metric table, d and h the distance table and the next-hop table that it is lent.
-use Prim.Native.Nat.{ℕ, _*_}
+use Prim.Native.Nat.{ℕ}
 use mathlib.Core.Bool.{Bool, not, _&&_, _||_}
 use mathlib.Core.List.{List}
 use lib.Dec.{ltb, leb, eqb}
-use lib.ListN.{length}
 use Rattle.area.specs.Limits.{width, unused, unreached}
 use Rattle.area.specs.Tests.{pick, all}
+use Rattle.area.specs.Sizes.{isCount, isTable}
 use Rattle.area.specs.Tables.{cell, tabulate}
 use Rattle.paths.specs.Topology.{topology}
 use Rattle.paths.specs.Distance.{distance}
 use Rattle.paths.specs.NextHops.{nextHops}
-
--- An area has 1 to `width` routers.
-unfoldable pub isCount : ℕ → Bool
-isCount n = leb 1 n && leb n width
-
--- A table has `width` rows of `width` cells.
-unfoldable pub isTable : List ℕ → Bool
-isTable t = eqb (length t) (width * width)
 
 -- The metric of (i, j) is 1 to `unused`.
 unfoldable pub isMetric : List ℕ → ℕ → ℕ → Bool

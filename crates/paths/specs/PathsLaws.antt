@@ -7,11 +7,13 @@ use mathlib.Core.List.{List}
 use native.Mathlib.Omega.{arith}
 use lib.Dec.{ltb, leb, eqb}
 use lib.ListN.{length}
-use borrow.Author.Tests.{leb-true, eqb-true, lt-ltb, le-ltb, le-leb, lt-leb, eq-eqb, ne-eqb}
+use borrow.Author.Tests.{leb-true, lt-ltb, le-ltb, le-leb, lt-leb, eq-eqb, ne-eqb}
 use Rattle.area.specs.Limits.{width, unused, unreached}
 use Rattle.area.specs.Tests.{all}
 use Rattle.area.specs.Sets.{bit}
 use Rattle.area.specs.Tables.{cell, tabulate}
+use Rattle.area.specs.Sizes.{isCount, isTable}
+use Rattle.area.specs.SizeLaws.{count-true, count-some, count-most, table-true, table-size}
 use Rattle.area.specs.TestLaws.{look, both-true, and-true, and-false, or-right, all-at, all-true}
 use Rattle.area.specs.TableLaws.{cell-tabulate}
 use Rattle.paths.specs.Topology.{topology}
@@ -20,7 +22,7 @@ use Rattle.paths.specs.NextHops.{nextHops, Next}
 use Rattle.paths.specs.DistanceLaws.{distance-is}
 use Rattle.paths.specs.NextHopLaws.{bit-next, next-set}
 use Rattle.paths.specs.TopologyLaws.{topology-graph}
-use Rattle.paths.specs.Paths.{isCount, isTable, isMetric, areMetrics, isArea, refusalOf, distanceCell, hopCell, distancesOf, hopsOf}
+use Rattle.paths.specs.Paths.{isMetric, areMetrics, isArea, refusalOf, distanceCell, hopCell, distancesOf, hopsOf}
 
 -- n routers and a metric table that are not refused
 pub record Ready (n : ℕ) (m : List ℕ) : Type 0 where
@@ -87,39 +89,6 @@ module _ (n : ℕ) (m : List ℕ) (i j : ℕ) where
   unfolding hopCell
   hops-out w = rw (outside w) refl
 
--- ---- the tests before the first cell is looked at
-pub count-true : (n : ℕ) → 1 ≤ n → n ≤ width → isCount n ≡ true
-unfolding isCount
-count-true n a b = rw (le-leb 1 n a) (le-leb n width b)
-
-pub count-low : (n : ℕ) → n < 1 → isCount n ≡ false
-unfolding isCount
-count-low n a = rw (lt-leb 1 n a) refl
-
-pub count-high : (n : ℕ) → width < n → isCount n ≡ false
-unfolding isCount
-count-high n a = and-false (leb 1 n) (leb n width) (lt-leb n width a)
-
-pub count-most : (n : ℕ) → isCount n ≡ true → n ≤ width
-unfolding isCount
-count-most n e = leb-true n width (both-true (leb 1 n) (leb n width) e .1)
-
-pub table-is : (t : List ℕ) → isTable t ≡ eqb (length t) (width * width)
-unfolding isTable
-table-is t = refl
-
-pub table-true : (t : List ℕ) → length t ≡ width * width → isTable t ≡ true
-unfolding isTable
-table-true t e = eq-eqb (length t) (width * width) e
-
-pub table-size : (t : List ℕ) → isTable t ≡ true → length t ≡ width * width
-unfolding isTable
-table-size t e = eqb-true (length t) (width * width) e
-
-pub table-false : (t : List ℕ) → length t ≢ width * width → isTable t ≡ false
-unfolding isTable
-table-false t f = ne-eqb (length t) (width * width) f
-
 -- ---- n routers and a metric table, before it is known which tables are lent
 module _ (n : ℕ) (m : List ℕ) where
   pub area-uncounted : isCount n ≡ false → isArea n m ≡ false
@@ -135,12 +104,11 @@ module _ (n : ℕ) (m : List ℕ) where
   area-metrics a b = rw (a, b) refl
 
   pub area-ready : isArea n m ≡ true → Ready n m
-  unfolding isArea isCount isTable
+  unfolding isArea
   area-ready e =
       let t = both-true (isCount n) (isTable m && areMetrics n m) e in
-      let a = both-true (leb 1 n) (leb n width) (t .0) in
       let b = both-true (isTable m) (areMetrics n m) (t .1) in
-      record { some = leb-true 1 n (a .0); most = leb-true n width (a .1); size = eqb-true (length m) (width * width) (b .0); metrics = b .1 }
+      record { some = count-some n (t .0); most = count-most n (t .0); size = table-size m (b .0); metrics = b .1 }
 
 module _ (n : ℕ) (m d h : List ℕ) where
   abbrev pub areTables : Bool

@@ -3,22 +3,20 @@
 --     applied-none, applied-more, applied-all      it holds before the first change, of one change more when that is put in, and then t is the new table
 use Prim.Native.Nat.{ℕ, _+_, _*_, _≤_, _<_}
 use mathlib.Core.Path.{_≡_, sym, ap, subst, _∙_}
-use mathlib.Core.Bool.{false≢true}
 use mathlib.Core.Logic.{⊎-elim}
 use mathlib.Core.List.{List, []}
 use native.Mathlib.Omega.{arith}
-use lib.ListN.{length, getD, set, length-set}
-use lib.Seq.{getD-set-same, getD-set-other}
+use lib.ListN.{length, set, length-set}
 use Rattle.area.specs.declared.entries.Entry.{Entry}
 use Rattle.area.specs.Limits.{width}
 use Rattle.area.specs.Tables.{cell, tabulate}
 use Rattle.area.specs.TestLaws.{look}
 use Rattle.area.specs.TableLaws.{length-tabulate, cell-tabulate, is-tabulate}
-use Rattle.area.specs.Entries.{count, entryOf}
-use Rattle.plan.specs.Changes.{from, to, metric, isOf}
-use Rattle.plan.specs.NewMetrics.{changed, newCell, newMetrics}
+use Rattle.area.specs.Entries.{count, entryOf, from, to, metric, isOf, listed}
+use Rattle.area.specs.EntryLaws.{cell-entered}
+use Rattle.plan.specs.NewMetrics.{newCell, newMetrics}
 use Rattle.plan.specs.ChangeLaws.{Change}
-use Rattle.plan.specs.MetricLaws.{of-pair, pair-of, cell-more, cell-kept}
+use Rattle.plan.specs.MetricLaws.{cell-more, cell-kept}
 
 pub record Applied (n : ℕ) (m l : List ℕ) (k : ℕ) (t : List ℕ) : Type 0 where
   pub size : length t ≡ width * width
@@ -26,31 +24,22 @@ pub record Applied (n : ℕ) (m l : List ℕ) (k : ℕ) (t : List ℕ) : Type 0 
 
 module _ (n : ℕ) (m l : List ℕ) where
   pub applied-none : (t : List ℕ) → t ≡ tabulate width (newCell n m [] 0) → Applied n m l 0 t
-  unfolding newCell changed
+  unfolding newCell listed
   applied-none t e = record {
     size = ap length e ∙ length-tabulate width (newCell n m [] 0);
     cells = λ i j a b. ap (λ (x : List ℕ). cell width x i j) e ∙ cell-tabulate width (newCell n m [] 0) i j a b;
   }
 
   module _ (k : ℕ) (most : n ≤ width) (c : Change n m l k) (t : List ℕ) (done : Applied n m l k t) where
-    place : ℕ
-    place = width * from l k + to l k
-
-    inside : place < length t
-    unfolding place
-    inside = omega (arith, c .from-in, c .to-in, done .size)
-
-    put : (i j : ℕ) → i < width → j < width → cell width (set t place (metric l k)) i j ≡ newCell n m l (k + 1) i j
-    unfolding place
+    put : (i j : ℕ) → i < width → j < width → cell width (set t (width * from l k + to l k) (metric l k)) i j ≡ newCell n m l (k + 1) i j
     put i j a b =
-        ⊎-elim
-        (λ t′. let p = of-pair l k i j t′ in
-        ap (λ (x : ℕ). getD (set t place (metric l k)) x 0) (omega (arith, p .0, p .1)) ∙ getD-set-same t place (metric l k) 0 inside ∙ sym (cell-more n m l k i j (c .from-in) (c .to-in) (c .apart) t′))
-        (λ f. getD-set-other t place (width * i + j) (metric l k) 0 (λ q. false≢true (sym f ∙ pair-of l k i j (omega (arith, c .to-in)) (omega (arith, c .to-in)))) ∙ done .cells i j a b ∙ sym (cell-kept n m l k i j f))
+        cell-entered l k t (done .size) (omega (arith, c .from-in)) (omega (arith, c .to-in)) i j a b
+        ∙ ⊎-elim
+        (λ h. rw h (sym (cell-more n m l k i j (c .from-in) (c .to-in) (c .apart) h)))
+        (λ f. rw f (done .cells i j a b ∙ sym (cell-kept n m l k i j f)))
         (look (isOf l k i j))
 
     pub applied-more : (x : Entry) → x ≡ entryOf l k → Applied n m l (k + 1) (set t (width * x .from + x .to) (x .metric))
-    unfolding place
     applied-more x is = subst (λ (y : Entry). Applied n m l (k + 1) (set t (width * y .from + y .to) (y .metric))) (sym is) (record { size = simp length-set (done .size); cells = put })
 
   pub applied-all : (t : List ℕ) → Applied n m l (count l) t → t ≡ newMetrics n m l

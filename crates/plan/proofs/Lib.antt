@@ -1,5 +1,4 @@
 -- What several functions' proofs share, or what would make one too long.
-pub mod Reading
 pub mod Applying
 pub mod Converse
 pub mod Rounds

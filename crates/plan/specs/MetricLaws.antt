@@ -1,92 +1,38 @@
 -- Laws of the metrics after the change.
---     changed-none, changed-cases, changed-at      the metric of a pair, k changes made
 --     cell-pair, cell-own, cell-beyond, cell-copied, cell-more, cell-kept       the cells of the new table, k changes made
 --     new-cell, new-ready      the new table, and that Paths accepts it
 --     differs-common, differs-rise, differs-fall, changed-differs      which metrics differ, and which way
 --     topology-elsewhere, topology-rise, topology-fall     the same of the two topologies
-use Prim.Native.Nat.{ℕ, zero, suc, _+_, _*_, _/_, _%_, _≤_, _<_}
+use Prim.Native.Nat.{ℕ, _+_, _*_, _/_, _%_, _≤_, _<_}
 use mathlib.Core.Path.{_≡_, refl, sym, ap, _∙_}
-use mathlib.Core.Bool.{true, false, not, _||_, false≢true}
+use mathlib.Core.Bool.{true, false, _||_}
 use mathlib.Core.Logic.{_≢_, _⊎_, inl, inr, ⊎-elim}
 use mathlib.Core.List.{List, []}
-use native.Mathlib.Nat.{eq-or-lt-of-le, le-of-suc-le-suc, not-suc-le-zero}
 use native.Mathlib.Numerals.{add-one}
 use native.Mathlib.Decide.{ℕ-discrete}
 use native.Mathlib.Omega.{arith}
 use lib.Dec.{ltb, eqb}
 use lib.ListN.{length, getD}
-use borrow.Author.Tests.{ltb-true, eqb-true, lt-ltb, le-ltb, eq-eqb, ne-eqb, not-true}
+use borrow.Author.Tests.{ltb-true, lt-ltb, le-ltb, eq-eqb, ne-eqb}
 use Rattle.area.specs.Limits.{width, unused}
 use Rattle.area.specs.Tables.{cell}
-use Rattle.area.specs.TestLaws.{look, both-true, and-true, and-false, all-at}
+use Rattle.area.specs.TestLaws.{and-false, all-at}
 use Rattle.area.specs.TableLaws.{length-tabulate, cell-tabulate}
-use Rattle.area.specs.Entries.{count}
+use Rattle.area.specs.Entries.{count, from, to, metric, isOf, listed}
+use Rattle.area.specs.EntryLaws.{of-pair, given-more, given-kept, given-cases, given-at}
 use Rattle.paths.specs.Paths.{isMetric}
 use Rattle.paths.specs.Topology.{topology}
 use Rattle.paths.specs.TopologyLaws.{topology-le, topology-same}
 use Rattle.paths.specs.PathsLaws.{Ready, metric-own, metric-good, metrics-at, metrics-true}
-use Rattle.plan.specs.Changes.{from, to, metric, before, isOf, isNew, isRise, isFall}
+use Rattle.plan.specs.Changes.{before, isRise, isFall}
 use Rattle.plan.specs.Root.{isCommon}
-use Rattle.plan.specs.NewMetrics.{changed, newCell, newMetrics}
+use Rattle.plan.specs.NewMetrics.{newCell, newMetrics}
 use Rattle.plan.specs.ChangeLaws.{Sound}
 use Rattle.plan.specs.RootLaws.{common-at}
 
--- ---- the pair of a change
-pub of-pair : (l : List ℕ) (e i j : ℕ) → isOf l e i j ≡ true → (from l e ≡ i) × (to l e ≡ j)
-of-pair l e i j t = let b = both-true (eqb (from l e) i) (eqb (to l e) j) t in (eqb-true (from l e) i (b .0), eqb-true (to l e) j (b .1))
-
-pub pair-of : (l : List ℕ) (e i j : ℕ) → from l e ≡ i → to l e ≡ j → isOf l e i j ≡ true
-pair-of l e i j a b = and-true (eqb (from l e) i) (eqb (to l e) j) (eq-eqb (from l e) i a) (eq-eqb (to l e) j b)
-
--- no earlier change is of the same pair
-earlier : (l : List ℕ) (e d : ℕ) → isNew l e ≡ true → d < e → isOf l e (from l d) (to l d) ≡ false
-unfolding isNew
-earlier l e d new b = ⊎-elim (λ t. absurd (false≢true (sym other ∙ same t))) (λ f. f) (look (isOf l e (from l d) (to l d)))
-  where
-    other : isOf l d (from l e) (to l e) ≡ false
-    other = not-true (isOf l d (from l e) (to l e)) (all-at e (λ d. not (isOf l d (from l e) (to l e))) new d b)
-
-    same : isOf l e (from l d) (to l d) ≡ true → isOf l d (from l e) (to l e) ≡ true
-    same t = let p = of-pair l e (from l d) (to l d) t in pair-of l d (from l e) (to l e) (sym (p .0)) (sym (p .1))
-
--- ---- the metric of a pair, k changes made
-module _ (m l : List ℕ) (k i j : ℕ) where
-  changed-more : isOf l k i j ≡ true → changed m l (suc k) i j ≡ metric l k
-  unfolding changed
-  changed-more e = rw e refl
-
-  changed-kept : isOf l k i j ≡ false → changed m l (suc k) i j ≡ changed m l k i j
-  unfolding changed
-  changed-kept e = rw e refl
-
--- a pair that no change is of keeps its metric
-pub changed-none : (m l : List ℕ) (k i j : ℕ) → ((e : ℕ) → e < k → isOf l e i j ≡ false) → changed m l k i j ≡ cell width m i j
-unfolding changed
-changed-none m l zero i j f = refl
-changed-none m l (suc k) i j f = changed-kept m l k i j (f k (omega arith)) ∙ changed-none m l k i j (λ e b. f e (omega arith))
-
--- the metric of (i, j) is that of a change of this pair, or the old one
-pub changed-cases : (m l : List ℕ) (k i j : ℕ) → ((e : ℕ) × (e < k) × (isOf l e i j ≡ true) × (changed m l k i j ≡ metric l e)) ⊎ (changed m l k i j ≡ cell width m i j)
-unfolding changed
-changed-cases m l zero i j = inr refl
-changed-cases m l (suc k) i j =
-    ⊎-elim
-    (λ t. inl (k, omega arith, t, changed-more m l k i j t))
-    (λ f. ⊎-elim (λ c. inl (c .0, omega arith, c .2, changed-kept m l k i j f ∙ c .3)) (λ c. inr (changed-kept m l k i j f ∙ c)) (changed-cases m l k i j))
-    (look (isOf l k i j))
-
--- no pair is listed twice, so the pair of a change gets the metric of this change
-pub changed-at : (m l : List ℕ) (k : ℕ) → ((e : ℕ) → e < k → isNew l e ≡ true) → (e : ℕ) → e < k → changed m l k (from l e) (to l e) ≡ metric l e
-changed-at m l zero new e h = absurd (not-suc-le-zero h)
-changed-at m l (suc k) new e h =
-    ⊎-elim
-    (λ (q : e ≡ k). rw q (changed-more m l k (from l k) (to l k) (pair-of l k (from l k) (to l k) refl refl)))
-    (λ b. changed-kept m l k (from l e) (to l e) (earlier l k e (new k (omega arith)) b) ∙ changed-at m l k (λ e b. new e (omega arith)) e b)
-    (eq-or-lt-of-le (le-of-suc-le-suc h))
-
 -- ---- the cells of the new table, k changes made
 module _ (n : ℕ) (m l : List ℕ) (k i j : ℕ) where
-  pub cell-pair : i < n → j < n → i ≢ j → newCell n m l k i j ≡ changed m l k i j
+  pub cell-pair : i < n → j < n → i ≢ j → newCell n m l k i j ≡ listed l k i j (cell width m i j)
   unfolding newCell
   cell-pair a b f = rw (lt-ltb i n a, lt-ltb j n b, ne-eqb i j f) refl
 
@@ -101,7 +47,7 @@ module _ (n : ℕ) (m l : List ℕ) (k i j : ℕ) where
 
 -- before the first change the cell of a pair of routers is the old one, here by its place in the table
 pub cell-copied : (n : ℕ) (m : List ℕ) (k : ℕ) → k / width < n → k % width < n → k / width ≢ k % width → newCell n m [] 0 (k / width) (k % width) ≡ getD m k 0
-unfolding changed
+unfolding listed
 cell-copied n m k a b f = cell-pair n m [] 0 (k / width) (k % width) a b f ∙ ap (λ (x : ℕ). getD m x 0) (omega arith)
 
 -- one change more
@@ -109,11 +55,11 @@ module _ (n : ℕ) (m l : List ℕ) (k i j : ℕ) where
   pub cell-more : from l k < n → to l k < n → from l k ≢ to l k → isOf l k i j ≡ true → newCell n m l (k + 1) i j ≡ metric l k
   cell-more a b f t =
       let p = of-pair l k i j t in
-      cell-pair n m l (k + 1) i j (omega arith) (omega arith) (omega arith) ∙ rw add-one (changed-more m l k i j t)
+      cell-pair n m l (k + 1) i j (omega arith) (omega arith) (omega arith) ∙ rw add-one (given-more l k i j (cell width m i j) t)
 
   pub cell-kept : isOf l k i j ≡ false → newCell n m l (k + 1) i j ≡ newCell n m l k i j
   unfolding newCell
-  cell-kept e = rw (add-one, changed-kept m l k i j e) refl
+  cell-kept e = rw (add-one, given-kept l k i j (cell width m i j) e) refl
 
 -- ---- the new table
 module _ (n : ℕ) (m l : List ℕ) where
@@ -127,13 +73,13 @@ module _ (n : ℕ) (m l : List ℕ) where
 
   -- the metric of a pair of routers is that of a change of this pair, or the old one
   module _ (most : n ≤ width) {i j : ℕ} (a : i < n) (b : j < n) (f : i ≢ j) where
-    pair-cell : cell width (newMetrics n m l) i j ≡ changed m l (count l) i j
+    pair-cell : cell width (newMetrics n m l) i j ≡ listed l (count l) i j (cell width m i j)
     pair-cell = new-cell i j (omega arith) (omega arith) ∙ cell-pair n m l (count l) i j a b f
 
     pair-cases : ((e : ℕ) × (e < count l) × (from l e ≡ i) × (to l e ≡ j) × (cell width (newMetrics n m l) i j ≡ metric l e)) ⊎ (cell width (newMetrics n m l) i j ≡ cell width m i j)
     pair-cases =
         ⊎-elim (λ c. let p = of-pair l (c .0) i j (c .2) in inl (c .0, c .1, p .0, p .1, pair-cell ∙ c .3)) (λ c. inr (pair-cell ∙ c))
-        (changed-cases m l (count l) i j)
+        (given-cases l (count l) i j (cell width m i j))
 
   -- the new table is one that Paths accepts
   pub new-ready : Ready n m → ((e : ℕ) → e < count l → metric l e ≢ 0) → ((e : ℕ) → e < count l → metric l e ≤ unused) → Ready n (newMetrics n m l)
@@ -206,5 +152,5 @@ module _ (n : ℕ) (m l : List ℕ) (most : n ≤ width) (each : Sound n m l) wh
   pub changed-differs : (e : ℕ) → e < count l → cell width (newMetrics n m l) (from l e) (to l e) ≢ cell width m (from l e) (to l e)
   changed-differs e b q =
       let c = each e b in
-      let now = pair-cell n m l most (c .from-in) (c .to-in) (c .apart) ∙ changed-at m l (count l) (λ d h. each d h .new) e b in
+      let now = pair-cell n m l most (c .from-in) (c .to-in) (c .apart) ∙ given-at l (count l) (before m l e) (λ d h. each d h .new) e b in
       c .differs (sym now ∙ q)

@@ -3,6 +3,7 @@
 --     plan-count, plan-tables, .. plan-changes     the refusals of the whole input, each where it is given
 --     Plan, planned-is     an input is planned exactly where none of the paper's conditions holds
 --     record-planned, record-refused, tables-planned, tables-refused       what is handed back and left
+--     filled-size      the tables that are filled have the right size
 use Prim.Native.Nat.{ℕ, _*_, _%_, _≤_, _<_}
 use mathlib.Core.Path.{_≡_, refl, sym, _∙_}
 use mathlib.Core.Bool.{Bool, true, false, _||_}
@@ -13,11 +14,15 @@ use native.Mathlib.Omega.{arith}
 use lib.ListN.{length}
 use borrow.Author.Tests.{eqb-true, lt-ltb, le-ltb, eq-eqb, ne-eqb}
 use Rattle.area.specs.Limits.{width, mostChanges}
+use Rattle.area.specs.TableLaws.{length-tabulate}
 use Rattle.area.specs.TestLaws.{look, both-true, or-cases, or-left, or-right}
 use Rattle.area.specs.Entries.{count}
-use Rattle.paths.specs.Paths.{isCount, isTable, areMetrics}
-use Rattle.paths.specs.PathsLaws.{Ready, area-ready, area-metrics, count-true, table-true, table-size}
+use Rattle.area.specs.Sizes.{isCount, isTable}
+use Rattle.area.specs.SizeLaws.{count-true, table-true, table-size}
+use Rattle.paths.specs.Paths.{areMetrics, distanceCell, hopCell}
+use Rattle.paths.specs.PathsLaws.{Ready, area-ready, area-metrics}
 use Rattle.plan.specs.Changes.{firstRefusal, isRise, isFall}
+use Rattle.plan.specs.NewMetrics.{newCell, newMetrics}
 use Rattle.plan.specs.Root.{isCommon, root}
 use Rattle.plan.specs.Plan.{Tables, areTables, changesRefusal, planRefusal, isPlanned, fresh, blank, filled, recordOf, tablesOf}
 use Rattle.plan.specs.ChangeLaws.{Sound, sound-of, of-sound}
@@ -191,3 +196,15 @@ module _ (n : ℕ) (m l : List ℕ) where
     pub tables-refused : isPlanned n m l t ≡ false → tablesOf n m l t ≡ t
     unfolding tablesOf
     tables-refused e = rw e refl
+
+-- the tables that are filled have the right size
+pub filled-size : (n : ℕ) (m l : List ℕ) → Sized (newMetrics n m l) (filled n m l)
+unfolding filled newMetrics
+filled-size n m l = record {
+  old = length-tabulate width (newCell n m l (count l));
+  metrics = length-tabulate width (newCell n m l (count l));
+  oldDistances = length-tabulate width (distanceCell n m);
+  newDistances = length-tabulate width (distanceCell n (newMetrics n m l));
+  oldHops = length-tabulate width (hopCell n m);
+  newHops = length-tabulate width (hopCell n (newMetrics n m l));
+}

@@ -12,8 +12,7 @@ use mathlib.Core.List.{List}
 use lib.Dec.{eqb}
 use borrow.Author.Tests.{eqb-true, eq-eqb}
 use Rattle.area.specs.TestLaws.{look, or-cases, or-left, or-right, all-at, all-true}
-use Rattle.area.specs.Entries.{count}
-use Rattle.plan.specs.Changes.{from, to}
+use Rattle.area.specs.Entries.{count, from, to}
 use Rattle.plan.specs.Root.{isCommon, root}
 
 module _ (l : List ℕ) where

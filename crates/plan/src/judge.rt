@@ -1,4 +1,5 @@
 // Whether an input is planned: its refusals in their order, and what the changes have in common.
+use area::entries::check;
 use area::entries::count;
 use area::entries::decode;
 use area::limits::ENTRY;
@@ -15,8 +16,8 @@ ghost use lib.ListN.{length};
 ghost use Rattle.area.specs.Limits.{width};
 ghost use Rattle.area.specs.Refusals.{verdictNumber};
 ghost use Rattle.area.specs.Tests.{pick};
-ghost use Rattle.area.specs.Entries.{count};
-ghost use Rattle.plan.specs.Changes.{from, to, metric, before, isNew, changeRefusal, firstRefusal, isRise, isFall};
+ghost use Rattle.area.specs.Entries.{count, from, to, metric, isFree};
+ghost use Rattle.plan.specs.Changes.{before, changeRefusal, firstRefusal, isRise, isFall};
 ghost use Rattle.plan.specs.Root.{isCommon, root};
 ghost use Rattle.plan.specs.ChangeLaws.{Ends};
 ghost use Rattle.plan.specs.Plan.{changesRefusal, planRefusal};
@@ -89,24 +90,16 @@ fn entry(n: usize, old: &[u32], list: &[u8], e: usize) -> Verdict
     ensures { λ r. ⌜ verdictNumber r ≡ changeRefusal n (now (old .entry)) (now (list .entry)) e ⌝ }
 {
     let change = decode(list, e);
-    let from = change.from;
-    let to = change.to;
-    let metric = change.metric;
-    if n <= from {
-        return Verdict::Refused(Refusal::UnknownRouter);
-    }
-    if n <= to {
-        return Verdict::Refused(Refusal::UnknownRouter);
-    }
-    if from == to {
-        return Verdict::Refused(Refusal::SelfLink);
-    }
-    if metric == 0 {
-        return Verdict::Refused(Refusal::Metric);
+    let answer = check(n, change);
+    if !answer.is_accepted() {
+        return answer;
     }
     if !is_new(list, e) {
         return Verdict::Refused(Refusal::Repeated);
     }
+    let from = change.from;
+    let to = change.to;
+    let metric = change.metric;
     if metric == old[WIDTH * from + to] {
         return Verdict::Refused(Refusal::SameMetric);
     }
@@ -115,7 +108,7 @@ fn entry(n: usize, old: &[u32], list: &[u8], e: usize) -> Verdict
 
 // Has no entry before e the same pair?
 fn is_new(list: &[u8], e: usize) -> bool
-    ensures { λ r. ⌜ r ≡ isNew (now (list .entry)) e ⌝ }
+    ensures { λ r. ⌜ r ≡ isFree (now (list .entry)) e (from (now (list .entry)) e) (to (now (list .entry)) e) ⌝ }
 {
     let change = decode(list, e);
     for d in 0..e {

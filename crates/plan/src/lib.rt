@@ -120,8 +120,8 @@ fn are_tables(
     new_hops.len() == CELLS
 }
 
-// The record of a plan that was refused.
-fn blank() -> Record
+// The record of a plan that was refused: all zeros.
+pub fn blank() -> Record
     ensures { λ r. ⌜ r ≡ blank ⌝ }
 {
     Record {

@@ -9,19 +9,20 @@ use mathlib.Core.List.{List, [], _∷_, _++_}
 use lib.Dec.{eqb}
 use lib.ListN.{replicate, set}
 use Rattle.area.specs.Limits.{width, unused}
-use Rattle.area.specs.Tests.{all}
+use Rattle.area.specs.Tests.{all, first}
 use Rattle.area.specs.Sets.{bit, setOf, added, removed, subset}
 use Rattle.area.specs.Tables.{build, tabulate, perRouter}
-use Rattle.area.specs.Entries.{count, entryOf}
+use Rattle.area.specs.Entries.{count, entryOf, isFree, entryRefusal, listedRefusal, listed}
+use Rattle.area.specs.Sizes.{isCount, isTable}
 use Rattle.paths.specs.Topology.{isLink, topology}
 use Rattle.paths.specs.Distance.{sums, least, distance}
 use Rattle.paths.specs.NextHops.{isNext, nextHops}
 use Rattle.paths.specs.Pigeonhole.{Distinct}
-use Rattle.paths.specs.Paths.{isCount, isTable, isMetric, areMetrics}
+use Rattle.paths.specs.Paths.{isMetric, areMetrics}
 use Rattle.plan.specs.declared.Record.{Record}
-use Rattle.plan.specs.Changes.{isNew, changeRefusal, firstRefusal, isRise, isFall}
+use Rattle.plan.specs.Changes.{changeRefusal, isRise, isFall}
 use Rattle.plan.specs.Root.{isCommon, root}
-use Rattle.plan.specs.NewMetrics.{changed, newCell, newMetrics}
+use Rattle.plan.specs.NewMetrics.{newCell, newMetrics}
 use Rattle.plan.specs.Waiting.{oldHops, newHops, waiting, telling, due}
 use Rattle.plan.specs.Rank.{greatest, above, longest, rank}
 use Rattle.plan.specs.Plan.{Tables, tables, areTables, changesRefusal, planRefusal, isPlanned, fresh, recordOf}
@@ -73,8 +74,8 @@ record Accepts (m l : List ℕ) (r : Record) : Type 0 where
 
 planned : Accepts metricsUp goesDown beforeRise × Accepts metricsDown comesUp beforeFall
 unfolding metricsDown metricsUp goesDown comesUp lent beforeRise beforeFall recordOf isPlanned fresh perRouter build rank longest above greatest
-    waiting telling due oldHops newHops nextHops isNext bit setOf distance sums least topology isLink newMetrics tabulate newCell changed planRefusal
-    areTables isTable isCount areMetrics isMetric all changesRefusal firstRefusal changeRefusal isNew isRise isFall isCommon root count entryOf
+    waiting telling due oldHops newHops nextHops isNext bit setOf distance sums least topology isLink newMetrics tabulate newCell listed planRefusal
+    areTables isTable isCount areMetrics isMetric all changesRefusal changeRefusal first listedRefusal entryRefusal isFree isRise isFall isCommon root count entryOf
 planned = (record { accepted = refl; given = refl }, record { accepted = refl; given = refl })
 
 -- ---- calls in order
@@ -124,7 +125,7 @@ Loops m l x = Along (pointers (λ r. oldHops 3 m r 2) (λ r. newHops 3 m l r 2) 
 -- in the rise if 1 writes before 0, and in the fall if 0 writes before 1: the two writes that are refused above
 loops : Loops metricsUp goesDown 1 × Loops metricsDown comesUp 0
 unfolding metricsDown metricsUp goesDown comesUp oldHops newHops nextHops isNext bit setOf distance sums least topology isLink newMetrics tabulate build
-    newCell changed count entryOf
+    newCell listed count entryOf
 loops = ((refl, (refl, tt)), (refl, (refl, tt)))
 
 -- that walk meets 0 twice

@@ -5,6 +5,7 @@ pub mod Run
 pub mod LoopFree
 pub mod StepLaws
 pub mod MoveLaws
+pub mod CallLaws
 pub mod RunLaws
 pub mod LoopFreeLaws
 mod Examples

@@ -7,7 +7,7 @@ use lib.ListN.{getD, set}
 use Rattle.area.specs.Limits.{width}
 use Rattle.area.specs.Tests.{pick, all}
 use Rattle.area.specs.Sets.{bit, added, removed, subset}
-use Rattle.paths.specs.Paths.{isCount}
+use Rattle.area.specs.Sizes.{isCount}
 use Rattle.plan.specs.declared.Record.{Record}
 use Rattle.steps.specs.Answers.{ok, ignored, refused, Outcome, gives}
 

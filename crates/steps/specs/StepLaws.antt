@@ -14,8 +14,8 @@ use Rattle.area.specs.Limits.{width}
 use Rattle.area.specs.Tests.{all}
 use Rattle.area.specs.Sets.{bit, added, removed, subset}
 use Rattle.area.specs.TestLaws.{both-true, and-false, and-one}
-use Rattle.paths.specs.Paths.{isCount}
-use Rattle.paths.specs.PathsLaws.{count-most}
+use Rattle.area.specs.Sizes.{isCount}
+use Rattle.area.specs.SizeLaws.{count-most}
 use Rattle.plan.specs.declared.Record.{Record}
 use Rattle.steps.specs.Answers.{ok, ignored, refused, gives}
 use Rattle.steps.specs.Machine.{idle, holding, ongoing, done, stateOf, waitingOf, tellingOf, dueOf, writtenOf, withState, withWaiting, withWritten, learn, release, ready, write, finish, listens, deliver, isRecord, isKind, readsB, areRouters, callOf, stepOf}

@@ -3,7 +3,8 @@ use mathlib.Core.Path.{sym, _∙_}
 use native.Mathlib.Omega.{arith}
 use borrow.Author.Needs.{needs}
 use denote.Ref.{now}
-use Rattle.paths.specs.PathsLaws.{count-true, count-low, count-high, table-true, table-false, area-uncounted, area-unsized, area-metrics}
+use Rattle.area.specs.SizeLaws.{count-true, count-low, count-high, table-true, table-false}
+use Rattle.paths.specs.PathsLaws.{area-uncounted, area-unsized, area-metrics}
 use Rattle.paths.proofs.is_area.Statement.{statement}
 use Rattle.paths.proofs.is_area.Tie as tie
 

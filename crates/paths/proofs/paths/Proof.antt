@@ -12,8 +12,10 @@ use denote.Ref.{now}
 use Rattle.area.specs.Limits.{width}
 use Rattle.area.specs.Tables.{tabulate}
 use Rattle.area.specs.TestLaws.{and-false}
-use Rattle.paths.specs.Paths.{isCount, isTable, areMetrics, refusalOf, distanceCell, hopCell, distancesOf, hopsOf}
-use Rattle.paths.specs.PathsLaws.{count-true, count-low, count-high, table-true, table-false, areTables, refused-count, refused-tables, refused-metrics, accepted, distances-kept, hops-kept, distances-filled, hops-filled}
+use Rattle.area.specs.Sizes.{isCount, isTable}
+use Rattle.area.specs.SizeLaws.{count-true, count-low, count-high, table-true, table-false}
+use Rattle.paths.specs.Paths.{areMetrics, refusalOf, distanceCell, hopCell, distancesOf, hopsOf}
+use Rattle.paths.specs.PathsLaws.{areTables, refused-count, refused-tables, refused-metrics, accepted, distances-kept, hops-kept, distances-filled, hops-filled}
 use Rattle.paths.proofs.paths.Statement.{statement}
 use Rattle.paths.proofs.paths.Tie as tie
 

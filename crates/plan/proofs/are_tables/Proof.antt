@@ -7,7 +7,7 @@ use Prim.Native.Nat.{ℕ, _*_}
 use lib.Dec.{eqb}
 use lib.ListN.{length}
 use Rattle.area.specs.Limits.{width}
-use Rattle.paths.specs.PathsLaws.{table-true, table-false, table-is}
+use Rattle.area.specs.SizeLaws.{table-true, table-false, table-is}
 use Rattle.plan.specs.Plan.{tables, areTables}
 use Rattle.plan.proofs.are_tables.Statement.{statement}
 use Rattle.plan.proofs.are_tables.Tie as tie

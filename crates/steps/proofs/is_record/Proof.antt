@@ -8,8 +8,8 @@ use lib.Dec.{leb}
 use borrow.Author.Tests.{le-leb, lt-leb}
 use Rattle.area.specs.Limits.{width}
 use Rattle.area.specs.TestLaws.{all-true, all-false, and-false}
-use Rattle.paths.specs.Paths.{isCount}
-use Rattle.paths.specs.PathsLaws.{count-true, count-low, count-high}
+use Rattle.area.specs.Sizes.{isCount}
+use Rattle.area.specs.SizeLaws.{count-true, count-low, count-high}
 use Rattle.plan.specs.declared.Record.{Record}
 use Rattle.steps.specs.Machine.{done, stateOf, isRecord}
 use Rattle.steps.proofs.is_record.Statement.{statement}

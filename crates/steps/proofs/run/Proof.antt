@@ -1,37 +1,17 @@
 -- Between two steps: the record at hand and the bytes that are left lead to the same last record as the first one and all bytes.
-use mathlib.Core.Path.{_≡_, refl, sym, _∙_, subst}
-use mathlib.Core.List.{List, [], _∷_}
-use Prim.Native.Nat.{ℕ, suc, _+_, _-_, _<_, _≤_}
+use mathlib.Core.Path.{_≡_, refl, sym, _∙_}
+use mathlib.Core.List.{List}
+use Prim.Native.Nat.{ℕ, _+_, _-_, _<_, _≤_}
 use native.Mathlib.Omega.{arith}
 use borrow.Author.Needs.{needs}
-use lib.ListN.{length, getD, drop, length-drop}
-use lib.Seq.{drop-cons}
+use lib.ListN.{length, getD, drop}
 use Rattle.plan.specs.declared.Record.{Record}
 use Rattle.steps.specs.Answers.{Outcome}
 use Rattle.steps.specs.Machine.{stepOf}
-use Rattle.steps.specs.Run.{call, run, callsOf}
+use Rattle.steps.specs.Run.{run, callsOf}
+use Rattle.steps.specs.CallLaws.{no-call, next-call}
 use Rattle.steps.proofs.run.Statement.{statement}
 use Rattle.steps.proofs.run.Tie as tie
-
--- ---- the calls that are left
-few-bytes : (l : List ℕ) → length l ≤ 2 → callsOf l ≡ []
-unfolding callsOf
-few-bytes [] h = refl
-few-bytes (x ∷ []) h = refl
-few-bytes (x ∷ y ∷ []) h = refl
-few-bytes (x ∷ y ∷ z ∷ l) h = absurd (omega arith)
-
-module _ (l : List ℕ) where
-  drop-next : (i j : ℕ) → suc i ≡ j → i < length l → drop i l ≡ getD l i 0 ∷ drop j l
-  drop-next i j e h = subst (λ (k : ℕ). drop i l ≡ getD l i 0 ∷ drop k l) e (drop-cons l i 0 h)
-
-module _ (l : List ℕ) (i : ℕ) where
-  no-call : length l ≤ i + 2 → callsOf (drop i l) ≡ []
-  no-call h = few-bytes (drop i l) (omega (arith, length-drop i l))
-
-  next-call : i + 2 < length l → callsOf (drop i l) ≡ call (getD l i 0) (getD l (i + 1) 0) (getD l (i + 2) 0) ∷ callsOf (drop (i + 3) l)
-  unfolding callsOf
-  next-call h = rw (drop-next l i (i + 1) (omega arith) (omega arith), drop-next l (i + 1) (i + 2) (omega arith) (omega arith), drop-next l (i + 2) (i + 3) (omega arith) (omega arith)) refl
 
 -- ---- the record at hand
 module _ (first : Record) (l : List ℕ) where

@@ -9,9 +9,9 @@ use borrow.Author.Tests.{not-true, not-false}
 use lib.Dec.{ltb}
 use denote.Ref.{now}
 use Rattle.area.specs.Tests.{pick, all}
-use Rattle.area.specs.Entries.{count}
+use Rattle.area.specs.Entries.{count, metric}
 use Rattle.area.specs.TestLaws.{all-true, all-false}
-use Rattle.plan.specs.Changes.{metric, before, isRise, isFall}
+use Rattle.plan.specs.Changes.{before, isRise, isFall}
 use Rattle.plan.proofs.judge.all_move.Statement.{statement}
 use Rattle.plan.proofs.judge.all_move.Tie as tie
 

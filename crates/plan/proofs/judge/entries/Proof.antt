@@ -6,9 +6,9 @@ use borrow.Author.Count.{below-none, below-more}
 use borrow.Author.Tests.{eqb-true, eqb-false, not-true, not-false}
 use denote.Ref.{now}
 use Rattle.area.specs.Refusals.{verdictNumber}
+use Rattle.area.specs.TestLaws.{first-none, first-fault}
 use Rattle.area.specs.Entries.{count}
 use Rattle.plan.specs.Changes.{changeRefusal}
-use Rattle.plan.specs.ChangeLaws.{first-none, first-fault}
 use Rattle.plan.proofs.judge.entries.Statement.{statement}
 use Rattle.plan.proofs.judge.entries.Tie as tie
 
@@ -36,7 +36,7 @@ returns c =
     let a = c .before .before .before .before .before .before .before .before .args in
     let is = c .before .before .entry .ensures in
     let refused = eqb-false _ 0 (sym (c .before .is-accepted .ensures) ∙ not-true _ (c .if1 .taken)) in
-    is ∙ sym (first-fault (a .n) (now (a .old)) (now (a .list)) (at-loop .e) (count (now (a .list))) (omega arith) (at-loop .inv .2) (λ z. refused (is ∙ z)))
+    is ∙ sym (first-fault (changeRefusal (a .n) (now (a .old)) (now (a .list))) (at-loop .e) (count (now (a .list))) (omega arith) (at-loop .inv .2) (λ z. refused (is ∙ z)))
 
 add-e : tie.Need-add-e Inv-loop μ-loop
 add-e c = omega arith
@@ -54,7 +54,7 @@ returns-2 : tie.Need-returns-2 Inv-loop μ-loop
 returns-2 c =
     let at-loop = c .before .loop in
     let a = c .before .before .before .before .before .args in
-    sym (first-none (a .n) (now (a .old)) (now (a .list)) (count (now (a .list))) (λ k l. at-loop .inv .2 k (omega arith)))
+    sym (first-none (changeRefusal (a .n) (now (a .old)) (now (a .list))) (count (now (a .list))) (λ k l. at-loop .inv .2 k (omega arith)))
 
 pub entries-spec : {M : Type 1} → statement M
 entries-spec =

@@ -1,117 +1,111 @@
 -- Each return gives the refusal of the tests that led to it.
-use mathlib.Core.Path.{_≡_, sym, _∙_}
+use mathlib.Core.Path.{_≡_, sym, ap, _∙_}
 use mathlib.Core.Bool.{Bool, true, false, not}
 use mathlib.Core.Logic.{_≢_}
 use mathlib.Core.List.{List}
 use Prim.Native.Nat.{ℕ, _+_, _*_, _<_, _≤_}
 use native.Mathlib.Omega.{arith}
 use borrow.Author.Needs.{needs}
-use borrow.Author.Tests.{not-true, not-false}
+use borrow.Author.Tests.{eqb-true, eqb-false, not-true, not-false}
+use lib.Dec.{eqb}
 use lib.ListN.{getD}
 use Rattle.area.specs.declared.entries.Entry.{Entry}
+use Rattle.area.specs.declared.refusal.Verdict.{Verdict}
 use Rattle.area.specs.Limits.{width}
-use Rattle.area.specs.Entries.{entryOf}
-use Rattle.plan.specs.Changes.{from, to, metric, isNew, changeRefusal}
-use Rattle.plan.specs.ChangeLaws.{refused-from, refused-to, refused-self, refused-metric, refused-repeated, refused-same, faultless}
-use Rattle.plan.proofs.Reading.{read-from, read-to, read-metric, read-cell}
+use Rattle.area.specs.Refusals.{verdictNumber}
+use Rattle.area.specs.Entries.{entryOf, from, to, metric, isFree, entryRefusal, listedRefusal}
+use Rattle.area.specs.EntryLaws.{read-metric, read-cell, Faultless, faultless-of, listed-faulty, listed-repeated, listed-passes}
+use Rattle.plan.specs.Changes.{changeRefusal}
+use Rattle.plan.specs.ChangeLaws.{refused-entry, refused-same, passes}
 use Rattle.plan.proofs.judge.entry.Statement.{statement}
 use Rattle.plan.proofs.judge.entry.Tie as tie
 
--- one law for each return, by the change that was read
-module _ (n : ℕ) (m l : List ℕ) (e : ℕ) (x : Entry) (is : x ≡ entryOf l e) where
-  unknown-from : n ≤ x .from → 4 ≡ changeRefusal n m l e
-  unknown-from a = sym (refused-from n m l e (omega (arith, read-from is)))
+-- one law for each return, by the change that was read and what the calls gave
+module _ (n : ℕ) (m l : List ℕ) (e : ℕ) (x : Entry) (is : x ≡ entryOf l e) (v : Verdict) (told : verdictNumber v ≡ entryRefusal n x) (ok : Bool) (good : ok ≡ eqb (verdictNumber v) 0) where
+  by-entry : verdictNumber v ≡ entryRefusal n (entryOf l e)
+  by-entry = told ∙ ap (entryRefusal n) is
 
-  unknown-to : n ≤ x .to → 4 ≡ changeRefusal n m l e
-  unknown-to a = sym (refused-to n m l e (omega (arith, read-to is)))
+  faulty : not ok ≡ true → verdictNumber v ≡ changeRefusal n m l e
+  faulty h = by-entry ∙ sym (refused-entry n m l e (λ z. some (sym (listed-faulty n l e some) ∙ z)) ∙ listed-faulty n l e some)
+    where
+      some : entryRefusal n (entryOf l e) ≢ 0
+      some z = eqb-false (verdictNumber v) 0 (sym good ∙ not-true ok h) (by-entry ∙ z)
 
-  module _ (i : x .from < n) (j : x .to < n) where
-    from-in : from l e < n
-    from-in = omega (arith, read-from is)
+  module _ (h : not ok ≡ false) where
+    none : verdictNumber v ≡ 0
+    none = eqb-true (verdictNumber v) 0 (sym good ∙ not-false ok h)
 
-    to-in : to l e < n
-    to-in = omega (arith, read-to is)
+    sound : Faultless n x
+    sound = faultless-of n x (sym told ∙ none)
 
-    self-link : x .from ≡ x .to → 5 ≡ changeRefusal n m l e
-    self-link a = sym (refused-self n m l e from-in to-in (sym (read-from is) ∙ a ∙ read-to is))
+    in-table : n ≤ width → width * x .from + x .to < width * width
+    in-table b = omega (arith, sound .from-in, sound .to-in)
 
-    module _ (a : x .from ≢ x .to) where
-      apart : from l e ≢ to l e
-      apart q = a (read-from is ∙ q ∙ sym (read-to is))
+    module _ (new : Bool) (free : new ≡ isFree l e (from l e) (to l e)) where
+      repeated : not new ≡ true → 7 ≡ changeRefusal n m l e
+      repeated c =
+          let seven = listed-repeated n l e (sym by-entry ∙ none) (sym free ∙ not-true new c) in
+          sym (refused-entry n m l e (λ z. let x : ⊥ = omega (arith, seven, z) in x) ∙ seven)
 
-      metric-none : x .metric ≡ 0 → 6 ≡ changeRefusal n m l e
-      metric-none b = sym (refused-metric n m l e from-in to-in apart (sym (read-metric is) ∙ b))
+      module _ (c : not new ≡ false) where
+        listed-none : listedRefusal n l e ≡ 0
+        listed-none = listed-passes n l e (sym by-entry ∙ none) (sym free ∙ not-false new c)
 
-      module _ (b : x .metric ≢ 0) (new : Bool) (told : new ≡ isNew l e) where
-        some : metric l e ≢ 0
-        some q = b (read-metric is ∙ q)
+        same-metric : x .metric ≡ getD m (width * x .from + x .to) 0 → 11 ≡ changeRefusal n m l e
+        same-metric d = sym (refused-same n m l e listed-none (sym (read-metric is) ∙ d ∙ read-cell is m))
 
-        repeated : not new ≡ true → 7 ≡ changeRefusal n m l e
-        repeated c = sym (refused-repeated n m l e from-in to-in apart some (sym told ∙ not-true new c))
-
-        module _ (c : not new ≡ false) where
-          first : isNew l e ≡ true
-          first = sym told ∙ not-false new c
-
-          same-metric : x .metric ≡ getD m (width * x .from + x .to) 0 → 11 ≡ changeRefusal n m l e
-          same-metric d = sym (refused-same n m l e from-in to-in apart some first (sym (read-metric is) ∙ d ∙ read-cell is m))
-
-          passes : x .metric ≢ getD m (width * x .from + x .to) 0 → 0 ≡ changeRefusal n m l e
-          passes d = sym (faultless n m l e from-in to-in apart some first (λ q. d (read-metric is ∙ q ∙ sym (read-cell is m))))
+        accepted : x .metric ≢ getD m (width * x .from + x .to) 0 → 0 ≡ changeRefusal n m l e
+        accepted d = sym (passes n m l e listed-none (λ q. d (read-metric is ∙ q ∙ sym (read-cell is m))))
 
 decode-requires : tie.Need-decode-requires
 decode-requires c κs = search needs
 
+check-requires : tie.Need-check-requires
+check-requires c κs = search needs
+
+is-accepted-requires : tie.Need-is-accepted-requires
+is-accepted-requires c κs = search needs
+
 returns : tie.Need-returns
-returns c = search unknown-from
-
-returns-2 : tie.Need-returns-2
-returns-2 c = search unknown-to
-
-returns-3 : tie.Need-returns-3
-returns-3 c = search self-link
-
-returns-4 : tie.Need-returns-4
-returns-4 c = search metric-none
+returns c = search faulty
 
 is-new-requires : tie.Need-is-new-requires
 is-new-requires c κs = search needs
 
-returns-5 : tie.Need-returns-5
-returns-5 c = search repeated
+returns-2 : tie.Need-returns-2
+returns-2 c = search repeated
 
-mul-if6 : tie.Need-mul-if6
-mul-if6 c = search needs
+mul-if3 : tie.Need-mul-if3
+mul-if3 c = let change = c .before .before .before .before .before .decode .result in let place : width * change .from + change .to < width * width = search in-table in omega (arith, place)
 
-add-if6 : tie.Need-add-if6
-add-if6 c = search needs
+add-if3 : tie.Need-add-if3
+add-if3 c = let change = c .before .before .before .before .before .decode .result in let place : width * change .from + change .to < width * width = search in-table in omega (arith, place)
 
-mul-if6-2 : tie.Need-mul-if6-2
-mul-if6-2 c = search needs
+mul-if3-2 : tie.Need-mul-if3-2
+mul-if3-2 c = let change = c .before .before .before .before .before .decode .result in let place : width * change .from + change .to < width * width = search in-table in omega (arith, place)
 
-shared-slice-read-if6 : tie.Need-shared-slice-read-if6
-shared-slice-read-if6 c = search needs
+shared-slice-read-if3 : tie.Need-shared-slice-read-if3
+shared-slice-read-if3 c = let change = c .before .before .before .before .before .before .decode .result in let place : width * change .from + change .to < width * width = search in-table in omega (arith, place)
 
-returns-6 : tie.Need-returns-6
-returns-6 c = search same-metric
+returns-3 : tie.Need-returns-3
+returns-3 c = search same-metric
 
-returns-7 : tie.Need-returns-7
-returns-7 c = search passes
+returns-4 : tie.Need-returns-4
+returns-4 c = search accepted
 
 pub entry-spec : {M : Type 1} → statement M
 entry-spec =
     tie.close
     (tie.spec
     decode-requires
+    check-requires
+    is-accepted-requires
     returns
-    returns-2
-    returns-3
-    returns-4
     is-new-requires
-    returns-5
-    mul-if6
-    add-if6
-    mul-if6-2
-    shared-slice-read-if6
-    returns-6
-    returns-7)
+    returns-2
+    mul-if3
+    add-if3
+    mul-if3-2
+    shared-slice-read-if3
+    returns-3
+    returns-4)

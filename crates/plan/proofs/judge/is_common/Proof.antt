@@ -10,11 +10,10 @@ use borrow.Author.Tests.{eq-eqb, ne-eqb}
 use lib.Dec.{eqb}
 use denote.Ref.{now}
 use Rattle.area.specs.declared.entries.Entry.{Entry}
-use Rattle.area.specs.Entries.{count, entryOf}
+use Rattle.area.specs.Entries.{count, entryOf, from, to}
 use Rattle.area.specs.TestLaws.{or-right, all-true, all-false}
-use Rattle.plan.specs.Changes.{from, to}
 use Rattle.plan.specs.Root.{isCommon}
-use Rattle.plan.proofs.Reading.{read-from, read-to}
+use Rattle.area.specs.EntryLaws.{read-from, read-to}
 use Rattle.plan.proofs.judge.is_common.Statement.{statement}
 use Rattle.plan.proofs.judge.is_common.Tie as tie
 

@@ -10,10 +10,9 @@ use borrow.Author.Tests.{eq-eqb, ne-eqb}
 use lib.Dec.{eqb}
 use denote.Ref.{now}
 use Rattle.area.specs.declared.entries.Entry.{Entry}
-use Rattle.area.specs.Entries.{entryOf}
+use Rattle.area.specs.Entries.{entryOf, from, to, isOf, isFree}
 use Rattle.area.specs.TestLaws.{and-false, all-true, all-false}
-use Rattle.plan.specs.Changes.{from, to, isOf, isNew}
-use Rattle.plan.proofs.Reading.{read-from, read-to}
+use Rattle.area.specs.EntryLaws.{read-from, read-to}
 use Rattle.plan.proofs.judge.is_new.Statement.{statement}
 use Rattle.plan.proofs.judge.is_new.Tie as tie
 
@@ -54,7 +53,7 @@ decode-requires-2 : tie.Need-decode-requires-2 Inv-loop μ-loop
 decode-requires-2 c κs = omega arith
 
 returns : tie.Need-returns Inv-loop μ-loop
-unfolding isNew
+unfolding isFree
 returns c =
     let turn = c .before .before .before .before .before in
     let at-loop = turn .before .before .before .loop in
@@ -82,7 +81,7 @@ loop-again c =
     )
 
 returns-2 : tie.Need-returns-2 Inv-loop μ-loop
-unfolding isNew
+unfolding isFree
 returns-2 c = sym (all-true _ _ (λ k l. c .before .loop .inv .1 k (omega arith)))
 
 pub is-new-spec : {M : Type 1} → statement M

@@ -4,7 +4,7 @@ use native.Mathlib.Omega.{arith}
 use borrow.Author.Needs.{needs}
 use lib.Dec.{ltb}
 use denote.Ref.{now}
-use Rattle.plan.proofs.Reading.{read-from, read-to, read-metric, read-cell}
+use Rattle.area.specs.EntryLaws.{read-from, read-to, read-metric, read-cell}
 use Rattle.plan.proofs.judge.moves.Statement.{statement}
 use Rattle.plan.proofs.judge.moves.Tie as tie
 

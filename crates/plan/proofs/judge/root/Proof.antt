@@ -4,7 +4,7 @@ use borrow.Author.Needs.{needs}
 use denote.Ref.{now}
 use Rattle.plan.specs.Root.{isCommon}
 use Rattle.plan.specs.RootLaws.{root-far, root-near}
-use Rattle.plan.proofs.Reading.{read-from, read-to}
+use Rattle.area.specs.EntryLaws.{read-from, read-to}
 use Rattle.plan.proofs.judge.root.Statement.{statement}
 use Rattle.plan.proofs.judge.root.Tie as tie
 

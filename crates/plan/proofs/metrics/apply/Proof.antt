@@ -4,7 +4,7 @@ use Prim.Native.Nat.{_-_, _≤_}
 use native.Mathlib.Omega.{arith}
 use denote.Ref.{now}
 use Rattle.area.specs.Entries.{count}
-use Rattle.plan.proofs.Reading.{read-from, read-to}
+use Rattle.area.specs.EntryLaws.{read-from, read-to}
 use Rattle.plan.proofs.Applying.{Applied, applied-none, applied-more, applied-all}
 use Rattle.plan.proofs.metrics.apply.Statement.{statement}
 use Rattle.plan.proofs.metrics.apply.Tie as tie

@@ -1,0 +1,105 @@
+-- The pairs of the links that were read, kept as a set for each router.
+--     Seen l k s           set i of s holds j exactly where one of the first k links of l is of the pair (i, j)
+--     seen-none, seen-more     it holds before the first link, and of one link more when its pair is added
+--     seen-refusal, link-told      so the refusal of the next link can be told from s
+--     in-sets, seen-next       and a link without fault can be added to it
+use Prim.Native.Nat.{ℕ, suc, _+_, _≤_, _<_}
+use mathlib.Core.Path.{_≡_, refl, sym, ap, subst, _∙_}
+use mathlib.Core.Bool.{Bool, true, false, not, _||_, false≢true}
+use mathlib.Core.Logic.{⊎-elim}
+use mathlib.Core.List.{List}
+use native.Mathlib.Decide.{ℕ-discrete}
+use native.Mathlib.Numerals.{add-one}
+use native.Mathlib.Omega.{arith}
+use lib.Dec.{eqb}
+use lib.ListN.{length, getD, set, replicate, length-set, length-replicate}
+use lib.Seq.{getD-set-same, getD-set-other}
+use borrow.Author.Tests.{eq-eqb, ne-eqb}
+use Rattle.area.specs.declared.entries.Entry.{Entry}
+use Rattle.area.specs.Limits.{width}
+use Rattle.area.specs.Tests.{pick, orThen}
+use Rattle.area.specs.Sets.{bit, added}
+use Rattle.area.specs.SetLaws.{bit-zero, bit-added}
+use Rattle.area.specs.PerRouterLaws.{zeros-at}
+use Rattle.area.specs.Entries.{count, entryOf, from, to, isOf, isFree, entryRefusal, listedRefusal}
+use Rattle.area.specs.EntryLaws.{read-from, of-pair, pair-of, free-none, free-taken, free-kept, faultless-of, listed-faulty, listed-free}
+use Rattle.area.specs.TestLaws.{look, or-none, or-right, then-some, then-none}
+use Rattle.bench_file.specs.Read.{linkRefusal}
+use Rattle.bench_file.specs.ReadLaws.{link-whole, link-sound}
+
+pub record Seen (l : List ℕ) (k : ℕ) (s : List ℕ) : Type 0 where
+  pub size : length s ≡ width
+  pub pairs : (i j : ℕ) → i < width → j < width → bit (getD s i 0) j ≡ not (isFree l k i j)
+
+pub seen-none : (l : List ℕ) → Seen l 0 (replicate width 0)
+seen-none l = record {
+  size = length-replicate {A = ℕ} width 0;
+  pairs = λ i j a b. ap (λ (x : ℕ). bit x j) (zeros-at width i) ∙ bit-zero j ∙ rw (free-none l i j) refl;
+}
+
+-- ---- one pair more
+module _ (l : List ℕ) (k : ℕ) (s : List ℕ) (seen : Seen l k s) (a : from l k < width) (b : to l k < width) where
+  grown : List ℕ
+  grown = set s (from l k) (added width (getD s (from l k) 0) (to l k))
+
+  own : (j : ℕ) → j < width → bit (getD grown (from l k) 0) j ≡ (bit (getD s (from l k) 0) j || eqb j (to l k))
+  unfolding grown
+  own j d =
+      ap (λ (x : ℕ). bit x j) (getD-set-same s (from l k) (added width (getD s (from l k) 0) (to l k)) 0 (omega (arith, seen .size))) ∙ bit-added width (getD s (from l k) 0) (to l k) j d
+
+  kept : (i j : ℕ) → j < width → isOf l k i j ≡ false → Dec (from l k ≡ i) → bit (getD grown i 0) j ≡ bit (getD s i 0) j
+  unfolding grown
+  kept i j d f (no g) = ap (λ (x : ℕ). bit x j) (getD-set-other s (from l k) i (added width (getD s (from l k) 0) (to l k)) 0 (λ q. g (sym q)))
+  kept i j d f (yes e) =
+      subst (λ (x : ℕ). bit (getD grown x 0) j ≡ bit (getD s x 0) j) e
+      (own j d ∙ rw (ne-eqb j (to l k) (λ q. false≢true (sym f ∙ pair-of l k i j e (sym q)))) (or-none (bit (getD s (from l k) 0) j)))
+
+  taken : (i j : ℕ) → j < width → isOf l k i j ≡ true → bit (getD grown i 0) j ≡ true
+  taken i j d t =
+      let p = of-pair l k i j t in
+      subst (λ (x : ℕ). bit (getD grown x 0) j ≡ true) (p .0) (own j d ∙ or-right (bit (getD s (from l k) 0) j) (eqb j (to l k)) (eq-eqb j (to l k) (sym (p .1))))
+
+  pairs-more : (i j : ℕ) → i < width → j < width → bit (getD grown i 0) j ≡ not (isFree l (suc k) i j)
+  pairs-more i j c d =
+      ⊎-elim
+      (λ t. taken i j d t ∙ rw (free-taken l k i j t) refl)
+      (λ f. kept i j d f (ℕ-discrete (from l k) i) ∙ seen .pairs i j c d ∙ rw (free-kept l k i j f) refl)
+      (look (isOf l k i j))
+
+  pub seen-more : Seen l (suc k) (set s (from l k) (added width (getD s (from l k) 0) (to l k)))
+  unfolding grown
+  seen-more = record { size = simp length-set (seen .size); pairs = pairs-more }
+
+-- ---- the refusal of the next link
+-- a pair that was seen is not free
+repeated : (b : Bool) (n : ℕ) → pick (not b) n 0 ≡ pick b 0 n
+repeated true n = refl
+repeated false n = refl
+
+pub seen-refusal : (n : ℕ) (l : List ℕ) (k : ℕ) (s : List ℕ) → n ≤ width → Seen l k s → orThen (entryRefusal n (entryOf l k)) (pick (bit (getD s (from l k) 0) (to l k)) 7 0) ≡ listedRefusal n l k
+seen-refusal n l k s most seen = by-entry (ℕ-discrete (entryRefusal n (entryOf l k)) 0)
+  where
+    by-entry : Dec (entryRefusal n (entryOf l k) ≡ 0) → orThen (entryRefusal n (entryOf l k)) (pick (bit (getD s (from l k) 0) (to l k)) 7 0) ≡ listedRefusal n l k
+    by-entry (no f) = then-some (entryRefusal n (entryOf l k)) _ f ∙ sym (listed-faulty n l k f)
+    by-entry (yes z) =
+        let x = faultless-of n (entryOf l k) z in
+        let told = seen .pairs (from l k) (to l k) (omega (arith, x .from-in)) (omega (arith, x .to-in)) in
+        then-none (entryRefusal n (entryOf l k)) _ z ∙ rw told (repeated (isFree l k (from l k) (to l k)) 7) ∙ sym (listed-free n l k z)
+
+-- ---- a link that was read, with what was told of it
+module _ (n : ℕ) (l : List ℕ) (k : ℕ) (s : List ℕ) (most : n ≤ width) (seen : Seen l k s) (x : Entry) (is : x ≡ entryOf l k) where
+  pub link-told : k < count l → orThen (entryRefusal n x) (pick (bit (getD s (x .from) 0) (x .to)) 7 0) ≡ linkRefusal n l k
+  link-told h =
+      ap (λ (y : Entry). orThen (entryRefusal n y) (pick (bit (getD s (y .from) 0) (y .to)) 7 0)) is ∙ seen-refusal n l k s most seen ∙ sym (link-whole n l k h)
+
+  module _ (z : linkRefusal n l k ≡ 0) where
+    ends : (from l k < width) × (to l k < width)
+    ends = let e = link-sound n l k z .entry in (omega (arith, e .from-in), omega (arith, e .to-in))
+
+    pub in-sets : x .from < width
+    in-sets = omega (arith, read-from is, ends .0)
+
+    pub seen-next : (v : ℕ) → v ≡ added width (getD s (x .from) 0) (x .to) → Seen l (k + 1) (set s (x .from) v)
+    seen-next v e =
+        rw (e, add-one)
+        (subst (λ (y : Entry). Seen l (suc k) (set s (y .from) (added width (getD s (y .from) 0) (y .to)))) (sym is) (seen-more l k s seen (ends .0) (ends .1)))

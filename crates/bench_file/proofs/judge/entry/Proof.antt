@@ -1,0 +1,80 @@
+-- Each return gives the refusal of the tests that led to it.
+use mathlib.Core.Path.{_≡_, refl, sym, _∙_}
+use mathlib.Core.Bool.{Bool, true, false, not}
+use mathlib.Core.List.{List}
+use Prim.Native.Nat.{ℕ, _<_, _≤_}
+use native.Mathlib.Omega.{arith}
+use borrow.Author.Needs.{needs}
+use borrow.Author.Tests.{eqb-true, eqb-false, not-true, not-false}
+use lib.Dec.{eqb}
+use lib.ListN.{getD}
+use Rattle.area.specs.declared.entries.Entry.{Entry}
+use Rattle.area.specs.declared.refusal.Verdict.{Verdict}
+use Rattle.area.specs.Limits.{width}
+use Rattle.area.specs.Refusals.{verdictNumber}
+use Rattle.area.specs.Tests.{pick, orThen}
+use Rattle.area.specs.TestLaws.{then-some, then-none}
+use Rattle.area.specs.Sets.{bit}
+use Rattle.area.specs.Entries.{entryRefusal}
+use Rattle.area.specs.EntryLaws.{faultless-of}
+use Rattle.bench_file.proofs.judge.entry.Statement.{statement}
+use Rattle.bench_file.proofs.judge.entry.Tie as tie
+
+-- one law for each return, by what the calls before it gave
+module _ (n : ℕ) (x : Entry) (s : List ℕ) (v : Verdict) (told : verdictNumber v ≡ entryRefusal n x) (ok : Bool) (good : ok ≡ eqb (verdictNumber v) 0) where
+  abbrev Owed : ℕ
+  Owed = orThen (entryRefusal n x) (pick (bit (getD s (x .from) 0) (x .to)) 7 0)
+
+  faulty : not ok ≡ true → verdictNumber v ≡ Owed
+  faulty h = told ∙ sym (then-some (entryRefusal n x) _ (λ z. eqb-false (verdictNumber v) 0 (sym good ∙ not-true ok h) (told ∙ z)))
+
+  module _ (h : not ok ≡ false) where
+    none : entryRefusal n x ≡ 0
+    none = sym told ∙ eqb-true (verdictNumber v) 0 (sym good ∙ not-false ok h)
+
+    in-sets : n ≤ width → x .from < width
+    in-sets b = omega (arith, faultless-of n x none .from-in)
+
+    module _ (t : Bool) (is : t ≡ bit (getD s (x .from) 0) (x .to)) where
+      repeated : t ≡ true → 7 ≡ Owed
+      repeated e = sym (then-none (entryRefusal n x) _ none ∙ rw (sym is ∙ e) refl)
+
+      new : t ≡ false → 0 ≡ Owed
+      new e = sym (then-none (entryRefusal n x) _ none ∙ rw (sym is ∙ e) refl)
+
+check-requires : tie.Need-check-requires
+check-requires c κs = search needs
+
+is-accepted-requires : tie.Need-is-accepted-requires
+is-accepted-requires c κs = search needs
+
+returns : tie.Need-returns
+returns c = search faulty
+
+mul-member : tie.Need-mul-member
+mul-member c = let own : c .before .before .before .args .link .from < width = search in-sets in omega (arith, own)
+
+array-read-member : tie.Need-array-read-member
+array-read-member c = let own : c .before .before .before .args .link .from < width = search in-sets in omega (arith, own)
+
+member-requires : tie.Need-member-requires
+member-requires c κs = search needs
+
+returns-2 : tie.Need-returns-2
+returns-2 c = search repeated
+
+returns-3 : tie.Need-returns-3
+returns-3 c = search new
+
+pub entry-spec : {M : Type 1} → statement M
+entry-spec =
+    tie.close
+    (tie.spec
+    check-requires
+    is-accepted-requires
+    returns
+    mul-member
+    array-read-member
+    member-requires
+    returns-2
+    returns-3)

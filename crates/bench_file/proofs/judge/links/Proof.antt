@@ -1,0 +1,134 @@
+-- The links before e have no fault, and their pairs are those seen.
+use mathlib.Core.Path.{_≡_, sym, _∙_}
+use mathlib.Core.Bool.{Bool, true, false, not}
+use mathlib.Core.Logic.{_≢_}
+use mathlib.Core.List.{List}
+use Prim.Native.Nat.{ℕ, _-_, _≤_, _<_}
+use native.Mathlib.Omega.{arith}
+use borrow.Author.Count.{below-none, below-more}
+use borrow.Author.Tests.{eqb-true, eqb-false, not-true, not-false}
+use lib.Dec.{eqb}
+use lib.ListN.{getD}
+use denote.Ref.{now}
+use Rattle.area.specs.declared.entries.Entry.{Entry}
+use Rattle.area.specs.declared.refusal.Verdict.{Verdict}
+use Rattle.area.specs.Limits.{width}
+use Rattle.area.specs.Refusals.{verdictNumber}
+use Rattle.area.specs.TestLaws.{first-none, first-fault}
+use Rattle.area.specs.Tests.{pick, orThen, first}
+use Rattle.area.specs.Sets.{bit}
+use Rattle.area.specs.Entries.{count, entryOf, entryRefusal}
+use Rattle.bench_file.specs.Read.{linkRefusal}
+use Rattle.bench_file.specs.ReadLaws.{link-cut}
+use Rattle.bench_file.proofs.Pairs.{Seen, seen-none, link-told, in-sets as inside, seen-next}
+use Rattle.bench_file.proofs.judge.links.Statement.{statement}
+use Rattle.bench_file.proofs.judge.links.Tie as tie
+
+-- a link that is cut short is refused
+some : (n : ℕ) (l : List ℕ) (e : ℕ) → count l ≤ e → linkRefusal n l e ≢ 0
+some n l e h z = let cut = link-cut n l e h in let x : ⊥ = omega (arith, cut, z) in x
+
+-- one turn, by what the calls gave
+module _ (n : ℕ) (l : List ℕ) (e : ℕ) (s : List ℕ) (most : n ≤ width) (seen : Seen l e s) (whole : ℕ) (counted : whole ≡ count l) (h : e < whole) (x : Entry) (is : x ≡ entryOf l e) (v : Verdict) (told : verdictNumber v ≡ orThen (entryRefusal n x) (pick (bit (getD s (x .from) 0) (x .to)) 7 0)) (ok : Bool) (good : ok ≡ eqb (verdictNumber v) 0) where
+  judged : verdictNumber v ≡ linkRefusal n l e
+  judged = told ∙ link-told n l e s most seen x is (omega arith)
+
+  faulty : (k : ℕ) → e < k → ((d : ℕ) → d < e → linkRefusal n l d ≡ 0) → not ok ≡ true → verdictNumber v ≡ first k (linkRefusal n l)
+  faulty k b f t = judged ∙ sym (first-fault (linkRefusal n l) e k b f (λ z. eqb-false (verdictNumber v) 0 (sym good ∙ not-true ok t) (judged ∙ z)))
+
+  passed : not ok ≡ false → linkRefusal n l e ≡ 0
+  passed t = sym judged ∙ eqb-true (verdictNumber v) 0 (sym good ∙ not-false ok t)
+
+  in-sets : not ok ≡ false → x .from < width
+  in-sets t = inside n l e s most seen x is (passed t)
+
+abbrev Inv-loop : tie.InvT-loop
+Inv-loop n list announced seen₀ whole e₀ seen e = (e ≤ announced) × (whole ≡ count list) × Seen list e seen × ((k : ℕ) → k < e → linkRefusal n list k ≡ 0)
+
+abbrev μ-loop : tie.MeasureT-loop
+μ-loop n list announced seen₀ whole e₀ seen e = announced - e
+
+count-requires : tie.Need-count-requires Inv-loop μ-loop
+count-requires c κs = omega arith
+
+loop-holds : tie.Need-loop-holds Inv-loop μ-loop
+loop-holds c = (omega arith, c .count .ensures, seen-none _, below-none _)
+
+returns : tie.Need-returns Inv-loop μ-loop
+returns c =
+    let at-loop = c .before .before .loop in
+    let a = c .before .before .before .before .before .args in
+    sym (first-fault (linkRefusal (a .n) (now (a .list))) (at-loop .e) (a .announced) (omega arith) (at-loop .inv .3) (some (a .n) (now (a .list)) (at-loop .e) (omega arith)) ∙ link-cut (a .n) (now (a .list)) (at-loop .e) (omega arith))
+
+decode-requires : tie.Need-decode-requires Inv-loop μ-loop
+decode-requires c κs = omega arith
+
+entry-requires : tie.Need-entry-requires Inv-loop μ-loop
+entry-requires c κs = omega arith
+
+is-accepted-requires : tie.Need-is-accepted-requires Inv-loop μ-loop
+is-accepted-requires c κs = omega arith
+
+returns-2 : tie.Need-returns-2 Inv-loop μ-loop
+returns-2 c =
+    let at-loop = c .before .before .before .before .before .before .loop in
+    let a = c .before .before .before .before .before .before .before .before .before .args in
+    faulty (a .n) (now (a .list)) (at-loop .e) (at-loop .seen) (omega arith) (at-loop .inv .2) _ (at-loop .inv .1) (omega arith) (c .before .before .before .decode .result) (c .before .before .before .decode .ensures) (c .before .before .entry .result) (c .before .before .entry .ensures) (c .before .is-accepted .result) (c .before .is-accepted .ensures) (a .announced) (omega arith) (at-loop .inv .3) (c .if2 .taken)
+
+mul-add : tie.Need-mul-add Inv-loop μ-loop
+mul-add c = let link = c .before .before .before .decode .result in let own : link .from < width = search in-sets in omega (arith, own)
+
+array-read-add : tie.Need-array-read-add Inv-loop μ-loop
+array-read-add c = let link = c .before .before .before .decode .result in let own : link .from < width = search in-sets in omega (arith, own)
+
+add-requires : tie.Need-add-requires Inv-loop μ-loop
+add-requires c κs = omega arith
+
+mul-seen : tie.Need-mul-seen Inv-loop μ-loop
+mul-seen c = let link = c .before .before .before .before .decode .result in let own : link .from < width = search in-sets in omega (arith, own)
+
+array-write-seen : tie.Need-array-write-seen Inv-loop μ-loop
+array-write-seen c = let link = c .before .before .before .before .decode .result in let own : link .from < width = search in-sets in omega (arith, own)
+
+add-e : tie.Need-add-e Inv-loop μ-loop
+add-e c = omega arith
+
+loop-less : tie.Need-loop-less Inv-loop μ-loop
+loop-less c = omega arith
+
+loop-again : tie.Need-loop-again Inv-loop μ-loop
+loop-again c =
+    let turn = c .before .before in
+    let at-loop = turn .before .before .before .before .before .loop in
+    let a = turn .before .before .before .before .before .before .before .before .args in
+    let none = passed (a .n) (now (a .list)) (at-loop .e) (at-loop .seen) (omega arith) (at-loop .inv .2) _ (at-loop .inv .1) (omega arith) (turn .before .before .decode .result) (turn .before .before .decode .ensures) (turn .before .entry .result) (turn .before .entry .ensures) (turn .is-accepted .result) (turn .is-accepted .ensures) (c .before .if2 .left) in
+    (omega arith, at-loop .inv .1, seen-next (a .n) (now (a .list)) (at-loop .e) (at-loop .seen) (omega arith) (at-loop .inv .2) (turn .before .before .decode .result) (turn .before .before .decode .ensures) none (c .add .result) (c .add .ensures), below-more _ (at-loop .e) (at-loop .inv .3) none)
+
+returns-3 : tie.Need-returns-3 Inv-loop μ-loop
+returns-3 c =
+    let at-loop = c .before .loop in
+    let a = c .before .before .before .before .args in
+    sym (first-none (linkRefusal (a .n) (now (a .list))) (a .announced) (λ k h. at-loop .inv .3 k (omega arith)))
+
+pub links-spec : {M : Type 1} → statement M
+links-spec =
+    tie.close
+    (tie.spec
+    Inv-loop
+    μ-loop
+    count-requires
+    loop-holds
+    returns
+    decode-requires
+    entry-requires
+    is-accepted-requires
+    returns-2
+    mul-add
+    array-read-add
+    add-requires
+    mul-seen
+    array-write-seen
+    add-e
+    loop-less
+    loop-again
+    returns-3)

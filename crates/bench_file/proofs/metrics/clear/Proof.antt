@@ -1,0 +1,63 @@
+-- The places before k are cleared.
+use mathlib.Core.Path.{_≡_, refl}
+use Prim.Native.Nat.{_-_, _*_, _≤_}
+use native.Mathlib.Omega.{arith}
+use lib.ListN.{length, length-set}
+use denote.Ref.{now}
+use Rattle.area.specs.Limits.{width, unused}
+use Rattle.area.specs.TableLaws.{Front, front-none, front-more, places-tabulate}
+use Rattle.area.specs.Entries.{listed}
+use Rattle.bench_file.specs.Read.{linked}
+use Rattle.bench_file.proofs.metrics.clear.Statement.{statement}
+use Rattle.bench_file.proofs.metrics.clear.Tie as tie
+
+abbrev Inv-loop : tie.InvT-loop
+Inv-loop table₀ k₀ table k = (k ≤ width * width) × (length table ≡ width * width) × Front k (λ i. unused) table
+
+abbrev μ-loop : tie.MeasureT-loop
+μ-loop table₀ k₀ table k = width * width - k
+
+loop-holds : tie.Need-loop-holds Inv-loop μ-loop
+loop-holds c = (omega arith, omega arith, front-none _ (now (c .args .table)))
+
+mul-table : tie.Need-mul-table Inv-loop μ-loop
+mul-table c = omega arith
+
+slice-write-table : tie.Need-slice-write-table Inv-loop μ-loop
+slice-write-table c = omega arith
+
+add-k : tie.Need-add-k Inv-loop μ-loop
+add-k c = omega arith
+
+loop-less : tie.Need-loop-less Inv-loop μ-loop
+loop-less c = omega arith
+
+loop-again : tie.Need-loop-again Inv-loop μ-loop
+loop-again c =
+    let at-loop = c .before .loop in
+    (omega arith, simp length-set (at-loop .inv .1), front-more (at-loop .k) _ (at-loop .table) _ (at-loop .inv .2) (omega arith) refl)
+
+same-length : tie.Need-same-length Inv-loop μ-loop
+same-length c = omega arith
+
+returns : tie.Need-returns Inv-loop μ-loop
+unfolding linked listed
+returns c =
+    let at-loop = c .before .loop in
+    let e : at-loop .k ≡ width * width = omega arith in
+    places-tabulate width (λ i j. unused) (at-loop .table) (at-loop .inv .1) (rw e at (at-loop .inv .2))
+
+pub clear-spec : {M : Type 1} → statement M
+clear-spec =
+    tie.close
+    (tie.spec
+    Inv-loop
+    μ-loop
+    loop-holds
+    mul-table
+    slice-write-table
+    add-k
+    loop-less
+    loop-again
+    same-length
+    returns)

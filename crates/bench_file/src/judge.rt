@@ -1,0 +1,126 @@
+// Whether a file is accepted: the first fault in the order of its bytes.
+use crate::two;
+use crate::wide;
+use area::entries::Entry;
+use area::entries::check;
+use area::entries::count;
+use area::entries::decode;
+use area::limits::ENTRY;
+use area::limits::MOST_CHANGES;
+use area::limits::MOST_STEPS;
+use area::limits::STEP;
+use area::limits::WIDTH;
+use area::refusal::Refusal;
+use area::refusal::Verdict;
+use area::sets::add;
+use area::sets::member;
+ghost use mathlib.Core.Path.{_≡_};
+ghost use Prim.Native.Nat.{_≤_, _*_};
+ghost use lib.ListN.{getD};
+ghost use Rattle.area.specs.Limits.{width};
+ghost use Rattle.area.specs.Refusals.{verdictNumber};
+ghost use Rattle.area.specs.Tests.{pick, orThen, first};
+ghost use Rattle.area.specs.Sets.{bit};
+ghost use Rattle.area.specs.Entries.{entryRefusal};
+ghost use Rattle.bench_file.specs.Sections.{linkCount};
+ghost use Rattle.bench_file.specs.Read.{linkRefusal, restRefusal, fileRefusal};
+
+pub(crate) fn file(file: &[u8]) -> Verdict
+    ensures { λ r. ⌜ verdictNumber r ≡ fileRefusal (now (file .entry)) ⌝ }
+{
+    if file.len() < 1 {
+        return Verdict::Refused(Refusal::Incomplete);
+    }
+    let n = wide(file[0]);
+    if n < 1 {
+        return Verdict::Refused(Refusal::RouterCount);
+    }
+    if WIDTH < n {
+        return Verdict::Refused(Refusal::RouterCount);
+    }
+    if file.len() < 3 {
+        return Verdict::Refused(Refusal::Incomplete);
+    }
+    let announced = two(file, 1);
+    if n * (n - 1) < announced {
+        return Verdict::Refused(Refusal::TooMany);
+    }
+    let answer = links(n, &file[3..], announced);
+    if !answer.is_accepted() {
+        return answer;
+    }
+    rest(file, announced)
+}
+
+// The fault of the first faulty one of the links that the count announces. `list` is the bytes from the first link on.
+fn links(n: usize, list: &[u8], announced: usize) -> Verdict
+    requires { ⌜ n ≤ width ⌝ }
+    ensures { λ r. ⌜ verdictNumber r ≡ first announced (linkRefusal n (now (list .entry))) ⌝ }
+{
+    // A link that is not used leaves no trace in the metric table, so the pairs are kept apart from it: set i holds every j of a link from i to j.
+    let mut seen = [0u32; WIDTH];
+    let whole = count(list);
+    for e in 0..announced {
+        if whole <= e {
+            return Verdict::Refused(Refusal::Incomplete);
+        }
+        let link = decode(list, e);
+        let answer = entry(n, link, seen);
+        if !answer.is_accepted() {
+            return answer;
+        }
+        let from = link.from;
+        let to = link.to;
+        seen[from] = add(seen[from], to);
+    }
+    Verdict::Accepted
+}
+
+// The fault of one link, beside the pairs of those before it.
+fn entry(n: usize, link: Entry, seen: [u32; WIDTH]) -> Verdict
+    requires { ⌜ n ≤ width ⌝ }
+    ensures { λ r. ⌜ verdictNumber r ≡ orThen (entryRefusal n link) (pick (bit (getD seen (link .from) 0) (link .to)) 7 0) ⌝ }
+{
+    let answer = check(n, link);
+    if !answer.is_accepted() {
+        return answer;
+    }
+    let from = link.from;
+    let to = link.to;
+    if member(seen[from], to) {
+        return Verdict::Refused(Refusal::Repeated);
+    }
+    Verdict::Accepted
+}
+
+// The first fault after the links.
+fn rest(file: &[u8], links: usize) -> Verdict
+    requires { ⌜ links ≡ linkCount (now file) ⌝ }
+    requires { ⌜ links ≤ width * width ⌝ }
+    ensures { λ r. ⌜ verdictNumber r ≡ restRefusal (now (file .entry)) ⌝ }
+{
+    let at = 3 + ENTRY * links;
+    if file.len() < at + 1 {
+        return Verdict::Refused(Refusal::Incomplete);
+    }
+    let changes = wide(file[at]);
+    if MOST_CHANGES < changes {
+        return Verdict::Refused(Refusal::TooMany);
+    }
+    let at = at + 1 + ENTRY * changes;
+    if file.len() < at + 2 {
+        return Verdict::Refused(Refusal::Incomplete);
+    }
+    let steps = two(file, at);
+    if MOST_STEPS < steps {
+        return Verdict::Refused(Refusal::TooMany);
+    }
+    let end = at + 2 + STEP * steps;
+    if file.len() < end {
+        return Verdict::Refused(Refusal::Incomplete);
+    }
+    if end < file.len() {
+        return Verdict::Refused(Refusal::Trailing);
+    }
+    Verdict::Accepted
+}

@@ -1,0 +1,131 @@
+-- A text that is decoded up to a place.
+--     Decoded t o p n at s     the buffer was o and is p; its first n bytes are what comes of the first `at` bytes of the text t, of which the last was read as s
+use Prim.Native.Nat.{ℕ, _+_, _-_, _≤_, _<_}
+use mathlib.Core.Path.{_≡_, refl, sym, _∙_}
+use mathlib.Core.Logic.{⊎-elim}
+use mathlib.Core.List.{List, [], _∷_, _++_}
+use native.Mathlib.Omega.{arith}
+use native.Mathlib.Numerals.{add-one}
+use denote.Enum.Declared.{tagOf}
+use types.Run.{OneOf}
+use lib.ListN.{length, getD, drop, drop-of-length-le}
+use lib.Seq.{drop-cons}
+use Rattle.text.specs.Text.{Appended, line}
+use Rattle.text.specs.TextLaws.{appended-none, appended-then, appended-anew}
+use Rattle.hex.specs.declared.Reading.{Reading}
+use Rattle.hex.specs.declared.Reading.the-variants.{Between, Comment, High, Byte, Bad, Odd}
+use Rattle.hex.specs.Hex.{digit, isSpace, first, second, next, highHalf, byteOf, badDigit, oddDigit, unlessFault, decode, decoded}
+use Rattle.hex.specs.ReadingLaws.{first-not-odd, high-small}
+use Rattle.hex.proofs.Reading.{the-type}
+
+-- a reading that is no fault
+abbrev pub Fine : Reading → Type 0
+Fine s = (k : ℕ) (l : List ℕ) → unlessFault k s l ≡ l
+
+pub record Decoded (t o p : List ℕ) (n at : ℕ) (s : Reading) : Type 0 where
+  pub done : List ℕ
+  pub rest : decoded t ≡ decode done at s (drop at t)
+  pub written : Appended o 0 done p n
+  pub small : highHalf s < 16
+  pub fine : Fine s
+  pub started : (b : ℕ) → next s b ≡ Odd → 1 ≤ at
+
+pub decoded-none : (t o : List ℕ) → Decoded t o o 0 0 Between
+unfolding decoded highHalf unlessFault next
+decoded-none t o = record {
+  done = [];
+  rest = refl;
+  written = appended-none o 0 (omega arith);
+  small = omega arith;
+  fine = λ k l. refl;
+  started = λ b e. absurd (first-not-odd b e);
+}
+
+-- ---- a reading that ends a byte, and one that is neither that nor a fault
+fine-byte : (r : Reading) (x : ℕ) → r ≡ Byte x → Fine r
+unfolding unlessFault
+fine-byte r x e k l = rw e refl
+
+fine-quiet : (r : Reading) → OneOf (0 ∷ 1 ∷ 2 ∷ []) (tagOf the-type r) → Fine r
+unfolding unlessFault
+fine-quiet Between h k l = refl
+fine-quiet Comment h k l = refl
+fine-quiet (High x) h k l = refl
+fine-quiet (Byte x) h k l = refl
+fine-quiet Bad h k l = absurd (let x : ⊥ = ⊎-elim (λ e. omega arith) (λ g. ⊎-elim (λ e. omega arith) (λ e. omega arith) g) h in x)
+fine-quiet Odd h k l = absurd (let x : ⊥ = ⊎-elim (λ e. omega arith) (λ g. ⊎-elim (λ e. omega arith) (λ e. omega arith) g) h in x)
+
+no-byte : (r : Reading) → OneOf (0 ∷ 1 ∷ 2 ∷ []) (tagOf the-type r) → byteOf r ≡ []
+unfolding byteOf
+no-byte Between h = refl
+no-byte Comment h = refl
+no-byte (High x) h = refl
+no-byte (Byte x) h = absurd (let x : ⊥ = ⊎-elim (λ e. omega arith) (λ g. ⊎-elim (λ e. omega arith) (λ e. omega arith) g) h in x)
+no-byte Bad h = refl
+no-byte Odd h = refl
+
+-- ---- the byte at place `at` is read as r
+module _ {t o p : List ℕ} {n at : ℕ} {s : Reading} (so-far : Decoded t o p n at s) (more : at < length t) (r : Reading) (is : r ≡ next s (getD t at 0)) where
+  byte-read : decoded t ≡ unlessFault at r (decode (so-far .done ++ byteOf r) (at + 1) r (drop (at + 1) t))
+  unfolding decode
+  byte-read = so-far .rest ∙ rw (drop-cons t at 0 more, add-one, is) refl
+
+  decoded-more : {q : List ℕ} {m : ℕ} → Fine r → Appended p n (byteOf r) q m → Decoded t o q m (at + 1) r
+  decoded-more fine kept = record {
+    done = so-far .done ++ byteOf r;
+    rest = byte-read ∙ fine at (decode (so-far .done ++ byteOf r) (at + 1) r (drop (at + 1) t));
+    written = appended-then (so-far .written) kept;
+    small = rw is (high-small s (getD t at 0));
+    fine = fine;
+    started = λ b e. omega arith;
+  }
+
+  pub decoded-byte : {q : List ℕ} {m : ℕ} (x : ℕ) → r ≡ Byte x → Appended p n (x ∷ []) q m → Decoded t o q m (at + 1) (Byte x)
+  unfolding byteOf
+  decoded-byte {q} {m} x e kept = let so : Decoded t o q m (at + 1) r = decoded-more (fine-byte r x e) (rw e kept) in rw e at so
+
+  pub decoded-quiet : OneOf (0 ∷ 1 ∷ 2 ∷ []) (tagOf the-type r) → Decoded t o p n (at + 1) r
+  decoded-quiet h = decoded-more (fine-quiet r h) (rw (no-byte r h) (appended-none p n (so-far .written .within)))
+
+  -- the first fault
+  pub decoded-bad : {q : List ℕ} {m : ℕ} → r ≡ Bad → Appended p 0 (line badDigit at) q m → Appended o 0 (decoded t) q m
+  unfolding unlessFault
+  decoded-bad e x = rw (byte-read, e) (appended-anew (so-far .written .size) x)
+
+  pub decoded-odd : {q : List ℕ} {m : ℕ} → r ≡ Odd → Appended p 0 (line oddDigit (at - 1)) q m → Appended o 0 (decoded t) q m
+  unfolding unlessFault
+  decoded-odd e x = rw (byte-read, e) (appended-anew (so-far .written .size) x)
+
+  pub some-before : r ≡ Odd → 1 ≤ at
+  some-before e = so-far .started (getD t at 0) (sym is ∙ e)
+
+-- ---- the end of the text, after s
+end-fine : (s : Reading) → Fine s → OneOf (0 ∷ 1 ∷ 3 ∷ 4 ∷ 5 ∷ []) (tagOf the-type s) → (k : ℕ) (l : List ℕ) → unlessFault k (next s 10) l ≡ l
+unfolding unlessFault next first digit isSpace
+end-fine Between f h k l = refl
+end-fine Comment f h k l = refl
+end-fine (High x) f h k l =
+    absurd (let x : ⊥ = ⊎-elim (λ e. omega arith) (⊎-elim (λ e. omega arith) (⊎-elim (λ e. omega arith) (⊎-elim (λ e. omega arith) (λ e. omega arith)))) h in x)
+end-fine (Byte x) f h k l = refl
+end-fine Bad f h k l = f k l
+end-fine Odd f h k l = f k l
+
+module _ {t o p : List ℕ} {n at : ℕ} {s : Reading} (so-far : Decoded t o p n at s) (ends : at ≡ length t) where
+  at-end : decoded t ≡ unlessFault at (next s 10) (so-far .done)
+  unfolding decode
+  at-end = so-far .rest ∙ rw (drop-of-length-le t {i = at} (omega arith)) refl
+
+  pub decoded-all : OneOf (0 ∷ 1 ∷ 3 ∷ 4 ∷ 5 ∷ []) (tagOf the-type s) → Appended o 0 (decoded t) p n
+  decoded-all h = rw (at-end, end-fine s (so-far .fine) h at (so-far .done)) (so-far .written)
+
+  module _ (h : ℕ) (e : s ≡ High h) where
+    lone : next s 10 ≡ Odd
+    unfolding next second digit isSpace
+    lone = rw e refl
+
+    pub some-text : 1 ≤ length t
+    some-text = omega (arith, so-far .started 10 lone)
+
+    pub decoded-lone : {q : List ℕ} {m : ℕ} → Appended p 0 (line oddDigit (length t - 1)) q m → Appended o 0 (decoded t) q m
+    unfolding unlessFault
+    decoded-lone x = rw (at-end, lone, ends) (appended-anew (so-far .written .size) x)

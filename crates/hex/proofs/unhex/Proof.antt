@@ -1,0 +1,43 @@
+-- A text that is too long has a line of its own.
+use mathlib.Core.Path.{refl, _∙_}
+use native.Mathlib.Omega.{arith}
+use borrow.Author.Needs.{needs}
+use Rattle.hex.specs.HexLaws.{unhexed-long, unhexed-decoded}
+use denote.Ref.{now}
+use Rattle.hex.proofs.unhex.Statement.{statement}
+use Rattle.hex.proofs.unhex.Tie as tie
+
+slice-aggregate-append : tie.Need-slice-aggregate-append
+slice-aggregate-append c = search needs
+
+append-requires : tie.Need-append-requires
+append-requires c κs = search needs
+
+same-length : tie.Need-same-length
+same-length c = search needs
+
+returns : tie.Need-returns
+returns c =
+    let e = c .before .before .append .ensures in ((e .within, e .counted), e .text ∙ rw (unhexed-long (now (c .before .before .before .before .before .before .before .before .args .text)) (omega arith)) refl)
+
+decode-requires : tie.Need-decode-requires
+decode-requires c κs = search needs
+
+same-length-2 : tie.Need-same-length-2
+same-length-2 c = search needs
+
+returns-2 : tie.Need-returns-2
+returns-2 c =
+    let e = c .before .before .decode .ensures in ((e .within, e .counted), e .text ∙ rw (unhexed-decoded (now (c .before .before .before .before .before .before .before .args .text)) (omega arith)) refl)
+
+pub unhex-spec : {M : Type 1} → statement M
+unhex-spec =
+    tie.close
+    (tie.spec
+    slice-aggregate-append
+    append-requires
+    same-length
+    returns
+    decode-requires
+    same-length-2
+    returns-2)

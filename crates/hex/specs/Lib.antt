@@ -1,0 +1,4 @@
+-- What a text in hexadecimal comes to. First the definitions, then the laws about them.
+pub mod Hex
+pub mod ReadingLaws
+pub mod HexLaws

@@ -1,0 +1,163 @@
+// Text in hexadecimal to bytes.
+use text::append;
+use text::line;
+ghost use mathlib.Core.Path.{_≡_};
+ghost use mathlib.Core.List.{[], _∷_};
+ghost use Prim.Native.Nat.{_≤_, _<_};
+ghost use lib.ListN.{length, take};
+ghost use Rattle.text.specs.Text.{Appended, line};
+ghost use Rattle.hex.specs.Hex.{digit, isSpace, first, second, next, highHalf, badDigit, oddDigit, most, decoded, unhexed};
+
+// A longer text is not decoded.
+const MOST: usize = 131072;
+
+// What a byte of a text is, by the bytes before it.
+enum Reading {
+    // White space, or the end of a comment.
+    Between,
+    // Part of a comment.
+    Comment,
+    // The first digit of a pair: the high half of a byte.
+    High(u8),
+    // The second digit of a pair: a whole byte.
+    Byte(u8),
+    // A byte that may not stand here.
+    Bad,
+    // White space or a comment after the first digit of a pair.
+    Odd,
+}
+
+// Writes what `text` is in bytes, or the line that says its first fault, to the start of `out`, as far as that has room, and gives the number of bytes written.
+pub fn unhex(text: &[u8], out: &mut [u8]) -> usize
+    ensures { λ r. ⌜ (r ≤ length (now (out .exit))) × (r ≡ length (take r (now (out .exit)))) ⌝ }
+    ensures { λ r. ⌜ take r (now (out .exit)) ≡ take (length (now (out .entry))) (unhexed (now (text .entry))) ⌝ }
+{
+    if MOST < text.len() {
+        return append(out, 0, b"too long\n");
+    }
+    decode(text, out)
+}
+
+// The same for a text that is not too long.
+fn decode(text: &[u8], out: &mut [u8]) -> usize
+    requires { ⌜ length (now text) ≤ most ⌝ }
+    ensures { λ r. ⌜ Appended (now (out .entry)) 0 (decoded (now (text .entry))) (now (out .exit)) r ⌝ }
+{
+    let mut reading = Reading::Between;
+    let mut n = 0;
+    for at in 0..text.len() {
+        reading = step(reading, text[at]);
+        match reading {
+            Reading::Bad => return bad(out, at),
+            Reading::Odd => return odd(out, at - 1),
+            Reading::Byte(b) => n = put(out, n, b),
+            _ => {}
+        }
+    }
+    if let Reading::High(_) = reading {
+        return odd(out, text.len() - 1);
+    }
+    n
+}
+
+// What the byte b is after a byte that was read as `before`.
+fn step(before: Reading, b: u8) -> Reading
+    requires { ⌜ highHalf before < 16 ⌝ }
+    ensures { λ r. ⌜ r ≡ next before b ⌝ }
+{
+    match before {
+        Reading::Between => first(b),
+        Reading::Comment => if b == b'\n' {
+            Reading::Between
+        } else {
+            Reading::Comment
+        },
+        Reading::High(h) => second(h, b),
+        Reading::Byte(_) => first(b),
+        Reading::Bad => Reading::Bad,
+        Reading::Odd => Reading::Odd,
+    }
+}
+
+// What the byte b is where a byte may start.
+fn first(b: u8) -> Reading
+    ensures { λ r. ⌜ r ≡ first b ⌝ }
+{
+    let half = digit(b);
+    if half < 16 {
+        return Reading::High(half);
+    }
+    if is_space(b) {
+        return Reading::Between;
+    }
+    if b == b'#' {
+        Reading::Comment
+    } else {
+        Reading::Bad
+    }
+}
+
+// What the byte b is after the high half h.
+fn second(h: u8, b: u8) -> Reading
+    requires { ⌜ h < 16 ⌝ }
+    ensures { λ r. ⌜ r ≡ second h b ⌝ }
+{
+    let half = digit(b);
+    if half < 16 {
+        return Reading::Byte(16 * h + half);
+    }
+    if is_space(b) {
+        return Reading::Odd;
+    }
+    if b == b'#' {
+        Reading::Odd
+    } else {
+        Reading::Bad
+    }
+}
+
+// The value of a hexadecimal digit, and 16 for every other byte.
+fn digit(b: u8) -> u8
+    ensures { λ r. ⌜ r ≡ digit b ⌝ }
+{
+    match b {
+        b'0'..=b'9' => b - 48,
+        b'A'..=b'F' => b - 55,
+        b'a'..=b'f' => b - 87,
+        _ => 16,
+    }
+}
+
+// Is b white space?
+fn is_space(b: u8) -> bool
+    ensures { λ r. ⌜ r ≡ isSpace b ⌝ }
+{
+    match b {
+        9..=13 | 32 => true,
+        _ => false,
+    }
+}
+
+// Appends one byte.
+fn put(out: &mut [u8], at: usize, b: u8) -> usize
+    ensures { λ r. ⌜ Appended (now (out .entry)) at (b ∷ []) (now (out .exit)) r ⌝ }
+{
+    let one = [b];
+    append(out, at, &one)
+}
+
+// Makes `out` the line of a byte at place `at` that may not stand there.
+fn bad(out: &mut [u8], at: usize) -> usize
+    requires { ⌜ at < most ⌝ }
+    ensures { λ r. ⌜ Appended (now (out .entry)) 0 (line badDigit at) (now (out .exit)) r ⌝ }
+{
+    line(out, 0, b"bad digit at ", at as u32)
+}
+
+// Makes `out` the line of a digit at place `at` that has no second digit.
+fn odd(out: &mut [u8], at: usize) -> usize
+    requires { ⌜ at < most ⌝ }
+    ensures { λ r. ⌜ Appended (now (out .entry)) 0 (line oddDigit at) (now (out .exit)) r ⌝ }
+{
+    line(out, 0, b"odd digit at ", at as u32)
+}

@@ -1,0 +1,33 @@
+use borrow.Author.Needs.{needs}
+use Rattle.report.specs.LineLaws.{refused-appended}
+use Rattle.report.proofs.rehearsal.refused.Statement.{statement}
+use Rattle.report.proofs.rehearsal.refused.Tie as tie
+
+slice-aggregate-append : tie.Need-slice-aggregate-append
+slice-aggregate-append c = search needs
+
+append-requires : tie.Need-append-requires
+append-requires c κs = search needs
+
+slice-aggregate-line : tie.Need-slice-aggregate-line
+slice-aggregate-line c = search needs
+
+line-requires : tie.Need-line-requires
+line-requires c κs = search needs
+
+same-length : tie.Need-same-length
+same-length c = search needs
+
+returns : tie.Need-returns
+returns c = search refused-appended
+
+pub refused-spec : {M : Type 1} → statement M
+refused-spec =
+    tie.close
+    (tie.spec
+    slice-aggregate-append
+    append-requires
+    slice-aggregate-line
+    line-requires
+    same-length
+    returns)

@@ -1,0 +1,23 @@
+-- What a bench file gives before its first step: Read, and then Plan (01, "The rehearsal"). f is the file.
+use Prim.Native.Nat.{ℕ}
+use mathlib.Core.List.{List}
+use Rattle.area.specs.Tests.{orThen}
+use Rattle.plan.specs.declared.Record.{Record}
+use Rattle.plan.specs.Plan.{Tables, areTables, planRefusal, fresh, filled}
+use Rattle.bench_file.specs.Sections.{routers, linkCount, links, changes}
+use Rattle.bench_file.specs.Read.{readRefusal, linked}
+
+-- the metrics of the file's links
+abbrev pub metrics : List ℕ → List ℕ
+metrics f = linked (links f) (linkCount f)
+
+-- The number of Read's refusal, and then of Plan's; 0 where neither refuses. m is the table that Read is lent, and t are those that Plan is.
+unfoldable pub refusal : List ℕ → List ℕ → Tables → ℕ
+refusal f m t = orThen (readRefusal f m) (planRefusal (routers f) (metrics f) (changes f) (areTables (metrics f) t))
+
+-- Plan's record, and the tables that it fills, of a file that is not refused
+abbrev pub planned : List ℕ → Record
+planned f = fresh (routers f) (metrics f) (changes f)
+
+abbrev pub tablesOf : List ℕ → Tables
+tablesOf f = filled (routers f) (metrics f) (changes f)

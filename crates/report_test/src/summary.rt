@@ -1,0 +1,46 @@
+// A long text by its length, a checksum, its first lines and its last ones.
+use crate::print;
+ghost use Prim.Native.Nat.{_≤_, _<_};
+ghost use lib.ListN.{length};
+
+// The text of 32 routers and 4,096 steps: 34 lines, and the last three of 4,129.
+pub fn print(text: &[u8]) {
+    print::line(b"length ", text.len() as u64);
+    print::line(b"checksum ", checksum(text));
+    let first = lines(text, 34);
+    let last = lines(text, 4126);
+    print::text(&text[0..first]);
+    print::text(&text[last..]);
+}
+
+// The length of so many lines.
+fn lines(text: &[u8], count: usize) -> usize
+    ensures { λ r. ⌜ r ≤ length (now (text .entry)) ⌝ }
+{
+    let mut seen = 0;
+    for at in 0..text.len() {
+        if seen == count {
+            return at;
+        }
+        if text[at] == b'\n' {
+            seen += 1;
+        }
+    }
+    text.len()
+}
+
+// A sum of all bytes that depends on their order.
+fn checksum(text: &[u8]) -> u64 {
+    let mut sum = 0;
+    for at in 0..text.len() {
+        sum = added(sum, text[at]);
+    }
+    sum
+}
+
+fn added(sum: u64, b: u8) -> u64
+    requires { ⌜ sum < 4294967291 ⌝ }
+    ensures { λ r. ⌜ r < 4294967291 ⌝ }
+{
+    (sum * 257 + b as u64) % 4294967291
+}

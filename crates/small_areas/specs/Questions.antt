@@ -1,0 +1,112 @@
+-- What can be asked of a bench file f, and what the definitions answer: Read's on the file, then those of Paths, Plan and Step on what Read gives.
+use Prim.Native.Nat.{ℕ, _*_}
+use mathlib.Core.List.{List, _∷_}
+use lib.ListN.{getD, take, replicate}
+use Rattle.area.specs.Limits.{width}
+use Rattle.area.specs.Tests.{orThen, all, first}
+use Rattle.area.specs.Sets.{bit, setOf, added, removed, subset}
+use Rattle.area.specs.Sizes.{isCount, isTable}
+use Rattle.area.specs.Tables.{cell, build, tabulate, perRouter}
+use Rattle.area.specs.Entries.{count, entryOf, isFree, entryRefusal, listedRefusal, listed}
+use Rattle.paths.specs.Topology.{isLink, topology}
+use Rattle.paths.specs.Distance.{sums, least}
+use Rattle.paths.specs.NextHops.{isNext, nextHops}
+use Rattle.paths.specs.Paths.{isMetric, areMetrics, refusalOf, distanceCell, hopCell, distancesOf, hopsOf}
+use Rattle.plan.specs.declared.Record.{Record}
+use Rattle.plan.specs.Changes.{changeRefusal, isRise, isFall}
+use Rattle.plan.specs.Root.{isCommon}
+use Rattle.plan.specs.NewMetrics.{newCell, newMetrics}
+use Rattle.plan.specs.Waiting.{oldHops, newHops, waiting, telling, due}
+use Rattle.plan.specs.Rank.{greatest, above, longest, rank}
+use Rattle.plan.specs.Plan.{Tables, tables, areTables, changesRefusal, planRefusal, isPlanned, fresh, blank, filled, recordOf, tablesOf}
+use Rattle.steps.specs.Answers.{Reply, refused}
+use Rattle.steps.specs.Machine.{learn, release, ready, write, finish, listens, deliver, isRecord, isKind, readsB, areRouters, callOf, stepOf}
+use Rattle.steps.specs.Run.{callsOf, replies}
+use Rattle.text.specs.Text.{digits, decimal, field, line}
+use Rattle.bench_file.specs.Sections.{changes, steps}
+use Rattle.report.specs.Lines.{refusedLine, routerLine, routerLines, answerText, stepLine, stepLines}
+use Rattle.report.specs.Report.{rehearsal}
+use Rattle.bench_file.specs.Read.{mostLinks, linkRefusal, restRefusal, fileRefusal, readRefusal, contents, nothing, contentsOf, linked, metricsOf}
+
+pub data Question : Type 0 where
+  -- the number with which Read refuses the file, or else Plan; 0 where the change is planned
+  refusal : Question
+  -- the plan's root, and the rank and the waiting set of each router, in the routers' order
+  root : Question
+  ranks : Question
+  waits : Question
+  -- the distance from i to j over the links of the file, whatever its changes, and the next-hop set of (i, j)
+  distance : (i j : ℕ) → Question
+  set : (i j : ℕ) → Question
+  -- the plan's next-hop set of (i, j) before the change, and after it
+  oldSet : (i j : ℕ) → Question
+  newSet : (i j : ℕ) → Question
+  -- the reply to step k, counted from 1, and the replies to all steps
+  step : (k : ℕ) → Question
+  allSteps : Question
+  -- all that the rehearsal prints
+  printed : Question
+
+-- what the answer to a question is
+abbrev pub Value : Question → Type 0
+Value refusal = ℕ
+Value root = ℕ
+Value ranks = List ℕ
+Value waits = List ℕ
+Value (distance i j) = ℕ
+Value (set i j) = ℕ
+Value (oldSet i j) = ℕ
+Value (newSet i j) = ℕ
+Value (step k) = Reply
+Value allSteps = List Reply
+Value printed = List ℕ
+
+-- tables of the right size, to lend to Read, Paths and Plan
+abbrev lent : List ℕ
+lent = replicate (width * width) 0
+
+abbrev lentFive : Tables
+lentFive = tables lent lent lent lent lent
+
+-- ---- what comes of the file
+-- Read: the number of routers, and the metric table. Where Read refuses, there is no router, and Paths and Plan refuse in turn.
+abbrev routers : List ℕ → ℕ
+routers f = contentsOf f lent .n
+
+abbrev metrics : List ℕ → List ℕ
+metrics f = metricsOf f lent
+
+-- Plan: its refusal, its record and its tables
+abbrev refusedBy : List ℕ → ℕ
+refusedBy f = planRefusal (routers f) (metrics f) (changes f) (areTables (metrics f) lentFive)
+
+abbrev planned : List ℕ → Record
+planned f = recordOf (routers f) (metrics f) (changes f) lentFive
+
+abbrev filledIn : List ℕ → Tables
+filledIn f = tablesOf (routers f) (metrics f) (changes f) lentFive
+
+-- Step: the replies to the file's steps, the first of which gets Plan's record
+abbrev replied : List ℕ → List Reply
+replied f = replies (planned f) (callsOf (steps f))
+
+-- The answer to a question. A step that the file does not have is `refused 0`: no refusal has this number. The names under the signature are what has to be unfolded to compute it.
+unfoldable pub answer : List ℕ → (q : Question) → Value q
+unfolding readRefusal fileRefusal mostLinks linkRefusal restRefusal contentsOf contents nothing metricsOf linked
+    all first bit setOf added removed subset isCount isTable build tabulate perRouter count entryOf isFree entryRefusal listedRefusal listed
+    isLink topology sums least Rattle.paths.specs.Distance.distance isNext nextHops isMetric areMetrics refusalOf distanceCell hopCell distancesOf hopsOf
+    changeRefusal isRise isFall isCommon Rattle.plan.specs.Root.root newCell newMetrics oldHops newHops waiting telling due greatest above longest rank
+    areTables changesRefusal planRefusal isPlanned fresh blank filled recordOf tablesOf
+    learn release ready write finish listens deliver isRecord isKind readsB areRouters callOf stepOf callsOf replies
+    digits decimal field line Rattle.report.specs.Bench.refusal refusedLine routerLine routerLines answerText stepLine stepLines rehearsal
+answer f refusal = orThen (readRefusal f lent) (refusedBy f)
+answer f root = planned f .root
+answer f ranks = take (routers f) (planned f .ranks)
+answer f waits = take (routers f) (planned f .waiting)
+answer f (distance i j) = cell width (distancesOf (routers f) (metrics f) lent lent) i j
+answer f (set i j) = cell width (hopsOf (routers f) (metrics f) lent lent) i j
+answer f (oldSet i j) = cell width (filledIn f .oldHops) i j
+answer f (newSet i j) = cell width (filledIn f .newHops) i j
+answer f (step k) = getD (refused 0 ∷ replied f) k (refused 0)
+answer f allSteps = replied f
+answer f printed = rehearsal f lent lentFive

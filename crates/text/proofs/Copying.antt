@@ -1,0 +1,39 @@
+-- A copy to the end of a text, of as many bytes as there is room for, appends them.
+use Prim.Native.Nat.{ℕ, zero, suc, _+_, _-_, min}
+use mathlib.Core.Path.{_≡_, refl, sym, ap, _∙_}
+use mathlib.Core.List.{List, [], _∷_, _++_}
+use native.Mathlib.Decide.{decLt}
+use native.Mathlib.Omega.{arith}
+use native.Mathlib.Nat.{zero-sub, sub-zero, suc-sub-suc}
+use lib.ListN.{length, take, length-take}
+use lib.Seq.{take-all, length-take-le, paste, length-paste, take-paste}
+use Rattle.text.specs.Text.{Appended}
+
+-- the first n elements of two lists
+take-both : (n : ℕ) (l w : List ℕ) → take n (l ++ w) ≡ take n l ++ take (n - length l) w
+take-both zero l w = rw (zero-sub (length l)) refl
+take-both (suc n) [] w = rw (sub-zero (suc n)) refl
+take-both (suc n) (x ∷ l) w = ap (λ (t : List ℕ). x ∷ t) (take-both n l w) ∙ rw (suc-sub-suc n (length l)) refl
+
+-- a list has no more than its elements
+take-least : (n : ℕ) (l : List ℕ) → take (min n (length l)) l ≡ take n l
+take-least n l = elim (decLt n (length l)) [
+  | yes h ↦ ap (λ (k : ℕ). take k l) (let e : min n (length l) ≡ n = omega arith in e)
+  | no f ↦ take-all (min n (length l)) l (omega arith) ∙ sym (take-all n l (omega arith))
+]
+
+-- m is the end of the text, and k the number of bytes
+module _ (o w : List ℕ) (a m k : ℕ) (is-end : m ≡ min a (length o)) (is-count : k ≡ min (length w) (length o - m)) where
+  copied : take (length o) (take a o ++ w) ≡ take m o ++ take k w
+  copied =
+      take-both (length o) (take a o) w
+      ∙ rw (take-all (length o) (take a o) (omega (arith, length-take a o)), length-take a o, ← is-end)
+      (rw (← take-least a o, ← is-end, ← take-least (length o - m) w) (let e : min (length o - m) (length w) ≡ k = omega arith in rw e refl))
+
+  pub appended-copy : Appended o a w (paste o m w k) (m + k)
+  appended-copy = record {
+    size = length-paste o m w k (omega arith) (omega arith);
+    within = omega (arith, length-paste o m w k (omega arith) (omega arith));
+    counted = sym (length-take-le (m + k) (paste o m w k) (omega (arith, length-paste o m w k (omega arith) (omega arith))));
+    text = take-paste o m w k (omega arith) (omega arith) ∙ sym copied;
+  }

@@ -1,0 +1,65 @@
+// Texts in a lent buffer: a text is the first bytes of `out`, and each function here appends to it and gives its new length. What `out` has no room for is left off.
+ghost use mathlib.Core.Path.{_≡_};
+ghost use Prim.Native.Nat.{_≤_, min};
+ghost use lib.ListN.{length, drop};
+ghost use Rattle.text.specs.Text.{Appended, decimal, field, line};
+
+// Appends `bytes` to the text of the first `at` bytes of `out`.
+pub fn append(out: &mut [u8], at: usize, bytes: &[u8]) -> usize
+    ensures { λ r. ⌜ Appended (now (out .entry)) at (now (bytes .entry)) (now (out .exit)) r ⌝ }
+{
+    let from = least(at, out.len());
+    let count = least(bytes.len(), out.len() - from);
+    for i in 0..count {
+        out[from + i] = bytes[i];
+    }
+    from + count
+}
+
+// Appends x in decimal.
+pub fn number(out: &mut [u8], at: usize, x: u32) -> usize
+    ensures { λ r. ⌜ Appended (now (out .entry)) at (decimal x) (now (out .exit)) r ⌝ }
+{
+    let mut digits = [0u8; 10];
+    let from = spell(x, &mut digits);
+    append(out, at, &digits[from..])
+}
+
+// Appends a number after its name.
+pub fn field(out: &mut [u8], at: usize, name: &[u8], x: u32) -> usize
+    ensures { λ r. ⌜ Appended (now (out .entry)) at (field (now (name .entry)) x) (now (out .exit)) r ⌝ }
+{
+    let named = append(out, at, name);
+    number(out, named, x)
+}
+
+// Appends a line: a number after its name.
+pub fn line(out: &mut [u8], at: usize, name: &[u8], x: u32) -> usize
+    ensures { λ r. ⌜ Appended (now (out .entry)) at (line (now (name .entry)) x) (now (out .exit)) r ⌝ }
+{
+    let numbered = field(out, at, name, x);
+    append(out, numbered, b"\n")
+}
+
+// Puts the decimal digits of x at the end of `digits`, and gives the place of the first.
+fn spell(x: u32, digits: &mut [u8]) -> usize
+    requires { ⌜ length (now digits) ≡ 10 ⌝ }
+    ensures { λ r. ⌜ (r ≤ 10) × (drop r (now (digits .exit)) ≡ decimal x) ⌝ }
+{
+    let mut from = 9;
+    let mut rest = x;
+    while 10 <= rest {
+        digits[from] = 48 + (rest % 10) as u8;
+        rest /= 10;
+        from -= 1;
+    }
+    digits[from] = 48 + rest as u8;
+    from
+}
+
+// The smaller of two numbers.
+fn least(a: usize, b: usize) -> usize
+    ensures { λ r. ⌜ r ≡ min a b ⌝ }
+{
+    if a < b { a } else { b }
+}
