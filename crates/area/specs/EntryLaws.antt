@@ -4,10 +4,10 @@
 --     entry-same       an entry by its five bytes
 --     metric-fits      a metric of three bytes is at most `unused`
 --     of-pair, pair-of     the pair of an entry
---     free-none, free-taken, free-kept, free-other     a pair that no entry is of
+--     free-none, free-true, free-false, free-taken, free-kept, free-other     a pair that no entry is of
 --     Faultless, faulty-from, .. faultless-of      the refusals of an entry by itself, each where it is given
 --     listed-faulty, listed-free, listed-repeated, listed-passes, listed-sound, listed-same      the refusals of an entry of a list
---     given-more, given-kept, given-none, given-cases, given-at        the metric that a list gives a pair
+--     given-start, given-next, given-more, given-kept, given-none, given-cases, given-at        the metric that a list gives a pair
 --     cell-entered     the cells of a table in which an entry is put
 use Prim.Native.Nat.{ℕ, zero, suc, _+_, _*_, _≤_, _<_}
 use mathlib.Core.Path.{_≡_, refl, sym, ap, ap₂, _∙_}
@@ -26,7 +26,7 @@ use Rattle.area.specs.Limits.{width, unused}
 use Rattle.area.specs.Tests.{pick, all, orThen}
 use Rattle.area.specs.Tables.{cell}
 use Rattle.area.specs.Entries.{count, entryOf, from, to, metric, isOf, isFree, entryRefusal, listedRefusal, listed}
-use Rattle.area.specs.TestLaws.{look, both-true, and-true, and-false, and-one, all-at, then-some, then-none, then-both}
+use Rattle.area.specs.TestLaws.{look, both-true, and-true, and-false, and-one, all-at, all-true, all-false, then-some, then-none, then-both}
 
 -- ---- an entry that code has read
 module _ {x y : Entry} (is : x ≡ y) where
@@ -74,6 +74,14 @@ pair-of l e i j a b = and-true (eqb (from l e) i) (eqb (to l e) j) (eq-eqb (from
 pub free-none : (l : List ℕ) (i j : ℕ) → isFree l 0 i j ≡ true
 unfolding isFree all
 free-none l i j = refl
+
+pub free-true : (l : List ℕ) (k i j : ℕ) → ((d : ℕ) → d < k → isOf l d i j ≡ false) → isFree l k i j ≡ true
+unfolding isFree
+free-true l k i j other = all-true k (λ d. not (isOf l d i j)) (λ d h. rw (other d h) refl)
+
+pub free-false : (l : List ℕ) (k i j d : ℕ) → d < k → isOf l d i j ≡ true → isFree l k i j ≡ false
+unfolding isFree
+free-false l k i j d h t = all-false k (λ d. not (isOf l d i j)) d h (rw t refl)
 
 pub free-taken : (l : List ℕ) (k i j : ℕ) → isOf l k i j ≡ true → isFree l (suc k) i j ≡ false
 unfolding isFree all
@@ -185,6 +193,15 @@ module _ (l : List ℕ) (k i j v : ℕ) where
   pub given-kept : isOf l k i j ≡ false → listed l (suc k) i j v ≡ listed l k i j v
   unfolding listed
   given-kept e = rw e refl
+
+pub given-start : (l : List ℕ) (i j v : ℕ) → listed l 0 i j v ≡ v
+unfolding listed
+given-start l i j v = refl
+
+-- what one entry more gives
+pub given-next : (l : List ℕ) (k i j v : ℕ) → listed l (suc k) i j v ≡ pick (isOf l k i j) (metric l k) (listed l k i j v)
+unfolding listed
+given-next l k i j v = refl
 
 -- a pair that no entry is of keeps its metric
 pub given-none : (l : List ℕ) (k i j v : ℕ) → ((e : ℕ) → e < k → isOf l e i j ≡ false) → listed l k i j v ≡ v

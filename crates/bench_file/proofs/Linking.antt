@@ -13,7 +13,7 @@ use Rattle.area.specs.Tests.{pick}
 use Rattle.area.specs.Tables.{cell}
 use Rattle.area.specs.TableLaws.{length-tabulate, cell-tabulate, is-tabulate}
 use Rattle.area.specs.Entries.{entryOf, from, to, metric, isOf, listed}
-use Rattle.area.specs.EntryLaws.{cell-entered}
+use Rattle.area.specs.EntryLaws.{given-start, given-next, cell-entered}
 use Rattle.bench_file.specs.Read.{linked}
 
 pub record Linked (l : List ℕ) (k : ℕ) (t : List ℕ) : Type 0 where
@@ -21,18 +21,17 @@ pub record Linked (l : List ℕ) (k : ℕ) (t : List ℕ) : Type 0 where
   pub cells : (i j : ℕ) → i < width → j < width → cell width t i j ≡ listed l k i j unused
 
 pub linked-none : (l t : List ℕ) → t ≡ linked [] 0 → Linked l 0 t
-unfolding linked listed
+unfolding linked
 linked-none l t e = record {
-  size = ap length e ∙ length-tabulate width (λ i j. unused);
-  cells = λ i j a b. ap (λ (x : List ℕ). cell width x i j) e ∙ cell-tabulate width (λ i j. unused) i j a b;
+  size = ap length e ∙ length-tabulate width (λ i j. listed [] 0 i j unused);
+  cells = λ i j a b. ap (λ (x : List ℕ). cell width x i j) e ∙ cell-tabulate width (λ i j. listed [] 0 i j unused) i j a b ∙ given-start [] i j unused ∙ sym (given-start l i j unused);
 }
 
 module _ (l : List ℕ) (k : ℕ) (t : List ℕ) (done : Linked l k t) (a : from l k < width) (b : to l k < width) where
   put : Linked l (suc k) (set t (width * from l k + to l k) (metric l k))
-  unfolding listed
   put = record {
     size = simp length-set (done .size);
-    cells = λ i j c d. cell-entered l k t (done .size) a b i j c d ∙ ap (pick (isOf l k i j) (metric l k)) (done .cells i j c d);
+    cells = λ i j c d. cell-entered l k t (done .size) a b i j c d ∙ ap (pick (isOf l k i j) (metric l k)) (done .cells i j c d) ∙ sym (given-next l k i j unused);
   }
 
   pub linked-more : (x : Entry) → x ≡ entryOf l k → Linked l (k + 1) (set t (width * x .from + x .to) (x .metric))

@@ -12,11 +12,11 @@ use Rattle.area.specs.Limits.{width}
 use Rattle.area.specs.Tables.{cell, tabulate}
 use Rattle.area.specs.TestLaws.{look}
 use Rattle.area.specs.TableLaws.{length-tabulate, cell-tabulate, is-tabulate}
-use Rattle.area.specs.Entries.{count, entryOf, from, to, metric, isOf, listed}
+use Rattle.area.specs.Entries.{count, entryOf, from, to, metric, isOf}
 use Rattle.area.specs.EntryLaws.{cell-entered}
 use Rattle.plan.specs.NewMetrics.{newCell, newMetrics}
 use Rattle.plan.specs.ChangeLaws.{Change}
-use Rattle.plan.specs.MetricLaws.{cell-more, cell-kept}
+use Rattle.plan.specs.MetricLaws.{cell-start, cell-more, cell-kept}
 
 pub record Applied (n : ℕ) (m l : List ℕ) (k : ℕ) (t : List ℕ) : Type 0 where
   pub size : length t ≡ width * width
@@ -24,10 +24,9 @@ pub record Applied (n : ℕ) (m l : List ℕ) (k : ℕ) (t : List ℕ) : Type 0 
 
 module _ (n : ℕ) (m l : List ℕ) where
   pub applied-none : (t : List ℕ) → t ≡ tabulate width (newCell n m [] 0) → Applied n m l 0 t
-  unfolding newCell listed
   applied-none t e = record {
     size = ap length e ∙ length-tabulate width (newCell n m [] 0);
-    cells = λ i j a b. ap (λ (x : List ℕ). cell width x i j) e ∙ cell-tabulate width (newCell n m [] 0) i j a b;
+    cells = λ i j a b. ap (λ (x : List ℕ). cell width x i j) e ∙ cell-tabulate width (newCell n m [] 0) i j a b ∙ cell-start n m l i j;
   }
 
   module _ (k : ℕ) (most : n ≤ width) (c : Change n m l k) (t : List ℕ) (done : Applied n m l k t) where

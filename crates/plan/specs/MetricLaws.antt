@@ -1,11 +1,11 @@
 -- Laws of the metrics after the change.
---     cell-pair, cell-own, cell-beyond, cell-copied, cell-more, cell-kept       the cells of the new table, k changes made
+--     cell-pair, cell-own, cell-beyond, cell-copied, cell-start, cell-more, cell-kept       the cells of the new table, k changes made
 --     new-cell, new-ready      the new table, and that Paths accepts it
 --     differs-common, differs-rise, differs-fall, changed-differs      which metrics differ, and which way
 --     topology-elsewhere, topology-rise, topology-fall     the same of the two topologies
 use Prim.Native.Nat.{ℕ, _+_, _*_, _/_, _%_, _≤_, _<_}
 use mathlib.Core.Path.{_≡_, refl, sym, ap, _∙_}
-use mathlib.Core.Bool.{true, false, _||_}
+use mathlib.Core.Bool.{true, false, not, _&&_, _||_}
 use mathlib.Core.Logic.{_≢_, _⊎_, inl, inr, ⊎-elim}
 use mathlib.Core.List.{List, []}
 use native.Mathlib.Numerals.{add-one}
@@ -15,11 +15,12 @@ use lib.Dec.{ltb, eqb}
 use lib.ListN.{length, getD}
 use borrow.Author.Tests.{ltb-true, lt-ltb, le-ltb, eq-eqb, ne-eqb}
 use Rattle.area.specs.Limits.{width, unused}
+use Rattle.area.specs.Tests.{pick}
 use Rattle.area.specs.Tables.{cell}
 use Rattle.area.specs.TestLaws.{and-false, all-at}
 use Rattle.area.specs.TableLaws.{length-tabulate, cell-tabulate}
 use Rattle.area.specs.Entries.{count, from, to, metric, isOf, listed}
-use Rattle.area.specs.EntryLaws.{of-pair, given-more, given-kept, given-cases, given-at}
+use Rattle.area.specs.EntryLaws.{of-pair, given-start, given-more, given-kept, given-cases, given-at}
 use Rattle.paths.specs.Paths.{isMetric}
 use Rattle.paths.specs.Topology.{topology}
 use Rattle.paths.specs.TopologyLaws.{topology-le, topology-same}
@@ -47,8 +48,12 @@ module _ (n : ℕ) (m l : List ℕ) (k i j : ℕ) where
 
 -- before the first change the cell of a pair of routers is the old one, here by its place in the table
 pub cell-copied : (n : ℕ) (m : List ℕ) (k : ℕ) → k / width < n → k % width < n → k / width ≢ k % width → newCell n m [] 0 (k / width) (k % width) ≡ getD m k 0
-unfolding listed
-cell-copied n m k a b f = cell-pair n m [] 0 (k / width) (k % width) a b f ∙ ap (λ (x : ℕ). getD m x 0) (omega arith)
+cell-copied n m k a b f = cell-pair n m [] 0 (k / width) (k % width) a b f ∙ given-start [] (k / width) (k % width) (cell width m (k / width) (k % width)) ∙ ap (λ (x : ℕ). getD m x 0) (omega arith)
+
+-- and it does not depend on the list
+pub cell-start : (n : ℕ) (m l : List ℕ) (i j : ℕ) → newCell n m [] 0 i j ≡ newCell n m l 0 i j
+unfolding newCell
+cell-start n m l i j = ap (λ (x : ℕ). pick (ltb i n && (ltb j n && not (eqb i j))) x unused) (given-start [] i j (cell width m i j) ∙ sym (given-start l i j (cell width m i j)))
 
 -- one change more
 module _ (n : ℕ) (m l : List ℕ) (k i j : ℕ) where

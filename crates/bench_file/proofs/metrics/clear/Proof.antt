@@ -1,12 +1,14 @@
 -- The places before k are cleared.
-use mathlib.Core.Path.{_≡_, refl}
-use Prim.Native.Nat.{_-_, _*_, _≤_}
+use mathlib.Core.Path.{_≡_, refl, sym, _∙_}
+use mathlib.Core.List.{[]}
+use Prim.Native.Nat.{_-_, _*_, _/_, _%_, _≤_}
 use native.Mathlib.Omega.{arith}
 use lib.ListN.{length, length-set}
 use denote.Ref.{now}
 use Rattle.area.specs.Limits.{width, unused}
 use Rattle.area.specs.TableLaws.{Front, front-none, front-more, places-tabulate}
 use Rattle.area.specs.Entries.{listed}
+use Rattle.area.specs.EntryLaws.{given-start}
 use Rattle.bench_file.specs.Read.{linked}
 use Rattle.bench_file.proofs.metrics.clear.Statement.{statement}
 use Rattle.bench_file.proofs.metrics.clear.Tie as tie
@@ -41,11 +43,11 @@ same-length : tie.Need-same-length Inv-loop μ-loop
 same-length c = omega arith
 
 returns : tie.Need-returns Inv-loop μ-loop
-unfolding linked listed
+unfolding linked
 returns c =
     let at-loop = c .before .loop in
     let e : at-loop .k ≡ width * width = omega arith in
-    places-tabulate width (λ i j. unused) (at-loop .table) (at-loop .inv .1) (rw e at (at-loop .inv .2))
+    places-tabulate width (λ i j. listed [] 0 i j unused) (at-loop .table) (at-loop .inv .1) (λ i h. at-loop .inv .2 i (omega arith) ∙ sym (given-start [] (i / width) (i % width) unused))
 
 pub clear-spec : {M : Type 1} → statement M
 clear-spec =
