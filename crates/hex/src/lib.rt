@@ -4,12 +4,15 @@ use text::line;
 ghost use mathlib.Core.Path.{_≡_};
 ghost use mathlib.Core.List.{[], _∷_};
 ghost use Prim.Native.Nat.{_≤_, _<_};
-ghost use lib.ListN.{length, take};
+ghost use lib.ListN.{length};
 ghost use Rattle.text.specs.Text.{Appended, line};
 ghost use Rattle.hex.specs.Hex.{digit, isSpace, first, second, next, highHalf, badDigit, oddDigit, most, decoded, unhexed};
 
 // A longer text is not decoded.
-const MOST: usize = 131072;
+pub const MOST: usize = 131072;
+
+// As many bytes as have room for all that is written for a text.
+pub const ROOM: usize = MOST / 2;
 
 // What a byte of a text is, by the bytes before it.
 enum Reading {
@@ -29,8 +32,7 @@ enum Reading {
 
 // Writes what `text` is in bytes, or the line that says its first fault, to the start of `out`, as far as that has room, and gives the number of bytes written.
 pub fn unhex(text: &[u8], out: &mut [u8]) -> usize
-    ensures { λ r. ⌜ (r ≤ length (now (out .exit))) × (r ≡ length (take r (now (out .exit)))) ⌝ }
-    ensures { λ r. ⌜ take r (now (out .exit)) ≡ take (length (now (out .entry))) (unhexed (now (text .entry))) ⌝ }
+    ensures { λ r. ⌜ Appended (now (out .entry)) 0 (unhexed (now (text .entry))) (now (out .exit)) r ⌝ }
 {
     if MOST < text.len() {
         return append(out, 0, b"too long\n");

@@ -1,12 +1,14 @@
 // Reads a bench file from standard input, and prints its rehearsal.
 use area::limits::CELLS;
+use area::limits::LARGEST;
 use area::limits::UNUSED;
 use libc::STDIN_FILENO;
 use libc::STDOUT_FILENO;
+use report::ROOM;
 
 fn main() {
     // One byte more than the largest file has, so that a longer one is seen to be too long.
-    let mut file = [0u8; 17565];
+    let mut file = [0u8; LARGEST + 1];
     let length = io::read_full(STDIN_FILENO, &mut file);
     let mut old = [UNUSED; CELLS];
     let mut new = [UNUSED; CELLS];
@@ -14,7 +16,7 @@ fn main() {
     let mut new_dist = [0u32; CELLS];
     let mut old_hops = [0u32; CELLS];
     let mut new_hops = [0u32; CELLS];
-    let mut out = [0u8; 147456];
+    let mut out = [0u8; ROOM];
     let printed = report::rehearse(
         &file[..length],
         &mut old,

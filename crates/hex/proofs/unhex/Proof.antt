@@ -1,5 +1,4 @@
 -- A text that is too long has a line of its own.
-use mathlib.Core.Path.{refl, _∙_}
 use native.Mathlib.Omega.{arith}
 use borrow.Author.Needs.{needs}
 use Rattle.hex.specs.HexLaws.{unhexed-long, unhexed-decoded}
@@ -17,8 +16,7 @@ same-length : tie.Need-same-length
 same-length c = search needs
 
 returns : tie.Need-returns
-returns c =
-    let e = c .before .before .append .ensures in ((e .within, e .counted), e .text ∙ rw (unhexed-long (now (c .before .before .before .before .before .before .before .before .args .text)) (omega arith)) refl)
+returns c = rw (unhexed-long (now (c .before .before .before .before .before .before .before .before .args .text)) (omega arith)) (c .before .before .append .ensures)
 
 decode-requires : tie.Need-decode-requires
 decode-requires c κs = search needs
@@ -27,8 +25,7 @@ same-length-2 : tie.Need-same-length-2
 same-length-2 c = search needs
 
 returns-2 : tie.Need-returns-2
-returns-2 c =
-    let e = c .before .before .decode .ensures in ((e .within, e .counted), e .text ∙ rw (unhexed-decoded (now (c .before .before .before .before .before .before .before .args .text)) (omega arith)) refl)
+returns-2 c = rw (unhexed-decoded (now (c .before .before .before .before .before .before .before .args .text)) (omega arith)) (c .before .before .decode .ensures)
 
 pub unhex-spec : {M : Type 1} → statement M
 unhex-spec =
