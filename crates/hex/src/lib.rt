@@ -6,7 +6,8 @@ ghost use mathlib.Core.List.{[], _∷_};
 ghost use Prim.Native.Nat.{_≤_, _<_};
 ghost use lib.ListN.{length};
 ghost use Rattle.text.specs.Text.{Appended, line};
-ghost use Rattle.hex.specs.Hex.{digit, isSpace, first, second, next, highHalf, badDigit, oddDigit, most, decoded, unhexed};
+ghost use Rattle.hex.specs.Hex.{digit, isSpace, first, second, next, badDigit, oddDigit, most, decoded, unhexed};
+ghost use Rattle.hex.specs.ReadingLaws.{highHalf};
 
 // A longer text is not decoded.
 pub const MOST: usize = 131072;

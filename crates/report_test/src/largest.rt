@@ -2,6 +2,8 @@
 use crate::print;
 use crate::summary;
 use crate::texts;
+use area::limits::LARGEST;
+use report::ROOM;
 ghost use Prim.Native.Nat.{_<_};
 
 // A step.
@@ -13,7 +15,7 @@ struct Call {
 
 // The rehearsal of the file, and of the same with one byte more.
 pub fn run() {
-    let mut file = [0u8; 17565];
+    let mut file = [0u8; LARGEST + 1];
     fill(&mut file);
     print::text(b"largest\n");
     whole(&file);
@@ -21,21 +23,21 @@ pub fn run() {
     longer(&file);
 }
 
-fn whole(file: &[u8; 17565]) {
-    let mut out = [0u8; 147456];
+fn whole(file: &[u8; LARGEST + 1]) {
+    let mut out = [0u8; ROOM];
     let all = &file[..];
     let length = texts::printed(false, &all[0..17564], &mut out);
     summary::print(&out[..length]);
 }
 
-fn longer(file: &[u8; 17565]) {
-    let mut out = [0u8; 147456];
+fn longer(file: &[u8; LARGEST + 1]) {
+    let mut out = [0u8; ROOM];
     let length = texts::printed(false, file, &mut out);
     print::text(&out[..length]);
 }
 
 // All but the last byte, which is one too many. The links begin at 3, the changes at 4,964 and the steps at 5,276.
-fn fill(file: &mut [u8; 17565]) {
+fn fill(file: &mut [u8; LARGEST + 1]) {
     file[0] = 32;
     file[1] = 3;
     file[2] = 224;
@@ -48,7 +50,7 @@ fn fill(file: &mut [u8; 17565]) {
 }
 
 // The 31 links of router 0, then those of router 1, and so on.
-fn links(file: &mut [u8; 17565]) {
+fn links(file: &mut [u8; LARGEST + 1]) {
     for e in 0..992 {
         let i = e / 31;
         let j = other(i, e % 31);
@@ -65,7 +67,7 @@ fn other(i: usize, k: usize) -> usize
 }
 
 // Every link of router 0 becomes worse, or goes down, in both directions.
-fn changes(file: &mut [u8; 17565]) {
+fn changes(file: &mut [u8; LARGEST + 1]) {
     for j in 1..32 {
         entry(file, 4954 + 10 * j, 0, j, worse(0, j));
         entry(file, 4959 + 10 * j, j, 0, worse(j, 0));
@@ -92,7 +94,7 @@ fn worse(i: usize, j: usize) -> usize
 }
 
 // Two routers, and a metric in three bytes, the high one first.
-fn entry(file: &mut [u8; 17565], at: usize, from: usize, to: usize, m: usize)
+fn entry(file: &mut [u8; LARGEST + 1], at: usize, from: usize, to: usize, m: usize)
     requires { ⌜ at < 17560 ⌝ }
 {
     file[at] = byte(from);
@@ -102,13 +104,13 @@ fn entry(file: &mut [u8; 17565], at: usize, from: usize, to: usize, m: usize)
     file[at + 4] = byte(m);
 }
 
-fn steps(file: &mut [u8; 17565]) {
+fn steps(file: &mut [u8; LARGEST + 1]) {
     for k in 0..4096 {
         put(file, 5276 + 3 * k, step(k));
     }
 }
 
-fn put(file: &mut [u8; 17565], at: usize, c: Call)
+fn put(file: &mut [u8; LARGEST + 1], at: usize, c: Call)
     requires { ⌜ at < 17563 ⌝ }
 {
     file[at] = byte(c.kind);

@@ -1,5 +1,5 @@
 -- A text is the first bytes of a buffer. Bytes are appended to it as far as the buffer has room.
-use Prim.Native.Nat.{ℕ, zero, suc, _+_, _*_, _-_, _/_, _%_, _≤_}
+use Prim.Native.Nat.{ℕ, zero, suc, _+_, _/_, _%_, _≤_}
 use Prim.Native.Char.{code}
 use Prim.Native.String as str
 use mathlib.Core.Path.{_≡_}
@@ -36,12 +36,3 @@ field name x = name ++ decimal x
 -- the same as a whole line
 unfoldable pub line : List ℕ → ℕ → List ℕ
 line name x = field name x ++ word "\n"
-
--- the number that a list of digits is, where v is what the digits before it are
-unfoldable pub valueAfter : ℕ → List ℕ → ℕ
-valueAfter v [] = v
-valueAfter v (d ∷ l) = valueAfter (10 * v + (d - 48)) l
-
--- the number that a list of digits is
-unfoldable pub value : List ℕ → ℕ
-value l = valueAfter 0 l

@@ -17,7 +17,7 @@ use native.Mathlib.Numerals.{add-one}
 use borrow.Author.Tests.{lt-ltb, le-ltb}
 use lib.ListN.{length, getD, take, length-append, length-take, List·getD-append}
 use lib.Seq.{take-all, length-take-le, getD-append-seam}
-use Rattle.text.specs.Text.{Appended, word, digits, decimal, field, line, valueAfter, value}
+use Rattle.text.specs.Text.{Appended, word, digits, decimal, field, line}
 
 -- ---- lists
 -- what is cut off at n after an append may be cut off before it too
@@ -88,6 +88,15 @@ digits-most : (k x : ℕ) → length (digits k x) ≤ k
 unfolding digits
 digits-most zero x = omega arith
 digits-most (suc k) x = elim (decLt x 10) [ yes h ↦ rw (lt-ltb x 10 h) (omega arith) | no f ↦ rw (le-ltb x 10 (omega arith), length-append) (omega (arith, digits-most k (x / 10))) ]
+
+-- the number that a list of digits is, where v is what the digits before it are
+unfoldable pub valueAfter : ℕ → List ℕ → ℕ
+valueAfter v [] = v
+valueAfter v (d ∷ l) = valueAfter (10 * v + (d - 48)) l
+
+-- the number that a list of digits is
+unfoldable pub value : List ℕ → ℕ
+value l = valueAfter 0 l
 
 -- the number that digits are, with one digit more at their end
 value-more : (v d : ℕ) (l : List ℕ) → valueAfter v (l ++ (d ∷ [])) ≡ 10 * valueAfter v l + (d - 48)

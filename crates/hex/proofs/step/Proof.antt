@@ -1,8 +1,8 @@
 -- The reading before decides which law holds.
 use mathlib.Core.Path.{refl}
 use borrow.Author.Needs.{needs}
-use Rattle.hex.specs.ReadingLaws.{comment-ends, comment-lasts}
-use Rattle.hex.specs.Hex.{next, highHalf}
+use Rattle.hex.specs.ReadingLaws.{highHalf, comment-ends, comment-lasts}
+use Rattle.hex.specs.Hex.{next}
 use Rattle.hex.proofs.step.Statement.{statement}
 use Rattle.hex.proofs.step.Tie as tie
 
