@@ -1,9 +1,9 @@
 // The rehearsal: a line for each router, and one for each step.
 use crate::bench::prepare;
 use area::limits::STEP;
+use in_place::applied;
 use plan::Record;
 use steps::Answer;
-use steps::Machine;
 use text::append;
 use text::field;
 use text::line;
@@ -97,7 +97,7 @@ fn steps(first: Record, bytes: &[u8], out: &mut [u8], at: usize) -> usize
         let kind = bytes[place];
         let a = bytes[place + 1];
         let b = bytes[place + 2];
-        let stepped = Machine { now: current }.step(kind, a, b);
+        let stepped = applied(current, kind, a, b);
         current = stepped.next;
         let answer = stepped.answer;
         k += 1;

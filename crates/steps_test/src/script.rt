@@ -8,8 +8,8 @@
 // The steps: L0 learn, R0 release, W0.2 write, F0 finish, D0.1 deliver; Z0.1, S0.1 and X0.1 are of kind 0, 6 and 255. L0.2 is L0 with b = 2.
 //
 // The line that is printed has each step with its answer, a refusal's by its number, and in how many entries the record differs from the one before.
-// Then come state, waiting, due and written set of each router; in how many answers and entries the methods differ from the steps; and in how many
-// entries the last record of `run` differs, for the bytes of the steps and with one and two bytes more.
+// Then come state, waiting, due and written set of each router; in how many answers and entries the methods and the call in place differ from the steps;
+// and in how many entries the last record of `run` differs, for the bytes of the steps and with one and two bytes more.
 use crate::areas;
 use crate::areas::byte;
 use crate::call;
@@ -17,15 +17,18 @@ use crate::compare;
 use crate::print;
 use crate::reader::Reader;
 use crate::records;
+use in_place::applied;
 use plan::Record;
 use steps::Machine;
+use steps::Stepped;
+ghost use Prim.Native.Nat.{_≤_};
 
 // What the steps of a case have come to.
 struct Case {
     // The record before the first step, and the one that the last step has left.
     first: Record,
     now: Record,
-    // How many steps were taken, and how much the methods differ from them.
+    // How many steps were taken, and how much the methods and the call in place differ from them.
     steps: usize,
     differing: u64,
 }
@@ -114,9 +117,10 @@ fn step(mut c: Case, r: Reader, bytes: &mut [u8; 194]) -> Case {
     let answer = stepped.answer;
     let number = call::number(answer);
     print::answer(number, compare::records(now, next));
-    let differing = methods(now, kind, a, b, number, next);
+    let method = differing(call::method(now, kind, a, b), number, next);
+    let in_place = differing(applied(now, kind, a, b), number, next);
     // No text is long enough for this sum to wrap.
-    let sum = std::num::wrapping_add_u64(c.differing, differing);
+    let sum = std::num::wrapping_add_u64(c.differing, method + in_place);
     c.now = next;
     c.differing = sum;
     // There is room for 64 steps and two bytes more.
@@ -129,11 +133,12 @@ fn step(mut c: Case, r: Reader, bytes: &mut [u8; 194]) -> Case {
     c
 }
 
-// How much the method of the kind differs from the step.
-fn methods(now: Record, kind: u8, a: u8, b: u8, number: u8, next: Record) -> u64 {
-    let stepped = call::method(now, kind, a, b);
-    let other_next = stepped.next;
-    let other_answer = stepped.answer;
+// How much another way to take a step differs from the step, by the number of its answer and the record after it.
+fn differing(other: Stepped, number: u8, next: Record) -> u64
+    ensures { λ r. ⌜ r ≤ 196 ⌝ }
+{
+    let other_next = other.next;
+    let other_answer = other.answer;
     compare::records(next, other_next) + compare::unlike(number, call::number(other_answer))
 }
 

@@ -36,14 +36,14 @@ add-b c = omega arith
 shared-slice-read-b : tie.Need-shared-slice-read-b Inv-loop μ-loop
 shared-slice-read-b c = omega arith
 
-step-requires : tie.Need-step-requires Inv-loop μ-loop
-step-requires c κs = omega arith
+applied-requires : tie.Need-applied-requires Inv-loop μ-loop
+applied-requires c κs = omega arith
 
 add-k : tie.Need-add-k Inv-loop μ-loop
 add-k c = omega arith
 
-step-requires-2 : tie.Need-step-requires-2 Inv-loop μ-loop
-step-requires-2 c κs = omega arith
+step-requires : tie.Need-step-requires Inv-loop μ-loop
+step-requires c κs = omega arith
 
 add-place : tie.Need-add-place Inv-loop μ-loop
 add-place c = omega arith
@@ -55,7 +55,7 @@ loop-again : tie.Need-loop-again Inv-loop μ-loop
 loop-again c =
     let at-loop = c .before .before .before .before .before .before .before .before .before .before .loop in
     let a = c .before .before .before .before .before .before .before .before .before .before .before .before .before .args in
-    (omega arith, omega arith, omega arith, left-more (now (a .out)) (a .at) (a .first) (now (a .bytes)) (at-loop .current) (at-loop .place) (at-loop .k) (at-loop .out) (at-loop .end) (at-loop .inv .3) (outcomeOf (c .before .before .before .before .before .step .result)) (c .before .before .before .before .before .step .ensures) (omega arith) _ _ (c .before .before .step2 .ensures))
+    (omega arith, omega arith, omega arith, left-more (now (a .out)) (a .at) (a .first) (now (a .bytes)) (at-loop .current) (at-loop .place) (at-loop .k) (at-loop .out) (at-loop .end) (at-loop .inv .3) (outcomeOf (c .before .before .before .before .before .applied .result)) (c .before .before .before .before .before .applied .ensures) (omega arith) _ _ (c .before .before .step .ensures))
 
 same-length : tie.Need-same-length Inv-loop μ-loop
 same-length c = omega arith
@@ -79,9 +79,9 @@ steps-spec =
     shared-slice-read-a
     add-b
     shared-slice-read-b
-    step-requires
+    applied-requires
     add-k
-    step-requires-2
+    step-requires
     add-place
     loop-less
     loop-again
