@@ -15,14 +15,13 @@ use prog.Wp.{Heap, Calls, Loops, WpFn}
 use ghost.Atoms.{Atoms, sem}
 use contract.Monad.{Fun, fact}
 use contract.Running.{givenOf}
-use types.Kit.{Given, ‵, raw, _⊛_, some, later, _$_, _∵_, !, qed, by, move, keep, use0, use1, use2, use3, split, join, pick, fsplit, fjoin, fpick, fpack, suffices, frame, await, done}
+use types.Kit.{Given, ‵, raw, _⊛_, some, later, _$_, _∵_, !, qed, by, move, keep, use1, use2, use3, split, join, pick, fsplit, fjoin, fpick, fpack, suffices, frame, await, done}
 use types.Run.{look, init, stop, from, load, addr, of-opd, and-then, no-more, assigns, land, returns, enter, alloc1, alloc0, params1, pass1, pass0, free0}
 use types.Part.{agg}
 use types.SemTy.{Body}
 use types.Tokens.{lft-new, lft-end}
 use sound.WpLaws.{FmC}
 use denote.RattleType.{owns}
-use denote.Laws.{Ises, owns-make}
 use denote.Memory.{mem, cellAt, partOf}
 use denote.Ref.{RefT, MutRef}
 use denote.Lend.{lends-ref, ref-back}
@@ -37,7 +36,7 @@ use denote.Exit.{yes}
 use Rattle.plan.specs.declared.Record.{Record}
 use Rattle.steps.specs.declared.Answer.{Answer}
 use Rattle.steps.specs.declared.Stepped.{Stepped}
-use Rattle.in_place.proofs.Walking.{the-record, the-answer, the-stepped, Lies, typed, stepped-lies, Done, told, known, had, gone, bytes, bytes-spell, bytes-tell, Fit, bytes-stay, bytes-make, bytes-go, walk-enters}
+use Rattle.in_place.proofs.Walking.{the-record, the-answer, the-stepped, the-byte, Lies, typed, all-types, all-vals, all-tell, All-lie, stepped-lies, Done, told, known, had, had-all, gone, bytes, bytes-stay, bytes-go, walk-enters}
 use Rattle.in_place.proofs.apply as apply
 use Rattle.in_place.proofs.apply.Symbol as apply-def
 use Rattle.in_place.proofs.apply.Symbol.{name as #in-place·apply}
@@ -58,7 +57,7 @@ Applying 𝓤 H A at-mem run = tripleOf 𝓤 H A apply.signature (apply.spec �
 abbrev both : Record → Answer → Stepped
 both w r = record { next = w; answer = r }
 
-module _ {M : Type 1} (𝓤 : URA M) (H : Heap 𝓤) (A : Atoms 𝓤) (W : Given 𝓤 H A) (at-mem : Memory → SProp 𝓤) (run : Routine → Fun 𝓤) (h : Record) (k a b : ℕ) (is : Lies the-record h) (fit : Fit (k, (a, (b, tt)))) where
+module _ {M : Type 1} (𝓤 : URA M) (H : Heap 𝓤) (A : Atoms 𝓤) (W : Given 𝓤 H A) (at-mem : Memory → SProp 𝓤) (run : Routine → Fun 𝓤) (h : Record) (k a b : ℕ) (is : Lies the-record h) (are : All-lie bytes (k, (a, (b, tt)))) where
   -- what is passed to `applied`, and its machine values
   abbrev x : Record × (ℕ × (ℕ × (ℕ × Unit {0})))
   x = (h, (k, (a, (b, tt))))
@@ -82,12 +81,11 @@ module _ {M : Type 1} (𝓤 : URA M) (H : Heap 𝓤) (A : Atoms 𝓤) (W : Given
   goes-apply : (ν l : ℕ) (γ : GName) → ent 𝓤 (sep 𝓤 (A .lft (ν ∷ []) fullShare) (sem 𝓤 H A (MutRef (named 0) (ν ∷ []) (the-record .type) .own (loan l γ) (vptr l 0 ∷ [])))) (Applying 𝓤 H A at-mem run .pre (to-apply ν l γ))
   goes-apply ν l γ =
       qed W (‵ (flft (ν ∷ []) fullShare) ∷ ‵ (MutRef (named 0) (ν ∷ []) (the-record .type) .own (loan l γ) (vptr l 0 ∷ [])) ∷ []) ∵ nothing ! $ move ! (1 ∷ 0 ∷ []) $ join ! $
-      use0 W (‵ (owns bytes (x .1) (at .1))) (owns-make 𝓤 H A bytes (Ises bytes) (bytes-make 𝓤 H A W) (x .1) (at .1) fit) $
-      move ! (2 ∷ 0 ∷ []) $ fjoin ! $ move ! (1 ∷ 0 ∷ []) $ join ! $ frame ! $ done !
+      had-all ! bytes (x .1) are $ move ! (2 ∷ 0 ∷ []) $ fjoin ! $ move ! (1 ∷ 0 ∷ []) $ join ! $ frame ! $ done !
 
-  exits : (s : Stepped) → Done h k a b s → Lies the-stepped s → ent 𝓤 (sem 𝓤 H A (owns (the-record .type ∷ bytes) x at)) (Post (the-stepped .val s))
+  exits : (s : Stepped) → Done h k a b s → Lies the-stepped s → ent 𝓤 (sem 𝓤 H A (owns (all-types (the-record ∷ bytes)) x at)) (Post (the-stepped .val s))
   exits s e is-s =
-      qed W (‵ (owns (the-record .type ∷ bytes) x at) ∷ []) ∵
+      qed W (‵ (owns (all-types (the-record ∷ bytes)) x at) ∷ []) ∵
       suffices ! _ (ends-at 𝓤 H A applied.ended stayed (applied.clauses 𝓤 H A at-mem run) W ((tt, tt, tt, x, at), tt) (the-stepped .val s) s (tt, (tt, (tt, (tt, tt)))) (tt, (tt, (tt, (tt, tt))))) $
       says ! e $ had ! the-stepped s is-s $ move ! (1 ∷ 0 ∷ []) $ nothing ! $ done !
 
@@ -95,10 +93,10 @@ module _ {M : Type 1} (𝓤 : URA M) (H : Heap 𝓤) (A : Atoms 𝓤) (W : Given
     walk : ent 𝓤 (onEntry 𝓤 H A applied.signature tt tt x at) (WpFn 𝓤 H C Λ code.function (the-record .val h ∷ vint w8 k ∷ vint w8 a ∷ vint w8 b ∷ []) Post)
     unfolding partOf
     walk =
-        qed W (‵ ftrue ∷ ‵ (owns (the-record .type ∷ bytes) x at) ∷ []) ∵ enter ! C Λ code.function (the-record .val h ∷ vint w8 k ∷ vint w8 a ∷ vint w8 b ∷ []) _ $
+        qed W (‵ ftrue ∷ ‵ (owns (all-types (the-record ∷ bytes)) x at) ∷ []) ∵ enter ! C Λ code.function (the-record .val h ∷ vint w8 k ∷ vint w8 a ∷ vint w8 b ∷ []) _ $
         -- the locals get room, and the parameters are stored
         alloc1 ! (λ l₀. alloc1 ! (λ l₁. alloc1 ! (λ l₂. alloc1 ! (λ l₃. alloc1 ! (λ l₄. alloc1 ! (λ l₅. alloc1 ! (λ l₆. alloc1 ! (λ l₇. alloc1 ! (λ l₈. alloc0 ! $ params1 ! $ pass1 ! (init ! 14 refl (typed the-record W h is)) $
-        pass1 ! (init ! 12 refl (tt, record { fits = fit .0 .1 })) $ pass1 ! (init ! 10 refl (tt, record { fits = fit .1 .0 .1 })) $ pass1 ! (init ! 8 refl (tt, record { fits = fit .1 .1 .0 .1 })) $ pass0 ! $
+        pass1 ! (init ! 12 refl (typed the-byte W k (are .0))) $ pass1 ! (init ! 10 refl (typed the-byte W a (are .1 .0))) $ pass1 ! (init ! 8 refl (typed the-byte W b (are .1 .1 .0))) $ pass0 ! $
         -- [_8; …; _7; …; _6; …; _5; …; _4; …; _3; …; _2; …; _1; …; room for _0; …; true; what the parameters own]
         -- the local _5 = _1, and _7 = &mut _5
         assigns ! (of-opd ! (load ! (from ! (stop !)) (look ! 14 refl))) (from ! (stop !)) (init ! 6 refl (typed the-record W h is)) $
@@ -131,7 +129,7 @@ module _ {M : Type 1} (𝓤 : URA M) (H : Heap 𝓤) (A : Atoms 𝓤) (W : Given
 
 module _ {M : Type 1} (𝓤 : URA M) (H : Heap 𝓤) (A : Atoms 𝓤) (W : Given 𝓤 H A) (at-mem : Memory → SProp 𝓤) (run : Routine → Fun 𝓤) where
   walks : (C : Calls 𝓤 H) (Λ : Loops 𝓤 H) → FmC 𝓤 H (W .laws) C → Triple 𝓤 (C #in-place·apply) (Applying 𝓤 H A at-mem run) → Walks 𝓤 H A applied.ended stayed (WpFn 𝓤 H C Λ code.function) (applied.clauses 𝓤 H A at-mem run)
-  walks C Λ fm known-apply = walked 𝓤 H A applied.ended stayed (applied.clauses 𝓤 H A at-mem run) (WpFn 𝓤 H C Λ code.function) (λ κs. ((λ x. the-record .val x ∷ []), bytes-spell)) (λ κs. (the-record .tells, bytes-tell))
+  walks C Λ fm known-apply = walked 𝓤 H A applied.ended stayed (applied.clauses 𝓤 H A at-mem run) (WpFn 𝓤 H C Λ code.function) (λ κs. all-vals (the-record ∷ bytes)) (λ κs. all-tell (the-record ∷ bytes))
       (λ κs qs bounds a _ are. via 𝓤 _ (fst∗ 𝓤 _ (emp 𝓤)) (walk 𝓤 H A W at-mem run (a .0) (a .1 .0) (a .1 .1 .0) (a .1 .1 .1 .0) (are .0) (are .1) C Λ fm known-apply))
 
 pub applied-spec : {M : Type 1} → stated.statement M

@@ -20,7 +20,6 @@ use types.Part.{agg, whole, sub, look-in}
 use types.SemTy.{Body}
 use sound.WpLaws.{FmC}
 use denote.RattleType.{owns}
-use denote.Laws.{Ises, owns-make}
 use denote.Memory.{mem}
 use denote.Ref.{RefT, MutRef, ptr-vals, mut-tells}
 use denote.Signature.{plain}
@@ -41,7 +40,7 @@ use Rattle.steps.proofs.Machine.step as step
 use Rattle.steps.proofs.Machine.step.Symbol as step-def
 use Rattle.steps.proofs.Machine.step.Symbol.{name as #steps·Machine·step}
 use Rattle.steps.proofs.Machine.step.Met as step-thm
-use Rattle.in_place.proofs.Walking.{Data, struct, the-record, the-answer, the-stepped, Lies, typed, next-lies, answer-lies, Done, told, known, had, gone, bytes, bytes-spell, bytes-tell, Fit, bytes-stay, bytes-make, bytes-go, walk-enters}
+use Rattle.in_place.proofs.Walking.{Data, struct, the-record, the-answer, the-stepped, the-byte, Lies, typed, all-types, all-vals, all-tell, All-lie, next-lies, answer-lies, Done, told, known, had, had-all, gone, bytes, bytes-stay, bytes-go, walk-enters}
 use Rattle.in_place.proofs.apply.Key.{name as #in-place·apply}
 use Rattle.in_place.proofs.apply as apply
 use Rattle.in_place.proofs.apply.Statement as stated
@@ -64,7 +63,7 @@ the-machine = struct K.the-type K′.the-laws K′.the-plain
 machine-lies : (h : Record) → Lies the-record h → Lies the-machine (machine h)
 machine-lies h is = LL.owes K.the-type K′.the-laws (machine h) (is, tt)
 
-module _ {M : Type 1} (𝓤 : URA M) (H : Heap 𝓤) (A : Atoms 𝓤) (W : Given 𝓤 H A) (at-mem : Memory → SProp 𝓤) (run : Routine → Fun 𝓤) (κ : Lft) (q : Share) (p o : ℕ) (γ : GName) (h : Record) (k a b : ℕ) (fit : Fit (k, (a, (b, tt)))) where
+module _ {M : Type 1} (𝓤 : URA M) (H : Heap 𝓤) (A : Atoms 𝓤) (W : Given 𝓤 H A) (at-mem : Memory → SProp 𝓤) (run : Routine → Fun 𝓤) (κ : Lft) (q : Share) (p o : ℕ) (γ : GName) (h : Record) (k a b : ℕ) (are : All-lie bytes (k, (a, (b, tt)))) where
   -- what is passed to `apply`, and its machine values
   abbrev x : RefT Record × (ℕ × (ℕ × (ℕ × Unit {0})))
   x = (record { ptr = (p, o); name = γ; now = h }, (k, (a, (b, tt))))
@@ -83,19 +82,16 @@ module _ {M : Type 1} (𝓤 : URA M) (H : Heap 𝓤) (A : Atoms 𝓤) (W : Given
   to-step = ((tt, tt, tt, to, (the-machine .val (machine h) ∷ [], at .1)), tt)
 
   goes-step : Lies the-record h → ent 𝓤 (emp 𝓤) (Stepping 𝓤 H A at-mem run .pre to-step)
-  goes-step is =
-      qed W [] ∵ use0 W (‵ (owns (the-machine .type ∷ bytes) to (the-machine .val (machine h) ∷ [], at .1)))
-      (owns-make 𝓤 H A (the-machine .type ∷ bytes) (Ises (the-machine .type ∷ bytes)) (the-machine .makes 𝓤 H A, bytes-make 𝓤 H A W) to (the-machine .val (machine h) ∷ [], at .1) (machine-lies h is, fit)) $
-      nothing ! $ join ! $ frame ! $ done !
+  goes-step is = qed W [] ∵ had-all ! (the-machine ∷ bytes) to (machine-lies h is, are) $ nothing ! $ join ! $ frame ! $ done !
 
   -- what the step ensures of what it hands back
   ensured-done : (s : Stepped) → ent 𝓤 (ensured 𝓤 H A step.ended (step.clauses 𝓤 H A at-mem run) tt to tt s) (fact 𝓤 (Done h k a b s))
   ensured-done s = exE 𝓤 _ (λ ws. snd∗ 𝓤 (sem 𝓤 H A (lasts step.ended tt to ws)) (fact 𝓤 (Done h k a b s)))
 
   exits : (s : Stepped) → Done h k a b s → Lies the-answer (s .answer)
-      → ent 𝓤 (sep 𝓤 (A .obs γ (the-record .type .coded .code (s .next))) (sep 𝓤 (A .bor κ (Body (mem (the-record .type)) p o γ)) (sep 𝓤 (A .lft κ q) (sem 𝓤 H A (owns bytes (x .1) (at .1)))))) (Post (the-answer .val (s .answer)))
+      → ent 𝓤 (sep 𝓤 (A .obs γ (the-record .type .coded .code (s .next))) (sep 𝓤 (A .bor κ (Body (mem (the-record .type)) p o γ)) (sep 𝓤 (A .lft κ q) (sem 𝓤 H A (owns (all-types bytes) (x .1) (at .1)))))) (Post (the-answer .val (s .answer)))
   exits s e is =
-      qed W (‵ (fobs γ (the-record .type .coded .code (s .next))) ∷ ‵ (fbor κ (Body (mem (the-record .type)) p o γ)) ∷ ‵ (flft κ q) ∷ ‵ (owns bytes (x .1) (at .1)) ∷ []) ∵
+      qed W (‵ (fobs γ (the-record .type .coded .code (s .next))) ∷ ‵ (fbor κ (Body (mem (the-record .type)) p o γ)) ∷ ‵ (flft κ q) ∷ ‵ (owns (all-types bytes) (x .1) (at .1)) ∷ []) ∵
       suffices ! _ (ends-at 𝓤 H A apply.ended stayed (apply.clauses 𝓤 H A at-mem run) W (((κ, tt), (q, tt), tt, x, at), tt) (the-answer .val (s .answer)) (s .answer) (s .next, (tt, (tt, (tt, tt)))) (tt, (tt, (tt, (tt, tt))))) $
       says ! e $ nothing ! $ move ! (3 ∷ 0 ∷ []) $ join ! $ frame ! $
       feqI ! (List Val) (vptr p o ∷ []) (vptr p o ∷ []) refl $ fjoin3 ! $ fjoin ! $ had ! the-answer (s .answer) is $ move ! (1 ∷ 0 ∷ []) $ done !
@@ -103,10 +99,10 @@ module _ {M : Type 1} (𝓤 : URA M) (H : Heap 𝓤) (A : Atoms 𝓤) (W : Given
   module _ (C : Calls 𝓤 H) (Λ : Loops 𝓤 H) (fm : FmC 𝓤 H (W .laws) C) (known-step : Triple 𝓤 (C #steps·Machine·step) (Stepping 𝓤 H A at-mem run)) where
     walk : ent 𝓤 (onEntry 𝓤 H A apply.signature (κ, tt) (q, tt) x at) (WpFn 𝓤 H C Λ code.function (vptr p o ∷ vint w8 k ∷ vint w8 a ∷ vint w8 b ∷ []) Post)
     walk =
-        qed W ((‵ (flft κ q) ⊛ ‵ ftrue) ∷ ‵ (owns (MutRef (named 0) κ (the-record .type) ∷ bytes) x at) ∷ []) ∵ enter ! C Λ code.function (vptr p o ∷ vint w8 k ∷ vint w8 a ∷ vint w8 b ∷ []) _ $
+        qed W ((‵ (flft κ q) ⊛ ‵ ftrue) ∷ ‵ (owns (MutRef (named 0) κ (the-record .type) ∷ all-types bytes) x at) ∷ []) ∵ enter ! C Λ code.function (vptr p o ∷ vint w8 k ∷ vint w8 a ∷ vint w8 b ∷ []) _ $
         -- the locals get room, and the parameters are stored
         alloc1 ! (λ l₀. alloc1 ! (λ l₁. alloc1 ! (λ l₂. alloc1 ! (λ l₃. alloc1 ! (λ l₄. alloc1 ! (λ l₅. alloc1 ! (λ l₆. alloc1 ! (λ l₇. alloc0 ! $ params1 ! $ pass1 ! (init ! 12 refl (tt, tt)) $
-        pass1 ! (init ! 10 refl (tt, record { fits = fit .0 .1 })) $ pass1 ! (init ! 8 refl (tt, record { fits = fit .1 .0 .1 })) $ pass1 ! (init ! 6 refl (tt, record { fits = fit .1 .1 .0 .1 })) $ pass0 ! $
+        pass1 ! (init ! 10 refl (typed the-byte W k (are .0))) $ pass1 ! (init ! 8 refl (typed the-byte W a (are .1 .0))) $ pass1 ! (init ! 6 refl (typed the-byte W b (are .1 .1 .0))) $ pass0 ! $
         -- the borrow is opened: the record lies in memory
         move ! (17 ∷ []) $ fsplit ! $ fsplit3 ! $ drop ! $ move ! (19 ∷ []) $ split ! $ move ! (2 ∷ 3 ∷ 0 ∷ []) $ opens ! tt (the-record .type) {h = h} p o (λ vs. known ! the-record h vs p o (λ is.
         -- [what the record owns; the record's cell; the open borrow; obs; auth; true; what the bytes own; _7; …; _6; …; _5; …; _4; …; _3; …; _2; …; _1; …; room for _0; …]
@@ -132,7 +128,7 @@ module _ {M : Type 1} (𝓤 : URA M) (H : Heap 𝓤) (A : Atoms 𝓤) (W : Given
 
 module _ {M : Type 1} (𝓤 : URA M) (H : Heap 𝓤) (A : Atoms 𝓤) (W : Given 𝓤 H A) (at-mem : Memory → SProp 𝓤) (run : Routine → Fun 𝓤) where
   walks : (C : Calls 𝓤 H) (Λ : Loops 𝓤 H) → FmC 𝓤 H (W .laws) C → Triple 𝓤 (C #steps·Machine·step) (Stepping 𝓤 H A at-mem run) → Walks 𝓤 H A apply.ended stayed (WpFn 𝓤 H C Λ code.function) (apply.clauses 𝓤 H A at-mem run)
-  walks C Λ fm known-step = walked 𝓤 H A apply.ended stayed (apply.clauses 𝓤 H A at-mem run) (WpFn 𝓤 H C Λ code.function) (λ κs. (ptr-vals, bytes-spell)) (λ κs. (mut-tells (named 0) (κs .0) (the-record .type), bytes-tell))
+  walks C Λ fm known-step = walked 𝓤 H A apply.ended stayed (apply.clauses 𝓤 H A at-mem run) (WpFn 𝓤 H C Λ code.function) (λ κs. (ptr-vals, all-vals bytes)) (λ κs. (mut-tells (named 0) (κs .0) (the-record .type), all-tell bytes))
       (λ κs qs bounds a _ are. via 𝓤 _ (fst∗ 𝓤 _ (emp 𝓤)) (walk 𝓤 H A W at-mem run (κs .0) (qs .0) (a .0 .ptr .0) (a .0 .ptr .1) (a .0 .name) (a .0 .now) (a .1 .0) (a .1 .1 .0) (a .1 .1 .1 .0) (are .1) C Λ fm known-step))
 
 pub apply-spec : {M : Type 1} → stated.statement M
