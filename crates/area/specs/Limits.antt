@@ -5,7 +5,7 @@ use Prim.Native.Nat.{ℕ, _*_, _-_}
 abbrev pub width : ℕ
 width = 32
 
--- The metric of a link that is not used; a smaller one is used.
+-- The metric of a link that is not used. A used link has a smaller one, from 1 on.
 abbrev pub unused : ℕ
 unused = 16777215
 

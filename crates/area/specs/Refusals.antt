@@ -5,7 +5,7 @@ use Rattle.area.specs.declared.refusal.Refusal.the-variants.{Incomplete,
 use Rattle.area.specs.declared.refusal.Verdict.{Verdict}
 use Rattle.area.specs.declared.refusal.Verdict.the-variants.{Accepted, Refused}
 
--- the number of a refusal
+-- the number of a refusal; `Refusal` and `Verdict` are the enums of src/refusal.rt
 abbrev pub refusalNumber : Refusal → ℕ
 refusalNumber Incomplete = 1
 refusalNumber Trailing = 2

@@ -10,7 +10,7 @@ unfoldable pub build : ℕ → (ℕ → ℕ) → List ℕ
 build zero f = []
 build (suc n) f = let h = f 0 in h ∷ build n (λ k. f (suc k))
 
--- the cell of (i, j)
+-- the cell of (i, j) in the table t; `getD t k 0` is element k of t, and 0 where t has none
 abbrev pub cell : ℕ → List ℕ → ℕ → ℕ → ℕ
 cell w t i j = getD t (w * i + j) 0
 

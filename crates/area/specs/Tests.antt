@@ -1,4 +1,4 @@
--- Tests, and what is chosen by them.
+-- Tests, and what is chosen by them. A test is true or false: `ltb a b` tests a < b, `leb a b` tests a ≤ b, `eqb a b` tests a = b.
 use Prim.Native.Nat.{ℕ, zero, suc}
 use mathlib.Core.Bool.{Bool, true, false, _&&_}
 use lib.Dec.{eqb}

@@ -12,7 +12,7 @@ use Rattle.paths.specs.Pigeonhole.{Distinct}
 abbrev pub pointers : (old new : ℕ → ℕ) → (wrote : ℕ → Bool) → ℕ → ℕ
 pointers old new wrote r = pick (wrote r) (new r) (old r)
 
--- A walk along the pointers: it starts at x and goes on to the routers of l, each in the set that the one before it points to. It has a link for each router of l, perhaps none.
+-- A walk along the pointers: it starts at x and goes on to the routers of l, each in the set that the one before it points to. It has a link for each router of l, perhaps none. `Unit` always holds.
 abbrev pub Along : (ℕ → ℕ) → ℕ → List ℕ → Type 0
 Along p x [] = Unit {0}
 Along p x (y ∷ l) = (bit (p x) y ≡ true) × Along p y l
@@ -22,7 +22,7 @@ abbrev pub last : ℕ → List ℕ → ℕ
 last x [] = x
 last x (y ∷ l) = last y l
 
--- no walk along the pointers meets a router twice
+-- no walk along the pointers meets a router twice: its routers are `Distinct`, a list with no number twice (Pigeonhole.antt of paths)
 abbrev pub NoRouterTwice : (ℕ → ℕ) → Type 0
 NoRouterTwice p = (x : ℕ) (l : List ℕ) → Along p x l → Distinct (x ∷ l)
 

@@ -1,4 +1,4 @@
--- The main step, for rises and falls alike. A router x points by lo alone where it points to its set in lo and has another one in hi: p x ≢ at-hi x. It points by hi alone where p x ≢ at-lo x.
+-- The main step, for rises and falls alike. A router x points to the set p x; its sets toward d in lo and in hi are at-lo x and at-hi x. It points by lo alone where it points to its set in lo and has another one in hi: p x ≢ at-hi x. It points by hi alone where p x ≢ at-lo x.
 --     Moment           what is known of the pointers p while routers write in order
 --     lo-next, hi-next     pointers lead to next hops in lo or in hi
 --     separation       no pointers lead from a router that points by lo alone to one that points by hi alone

@@ -1,4 +1,4 @@
--- A text in hexadecimal: pairs of digits, each pair a byte; white space between pairs; and comments, from `#` up to the end of the line.
+-- A text in hexadecimal: pairs of digits, each pair a byte; white space between pairs; and comments, from `#` up to the end of the line. What a byte of the text is, by the bytes before it, is its reading: `Reading` is the enum of src/lib.rt.
 use Prim.Native.Nat.{ℕ, _+_, _*_, _-_}
 use mathlib.Core.Bool.{Bool, cond, _&&_, _||_}
 use mathlib.Core.List.{List, [], _∷_, _++_}

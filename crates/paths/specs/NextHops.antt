@@ -15,7 +15,7 @@ isNext n g i j k = ltb (g i k) unused && eqb (g i k + distance n g k j) (distanc
 unfoldable pub nextHops : ℕ → ℕ → (ℕ → ℕ → ℕ) → ℕ → ℕ → ℕ
 nextHops w n g i j = setOf w (isNext n g i j)
 
--- the same as a fact
+-- the same as a fact: what `isNext` tests, holds (`next-true`, `true-next` of NextHopLaws.antt)
 pub record Next (n : ℕ) (g : ℕ → ℕ → ℕ) (i j k : ℕ) : Type 0 where
   pub uses : g i k < unused
   pub exact : g i k + distance n g k j ≡ distance n g i j

@@ -8,7 +8,7 @@ use Rattle.area.specs.Tests.{pick}
 use Rattle.area.specs.Tables.{cell, tabulate}
 use Rattle.area.specs.Entries.{count, listed}
 
--- The cell (i, j) of the new table when the first k changes are made: `unused` on the diagonal and beyond n, whatever the old table has there.
+-- The cell (i, j) of the new table when the first k changes are made: `unused` on the diagonal and beyond n, whatever the old table has there. `newMetrics` is the table when all changes are made.
 unfoldable pub newCell : ℕ → List ℕ → List ℕ → ℕ → ℕ → ℕ → ℕ
 newCell n m l k i j = pick (ltb i n && (ltb j n && not (eqb i j))) (listed l k i j (cell width m i j)) unused
 

@@ -1,5 +1,5 @@
 -- Plan (01, "The plan"): its answer, the record that it hands back, and what its tables hold when it returns, on every input.
--- n is the number of routers, m the old metric table, l the change list.
+-- n is the number of routers, m the old metric table, l the change list. `Record` is the struct of src/lib.rt, each array as a list.
 use Prim.Native.Nat.{ℕ, _%_}
 use mathlib.Core.Bool.{Bool, not, _&&_, _||_}
 use mathlib.Core.List.{List}

@@ -1,7 +1,7 @@
 -- Laws of what Plan answers, hands back and fills in: those by which the code is proved, and those that callers use.
 --     changes-fault, changes-mixed, changes-apart, changes-pass    the refusals of the changes, each where it is given
 --     plan-count, plan-tables, .. plan-changes     the refusals of the whole input, each where it is given
---     Plan, planned-is     an input is planned exactly where none of the paper's conditions holds
+--     Plan, planned-is     an input is planned exactly where none of 01's conditions for a refusal holds
 --     record-planned, record-refused, tables-planned, tables-refused       what is handed back and left
 --     filled-size      the tables that are filled have the right size
 use Prim.Native.Nat.{ℕ, _*_, _%_, _≤_, _<_}
@@ -108,7 +108,7 @@ sized-of m t e =
       newHops = table-size (t .newHops) (v .1);
     }
 
--- ---- an input that is planned: none of the paper's conditions holds
+-- ---- an input that is planned: none of 01's conditions for a refusal holds
 pub record Plan (n : ℕ) (m l : List ℕ) : Type 0 where
   pub ready : Ready n m
   pub whole : length l % 5 ≡ 0

@@ -11,7 +11,7 @@ use Rattle.bench_file.specs.Read.{readRefusal, linked}
 abbrev pub metrics : List ℕ → List ℕ
 metrics f = linked (links f) (linkCount f)
 
--- The number of Read's refusal, and then of Plan's; 0 where neither refuses. m is the table that Read is lent, and t are those that Plan is.
+-- The number of Read's refusal, and then of Plan's; 0 where neither refuses. m is the table that Read is lent, and t are the tables that Plan is lent.
 unfoldable pub refusal : List ℕ → List ℕ → Tables → ℕ
 refusal f m t = orThen (readRefusal f m) (planRefusal (routers f) (metrics f) (changes f) (areTables (metrics f) t))
 

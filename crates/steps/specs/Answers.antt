@@ -1,4 +1,4 @@
--- What a call of Step gives: the record that it hands back, and its answer (01, "The steps").
+-- What a call of Step gives: the record that it hands back, and its answer (01, "The steps"). `Answer` and `Stepped` are types of src/lib.rt; an outcome is the same in terms of 01.
 use Prim.Native.Nat.{ℕ}
 use Rattle.area.specs.Refusals.{refusalNumber}
 use Rattle.plan.specs.declared.Record.{Record}
@@ -6,7 +6,7 @@ use Rattle.steps.specs.declared.Answer.{Answer}
 use Rattle.steps.specs.declared.Answer.the-variants.{Ok, Ignored, Refused}
 use Rattle.steps.specs.declared.Stepped.{Stepped}
 
--- the answers, in the paper's words: a refusal has its number
+-- the answers, in 01's words: a refusal has its number
 pub data Reply : Type 0 where
   ok : Reply
   ignored : Reply

@@ -1,4 +1,4 @@
--- Step (01, "The steps"): the machine over a plan's record, for every record, every kind and all numbers a and b.
+-- Step (01, "The steps"): the machine over a plan's record, for every record r, every kind and all numbers a and b. `set t a s` is the table t with s as its entry a.
 use Prim.Native.Nat.{ℕ}
 use mathlib.Core.Bool.{Bool, not, _&&_, _||_}
 use mathlib.Core.List.{List}

@@ -1,4 +1,4 @@
--- A list of calls, one after another, each on the record that the one before it handed back (01, "The steps").
+-- A list of calls, one after another, each on the record that the one before it handed back (01, "The steps"). A call has a kind and the numbers a and b.
 use Prim.Native.Nat.{ℕ}
 use mathlib.Core.Bool.{Bool, true, false, _&&_, _||_}
 use mathlib.Core.List.{List, [], _∷_}
