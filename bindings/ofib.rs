@@ -1,0 +1,177 @@
+//! The proved library `libexports.a`, as safe Rust. No exported function asks anything of its caller, so nothing has to be tested before a call: a slice goes over as its pointer and its length, and a
+//! field of the record as a pointer to it. The declarations are the ones of `crates/exports/src/lib.rt`; nothing but this file's reader holds the two together.
+
+pub const WIDTH: usize = 32;
+pub const CELLS: usize = WIDTH * WIDTH;
+
+/// A plan's record. Entry r of a table per router belongs to router r, and is 0 from n on.
+#[derive(Clone, Debug, Default, PartialEq, Eq, Hash)]
+pub struct Record {
+    pub n: u8,
+    pub root: u8,
+    pub direction: u8,
+    pub ranks: [u8; WIDTH],
+    pub waiting: [u32; WIDTH],
+    pub telling: [u32; WIDTH],
+    pub due: [u32; WIDTH],
+    pub states: [u8; WIDTH],
+    pub written: [u32; WIDTH],
+}
+
+/// What a file says of itself: all 0 with a refusal.
+#[derive(Clone, Copy, Debug, Default, PartialEq, Eq)]
+pub struct Contents {
+    pub n: usize,
+    pub links: usize,
+    pub changes: usize,
+    pub changes_at: usize,
+    pub steps: usize,
+    pub steps_at: usize,
+}
+
+/// The answer of a step.
+#[derive(Clone, Copy, Debug, PartialEq, Eq)]
+pub enum Answer {
+    Ok,
+    Ignored,
+    Refused(u8),
+}
+
+/// The six tables that Plan and the texts are lent.
+pub struct Tables<'a> {
+    pub old: &'a mut [u32],
+    pub new: &'a mut [u32],
+    pub old_dist: &'a mut [u32],
+    pub new_dist: &'a mut [u32],
+    pub old_hops: &'a mut [u32],
+    pub new_hops: &'a mut [u32],
+}
+
+mod c {
+    use super::WIDTH;
+
+    #[link(name = "exports", kind = "static")]
+    unsafe extern "C" {
+        pub fn ofib_read(file: *const u8, file_len: usize, table: *mut u32, table_len: usize, contents: *mut [usize; 6]) -> u8;
+        pub fn ofib_paths(n: usize, metric: *const u32, metric_len: usize, dist: *mut u32, dist_len: usize, hops: *mut u32, hops_len: usize) -> u8;
+        pub fn ofib_plan(
+            n: usize,
+            old: *const u32, old_len: usize,
+            list: *const u8, list_len: usize,
+            new: *mut u32, new_len: usize,
+            old_dist: *mut u32, old_dist_len: usize,
+            new_dist: *mut u32, new_dist_len: usize,
+            old_hops: *mut u32, old_hops_len: usize,
+            new_hops: *mut u32, new_hops_len: usize,
+            routers: *mut u8, root: *mut u8, direction: *mut u8,
+            ranks: *mut [u8; WIDTH], waiting: *mut [u32; WIDTH], telling: *mut [u32; WIDTH], due: *mut [u32; WIDTH],
+            states: *mut [u8; WIDTH], written: *mut [u32; WIDTH],
+        ) -> u8;
+        pub fn ofib_step(
+            routers: *mut u8, root: *mut u8, direction: *mut u8,
+            ranks: *mut [u8; WIDTH], waiting: *mut [u32; WIDTH], telling: *mut [u32; WIDTH], due: *mut [u32; WIDTH],
+            states: *mut [u8; WIDTH], written: *mut [u32; WIDTH],
+            kind: u8, a: u8, b: u8,
+        ) -> u8;
+        pub fn ofib_run(
+            routers: *mut u8, root: *mut u8, direction: *mut u8,
+            ranks: *mut [u8; WIDTH], waiting: *mut [u32; WIDTH], telling: *mut [u32; WIDTH], due: *mut [u32; WIDTH],
+            states: *mut [u8; WIDTH], written: *mut [u32; WIDTH],
+            steps: *const u8, steps_len: usize,
+        );
+        pub fn ofib_rehearse(
+            file: *const u8, file_len: usize,
+            old: *mut u32, old_len: usize,
+            new: *mut u32, new_len: usize,
+            old_dist: *mut u32, old_dist_len: usize,
+            new_dist: *mut u32, new_dist_len: usize,
+            old_hops: *mut u32, old_hops_len: usize,
+            new_hops: *mut u32, new_hops_len: usize,
+            out: *mut u8, out_len: usize,
+        ) -> usize;
+        pub fn ofib_routes(
+            file: *const u8, file_len: usize,
+            old: *mut u32, old_len: usize,
+            new: *mut u32, new_len: usize,
+            old_dist: *mut u32, old_dist_len: usize,
+            new_dist: *mut u32, new_dist_len: usize,
+            old_hops: *mut u32, old_hops_len: usize,
+            new_hops: *mut u32, new_hops_len: usize,
+            out: *mut u8, out_len: usize,
+        ) -> usize;
+    }
+}
+
+/// Read: the number of its refusal, or 0, and what the file says of itself.
+pub fn read(file: &[u8], table: &mut [u32]) -> (u8, Contents) {
+    let mut c = [0; 6];
+    let answer = unsafe { c::ofib_read(file.as_ptr(), file.len(), table.as_mut_ptr(), table.len(), &mut c) };
+    (answer, Contents { n: c[0], links: c[1], changes: c[2], changes_at: c[3], steps: c[4], steps_at: c[5] })
+}
+
+/// Paths: the number of its refusal, or 0.
+pub fn paths(n: usize, metric: &[u32], dist: &mut [u32], hops: &mut [u32]) -> u8 {
+    unsafe { c::ofib_paths(n, metric.as_ptr(), metric.len(), dist.as_mut_ptr(), dist.len(), hops.as_mut_ptr(), hops.len()) }
+}
+
+/// Plan: the number of its refusal, or 0. `t.old` is read, and the other tables and the record are filled.
+pub fn plan(n: usize, list: &[u8], t: &mut Tables, r: &mut Record) -> u8 {
+    unsafe {
+        c::ofib_plan(
+            n, t.old.as_ptr(), t.old.len(), list.as_ptr(), list.len(),
+            t.new.as_mut_ptr(), t.new.len(),
+            t.old_dist.as_mut_ptr(), t.old_dist.len(), t.new_dist.as_mut_ptr(), t.new_dist.len(),
+            t.old_hops.as_mut_ptr(), t.old_hops.len(), t.new_hops.as_mut_ptr(), t.new_hops.len(),
+            &mut r.n, &mut r.root, &mut r.direction, &mut r.ranks, &mut r.waiting, &mut r.telling, &mut r.due, &mut r.states, &mut r.written,
+        )
+    }
+}
+
+/// Step: the record is changed in place.
+pub fn step(r: &mut Record, kind: u8, a: u8, b: u8) -> Answer {
+    let number = unsafe {
+        c::ofib_step(
+            &mut r.n, &mut r.root, &mut r.direction, &mut r.ranks, &mut r.waiting, &mut r.telling, &mut r.due, &mut r.states, &mut r.written,
+            kind, a, b,
+        )
+    };
+    match number {
+        0 => Answer::Ok,
+        255 => Answer::Ignored,
+        k => Answer::Refused(k),
+    }
+}
+
+/// All the steps that the bytes stand for, three bytes each.
+pub fn run(r: &mut Record, steps: &[u8]) {
+    unsafe {
+        c::ofib_run(
+            &mut r.n, &mut r.root, &mut r.direction, &mut r.ranks, &mut r.waiting, &mut r.telling, &mut r.due, &mut r.states, &mut r.written,
+            steps.as_ptr(), steps.len(),
+        )
+    }
+}
+
+/// The text of a rehearsal, at the start of `out` as far as that has room; its length.
+pub fn rehearse(file: &[u8], t: &mut Tables, out: &mut [u8]) -> usize {
+    unsafe {
+        c::ofib_rehearse(
+            file.as_ptr(), file.len(), t.old.as_mut_ptr(), t.old.len(), t.new.as_mut_ptr(), t.new.len(),
+            t.old_dist.as_mut_ptr(), t.old_dist.len(), t.new_dist.as_mut_ptr(), t.new_dist.len(),
+            t.old_hops.as_mut_ptr(), t.old_hops.len(), t.new_hops.as_mut_ptr(), t.new_hops.len(),
+            out.as_mut_ptr(), out.len(),
+        )
+    }
+}
+
+/// The text of the routes, likewise.
+pub fn routes(file: &[u8], t: &mut Tables, out: &mut [u8]) -> usize {
+    unsafe {
+        c::ofib_routes(
+            file.as_ptr(), file.len(), t.old.as_mut_ptr(), t.old.len(), t.new.as_mut_ptr(), t.new.len(),
+            t.old_dist.as_mut_ptr(), t.old_dist.len(), t.new_dist.as_mut_ptr(), t.new_dist.len(),
+            t.old_hops.as_mut_ptr(), t.old_hops.len(), t.new_hops.as_mut_ptr(), t.new_hops.len(),
+            out.as_mut_ptr(), out.len(),
+        )
+    }
+}

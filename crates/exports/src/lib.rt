@@ -1,0 +1,291 @@
+// The bench for programs in C or Rust: each call under a plain name, with numbers, slices and arrays in place of structs and enums. A verdict is its number, 0 where nothing is refused. A record is lent field by field.
+use area::limits::WIDTH;
+use plan::Record;
+use steps::Answer;
+use steps::Machine;
+ghost use mathlib.Core.Path.{_≡_};
+ghost use Rattle.paths.specs.Paths.{refusalOf, distancesOf, hopsOf};
+ghost use Rattle.plan.specs.Plan.{tables, areTables, planRefusal, recordOf, tablesOf};
+ghost use Rattle.steps.specs.Answers.{replyOf, gives};
+ghost use Rattle.steps.specs.Machine.{stepOf};
+ghost use Rattle.steps.specs.Run.{run, callsOf};
+ghost use Rattle.bench_file.specs.Read.{readRefusal, contentsOf, metricsOf};
+ghost use Rattle.text.specs.Text.{Appended};
+ghost use Rattle.report.specs.Report.{rehearsal, routes};
+ghost use Rattle.exports.specs.Exports.{recordFrom, numbers, replyNumber};
+
+// Read. `contents` gets n, the number of links, the number of changes and where they begin, the number of steps and where they begin.
+#[no_mangle]
+pub extern "C" fn ofib_read(file: &[u8], table: &mut [u32], contents: &mut [usize; 6]) -> u8
+    ensures answer { λ r. ⌜ r ≡ readRefusal (now (file .entry)) (now (table .entry)) ⌝ }
+    ensures contents { λ _. ⌜ now (contents .exit) ≡ numbers (contentsOf (now (file .entry)) (now (table .entry))) ⌝ }
+    ensures metrics { λ _. ⌜ now (table .exit) ≡ metricsOf (now (file .entry)) (now (table .entry)) ⌝ }
+{
+    let found = bench_file::read(file, table);
+    let said = found.contents;
+    let changes = said.changes;
+    let steps = said.steps;
+    *contents = [
+        said.n,
+        said.links,
+        changes.count,
+        changes.at,
+        steps.count,
+        steps.at,
+    ];
+    let answer = found.answer;
+    answer.number()
+}
+
+// Paths.
+#[no_mangle]
+pub extern "C" fn ofib_paths(n: usize, metric: &[u32], dist: &mut [u32], hops: &mut [u32]) -> u8
+    ensures answer { λ r. ⌜ r ≡ refusalOf n (now (metric .entry)) (now (dist .entry)) (now (hops .entry)) ⌝ }
+    ensures distances { λ _. ⌜ now (dist .exit) ≡ distancesOf n (now (metric .entry)) (now (dist .entry)) (now (hops .entry)) ⌝ }
+    ensures hops { λ _. ⌜ now (hops .exit) ≡ hopsOf n (now (metric .entry)) (now (dist .entry)) (now (hops .entry)) ⌝ }
+{
+    let answer = paths::paths(n, metric, dist, hops);
+    answer.number()
+}
+
+// Plan. The record that it hands back is put into the nine last places.
+#[no_mangle]
+pub extern "C" fn ofib_plan(
+    n: usize,
+    old: &[u32],
+    list: &[u8],
+    new: &mut [u32],
+    old_dist: &mut [u32],
+    new_dist: &mut [u32],
+    old_hops: &mut [u32],
+    new_hops: &mut [u32],
+    routers: &mut u8,
+    root: &mut u8,
+    direction: &mut u8,
+    ranks: &mut [u8; WIDTH],
+    waiting: &mut [u32; WIDTH],
+    telling: &mut [u32; WIDTH],
+    due: &mut [u32; WIDTH],
+    states: &mut [u8; WIDTH],
+    written: &mut [u32; WIDTH],
+) -> u8
+    ensures answer { λ r. ⌜ r ≡ planRefusal n (now (old .entry)) (now (list .entry)) (areTables (now (old .entry)) (tables (now (new .entry)) (now («old_dist» .entry)) (now («new_dist» .entry)) (now («old_hops» .entry)) (now («new_hops» .entry)))) ⌝ }
+    ensures record { λ _. ⌜ recordFrom (now (routers .exit)) (now (root .exit)) (now (direction .exit)) (now (ranks .exit)) (now (waiting .exit)) (now (telling .exit)) (now (due .exit)) (now (states .exit)) (now (written .exit)) ≡ recordOf n (now (old .entry)) (now (list .entry)) (tables (now (new .entry)) (now («old_dist» .entry)) (now («new_dist» .entry)) (now («old_hops» .entry)) (now («new_hops» .entry))) ⌝ }
+    ensures tables { λ _. ⌜ tables (now (new .exit)) (now («old_dist» .exit)) (now («new_dist» .exit)) (now («old_hops» .exit)) (now («new_hops» .exit)) ≡ tablesOf n (now (old .entry)) (now (list .entry)) (tables (now (new .entry)) (now («old_dist» .entry)) (now («new_dist» .entry)) (now («old_hops» .entry)) (now («new_hops» .entry))) ⌝ }
+{
+    let planned = plan::plan(n, old, list, new, old_dist, new_dist, old_hops, new_hops);
+    let record = planned.record;
+    hand_back(
+        record,
+        routers,
+        root,
+        direction,
+        ranks,
+        waiting,
+        telling,
+        due,
+        states,
+        written,
+    );
+    let answer = planned.answer;
+    answer.number()
+}
+
+// Step. The nine first places are the record, and get the record that is handed back. The answer is 0 for ok, 255 for ignored, and the number of a refusal.
+#[no_mangle]
+pub extern "C" fn ofib_step(
+    routers: &mut u8,
+    root: &mut u8,
+    direction: &mut u8,
+    ranks: &mut [u8; WIDTH],
+    waiting: &mut [u32; WIDTH],
+    telling: &mut [u32; WIDTH],
+    due: &mut [u32; WIDTH],
+    states: &mut [u8; WIDTH],
+    written: &mut [u32; WIDTH],
+    kind: u8,
+    a: u8,
+    b: u8,
+) -> u8
+    ensures answer { λ r. ⌜ r ≡ replyNumber (stepOf (recordFrom (now (routers .entry)) (now (root .entry)) (now (direction .entry)) (now (ranks .entry)) (now (waiting .entry)) (now (telling .entry)) (now (due .entry)) (now (states .entry)) (now (written .entry))) kind a b .reply) ⌝ }
+    ensures record { λ _. ⌜ recordFrom (now (routers .exit)) (now (root .exit)) (now (direction .exit)) (now (ranks .exit)) (now (waiting .exit)) (now (telling .exit)) (now (due .exit)) (now (states .exit)) (now (written .exit)) ≡ stepOf (recordFrom (now (routers .entry)) (now (root .entry)) (now (direction .entry)) (now (ranks .entry)) (now (waiting .entry)) (now (telling .entry)) (now (due .entry)) (now (states .entry)) (now (written .entry))) kind a b .next ⌝ }
+{
+    let record = lent(
+        *routers,
+        *root,
+        *direction,
+        ranks,
+        waiting,
+        telling,
+        due,
+        states,
+        written,
+    );
+    let stepped = Machine { now: record }.step(kind, a, b);
+    let next = stepped.next;
+    hand_back(
+        next,
+        routers,
+        root,
+        direction,
+        ranks,
+        waiting,
+        telling,
+        due,
+        states,
+        written,
+    );
+    let answer = stepped.answer;
+    number(answer)
+}
+
+// All the steps that the bytes stand for, three bytes each. The nine first places are the record, as for a step.
+#[no_mangle]
+pub extern "C" fn ofib_run(
+    routers: &mut u8,
+    root: &mut u8,
+    direction: &mut u8,
+    ranks: &mut [u8; WIDTH],
+    waiting: &mut [u32; WIDTH],
+    telling: &mut [u32; WIDTH],
+    due: &mut [u32; WIDTH],
+    states: &mut [u8; WIDTH],
+    written: &mut [u32; WIDTH],
+    bytes: &[u8],
+)
+    ensures { λ _. ⌜ recordFrom (now (routers .exit)) (now (root .exit)) (now (direction .exit)) (now (ranks .exit)) (now (waiting .exit)) (now (telling .exit)) (now (due .exit)) (now (states .exit)) (now (written .exit)) ≡ run (recordFrom (now (routers .entry)) (now (root .entry)) (now (direction .entry)) (now (ranks .entry)) (now (waiting .entry)) (now (telling .entry)) (now (due .entry)) (now (states .entry)) (now (written .entry))) (callsOf (now (bytes .entry))) ⌝ }
+{
+    let record = lent(
+        *routers,
+        *root,
+        *direction,
+        ranks,
+        waiting,
+        telling,
+        due,
+        states,
+        written,
+    );
+    let next = steps::run(record, bytes);
+    hand_back(
+        next,
+        routers,
+        root,
+        direction,
+        ranks,
+        waiting,
+        telling,
+        due,
+        states,
+        written,
+    );
+}
+
+// The text of the rehearsal of a file.
+#[no_mangle]
+pub extern "C" fn ofib_rehearse(
+    file: &[u8],
+    old: &mut [u32],
+    new: &mut [u32],
+    old_dist: &mut [u32],
+    new_dist: &mut [u32],
+    old_hops: &mut [u32],
+    new_hops: &mut [u32],
+    out: &mut [u8],
+) -> usize
+    ensures { λ r. ⌜ Appended (now (out .entry)) 0 (rehearsal (now (file .entry)) (now (old .entry)) (tables (now (new .entry)) (now («old_dist» .entry)) (now («new_dist» .entry)) (now («old_hops» .entry)) (now («new_hops» .entry)))) (now (out .exit)) r ⌝ }
+{
+    report::rehearse(file, old, new, old_dist, new_dist, old_hops, new_hops, out)
+}
+
+// The text of the routes of a file.
+#[no_mangle]
+pub extern "C" fn ofib_routes(
+    file: &[u8],
+    old: &mut [u32],
+    new: &mut [u32],
+    old_dist: &mut [u32],
+    new_dist: &mut [u32],
+    old_hops: &mut [u32],
+    new_hops: &mut [u32],
+    out: &mut [u8],
+) -> usize
+    ensures { λ r. ⌜ Appended (now (out .entry)) 0 (routes (now (file .entry)) (now (old .entry)) (tables (now (new .entry)) (now («old_dist» .entry)) (now («new_dist» .entry)) (now («old_hops» .entry)) (now («new_hops» .entry)))) (now (out .exit)) r ⌝ }
+{
+    report::routes(file, old, new, old_dist, new_dist, old_hops, new_hops, out)
+}
+
+fn number(answer: Answer) -> u8
+    ensures { λ r. ⌜ r ≡ replyNumber (replyOf answer) ⌝ }
+{
+    match answer {
+        Answer::Ok => 0,
+        Answer::Ignored => 255,
+        Answer::Refused(why) => why.number(),
+    }
+}
+
+// The record whose fields are these.
+fn lent(
+    n: u8,
+    root: u8,
+    direction: u8,
+    ranks: &[u8; WIDTH],
+    waiting: &[u32; WIDTH],
+    telling: &[u32; WIDTH],
+    due: &[u32; WIDTH],
+    states: &[u8; WIDTH],
+    written: &[u32; WIDTH],
+) -> Record
+    ensures { λ r. ⌜ r ≡ recordFrom n root direction (now (ranks .entry)) (now (waiting .entry)) (now (telling .entry)) (now (due .entry)) (now (states .entry)) (now (written .entry)) ⌝ }
+{
+    let ranks = *ranks;
+    let waiting = *waiting;
+    let telling = *telling;
+    let due = *due;
+    let states = *states;
+    let written = *written;
+    Record {
+        n,
+        root,
+        direction,
+        ranks,
+        waiting,
+        telling,
+        due,
+        states,
+        written,
+    }
+}
+
+// Puts each field of a record into its place.
+fn hand_back(
+    last: Record,
+    routers: &mut u8,
+    root: &mut u8,
+    direction: &mut u8,
+    ranks: &mut [u8; WIDTH],
+    waiting: &mut [u32; WIDTH],
+    telling: &mut [u32; WIDTH],
+    due: &mut [u32; WIDTH],
+    states: &mut [u8; WIDTH],
+    written: &mut [u32; WIDTH],
+)
+    ensures { λ _. ⌜ recordFrom (now (routers .exit)) (now (root .exit)) (now (direction .exit)) (now (ranks .exit)) (now (waiting .exit)) (now (telling .exit)) (now (due .exit)) (now (states .exit)) (now (written .exit)) ≡ last ⌝ }
+{
+    *routers = last.n;
+    *root = last.root;
+    *direction = last.direction;
+    let of_ranks = last.ranks;
+    *ranks = of_ranks;
+    let of_waiting = last.waiting;
+    *waiting = of_waiting;
+    let of_telling = last.telling;
+    *telling = of_telling;
+    let of_due = last.due;
+    *due = of_due;
+    let of_states = last.states;
+    *states = of_states;
+    let of_written = last.written;
+    *written = of_written;
+}
