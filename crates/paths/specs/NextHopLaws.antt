@@ -1,11 +1,11 @@
 -- Laws of next hops.
 --     next-true, true-next, next-bit, bit-next, next-set       the test, the fact and the set's bit say the same
 --     next-near, next-nearer      a router with a next hop reaches the destination, and so does the next hop, from nearer
---     some-next, nextHops-some    a router that reaches another one has a next hop to it
+--     some-next                   a router that reaches another one has a next hop to it
 --     no-next-self, no-next-unreached      none to oneself, none to what is not reached
 --     over-next, next-over        next hops by the last link: how a search hands them on from router to router
-use Prim.Native.Nat.{ℕ, _+_, _≤_, _<_}
-use mathlib.Core.Path.{_≡_, refl, sym, ap, _∙_, subst}
+use Prim.Native.Nat.{ℕ, _+_, _<_}
+use mathlib.Core.Path.{_≡_, refl, sym, _∙_, subst}
 use mathlib.Core.Bool.{true, false≢true}
 use mathlib.Core.Logic.{_≢_, ⊎-elim}
 use native.Mathlib.Decide.{decLt, ℕ-discrete}
@@ -15,7 +15,7 @@ use borrow.Author.Tests.{ltb-true, eqb-true, lt-ltb, eq-eqb}
 use Rattle.area.specs.Limits.{unused, unreached}
 use Rattle.area.specs.Sets.{bit}
 use Rattle.area.specs.TestLaws.{both-true, look}
-use Rattle.area.specs.SetLaws.{bit-setOf, bit-beyond, bit-zero, setOf-none}
+use Rattle.area.specs.SetLaws.{bit-setOf, bit-beyond, setOf-none}
 use Rattle.paths.specs.Walk.{Walk, stay, link, sum}
 use Rattle.paths.specs.Distance.{distance}
 use Rattle.paths.specs.NextHops.{isNext, nextHops, Next}
@@ -73,11 +73,6 @@ bit-next w n g i j k e = elim (decLt k w) [
 
 pub next-set : (w : ℕ) {n : ℕ} {g : ℕ → ℕ → ℕ} {i j k : ℕ} → k < w → Next n g i j k → bit (nextHops w n g i j) k ≡ true
 next-set w {n} {g} {i} {j} {k} h x = next-bit w n g i j k h ∙ true-next x
-
-pub nextHops-some : (w : ℕ) {n : ℕ} {g : ℕ → ℕ → ℕ} → Graph n g → n ≤ w → (i j : ℕ) → i ≢ j → distance n g i j < unreached → nextHops w n g i j ≢ 0
-nextHops-some w {n} {g} G b i j f h e =
-    let x = some-next G i j f h in
-    false≢true (sym (ap (λ (s : ℕ). bit s (x .0)) e ∙ bit-zero (x .0)) ∙ next-set w (omega (arith, x .1)) (x .2))
 
 -- ---- the next hops towards j are those towards the routers before j on a shortest walk, and j itself where the link to it is one
 pub data Over (n : ℕ) (g : ℕ → ℕ → ℕ) (r j k : ℕ) : Type 0 where

@@ -1,7 +1,7 @@
 -- Laws of the metrics after the change.
 --     cell-pair, cell-own, cell-beyond, cell-copied, cell-start, cell-more, cell-kept       the cells of the new table, k changes made
 --     new-cell, new-ready      the new table, and that Paths accepts it
---     differs-common, differs-rise, differs-fall, changed-differs      which metrics differ, and which way
+--     differs-common, differs-rise, differs-fall      which metrics differ, and which way
 --     topology-elsewhere, topology-rise, topology-fall     the same of the two topologies
 use Prim.Native.Nat.{ℕ, _+_, _*_, _/_, _%_, _≤_, _<_}
 use mathlib.Core.Path.{_≡_, refl, sym, ap, _∙_}
@@ -20,7 +20,7 @@ use Rattle.area.specs.Tables.{cell}
 use Rattle.area.specs.TestLaws.{and-false, all-at}
 use Rattle.area.specs.TableLaws.{length-tabulate, cell-tabulate}
 use Rattle.area.specs.Entries.{count, from, to, metric, isOf, listed}
-use Rattle.area.specs.EntryLaws.{of-pair, given-start, given-more, given-kept, given-cases, given-at}
+use Rattle.area.specs.EntryLaws.{of-pair, given-start, given-more, given-kept, given-cases}
 use Rattle.paths.specs.Paths.{isMetric}
 use Rattle.paths.specs.Topology.{topology}
 use Rattle.paths.specs.TopologyLaws.{topology-le, topology-same}
@@ -152,10 +152,3 @@ module _ (n : ℕ) (m l : List ℕ) (most : n ≤ width) (each : Sound n m l) wh
   topology-fall fall i j =
       topology-le n (newMetrics n m l) m i j (falls n m l most fall i j)
       (λ a b f h. ⊎-elim (λ c. let x = each (c .0) (c .1) .some in omega (arith, c .4)) (λ e. omega (arith, e)) (pair-cases n m l most a b f))
-
-  -- every change has an effect
-  pub changed-differs : (e : ℕ) → e < count l → cell width (newMetrics n m l) (from l e) (to l e) ≢ cell width m (from l e) (to l e)
-  changed-differs e b q =
-      let c = each e b in
-      let now = pair-cell n m l most (c .from-in) (c .to-in) (c .apart) ∙ given-at l (count l) (before m l e) (λ d h. each d h .new) e b in
-      c .differs (sym now ∙ q)

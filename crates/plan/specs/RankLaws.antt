@@ -3,7 +3,7 @@
 --     above-le, above-least, above-at, above-same      the same of one more than the greatest f of a member
 --     above-start, above-skip, above-more      found router by router
 --     longest-chain, chain-longest         some chain has `longest` links, and none of at most h links has more
---     longest-le, longest-same, rank-le, rank-same     their bounds; what the n routers wait for decides them
+--     longest-le, longest-same, rank-same      their bound; what the n routers wait for decides them
 --     chain-distinct, chain-few            where waiting comes down in some measure, a chain meets no router twice, and takes fewer links than there are routers
 --     rank-is, same-rank                   so the rank is over chains of any length; nothing else is
 --     rank-less                            a router ranks above those it waits for
@@ -113,10 +113,6 @@ chain-longest n w inside (suc h) (waits {r} {s} e c) b = omega (arith, chain-lon
 pub rank-same : (n : ℕ) (w v : ℕ → ℕ) → ((r : ℕ) → r < n → w r ≡ v r) → (r : ℕ) → r < n → rank n w r ≡ rank n v r
 unfolding rank
 rank-same n w v e r l = longest-same n w v e (n - 1) r l
-
-pub rank-le : (n : ℕ) (w : ℕ → ℕ) (r : ℕ) → rank n w r ≤ n - 1
-unfolding rank
-rank-le n w r = longest-le n w (n - 1) r
 
 -- ---- chains of any length
 routers-links : {w : ℕ → ℕ} {r : ℕ} (c : Chain w r) → length (routers c) ≡ suc (links c)

@@ -1,5 +1,5 @@
 -- Laws of the root of a change list l.
---     common-at, at-common     what it is to be an end of every change
+--     common-at                what it is to be an end of every change
 --     root-far, root-near      the root is the far end of the first change where that one is common, and else its near end
 --     common-root              where any router is common, the root is
 --     common-near              and is that router, where the far end of the first change is not common
@@ -10,8 +10,8 @@ use mathlib.Core.Bool.{true, false, _||_, false≢true}
 use mathlib.Core.Logic.{_⊎_, inl, inr, ⊎-elim}
 use mathlib.Core.List.{List}
 use lib.Dec.{eqb}
-use borrow.Author.Tests.{eqb-true, eq-eqb}
-use Rattle.area.specs.TestLaws.{look, or-cases, or-left, or-right, all-at, all-true}
+use borrow.Author.Tests.{eqb-true}
+use Rattle.area.specs.TestLaws.{look, or-cases, all-at}
 use Rattle.area.specs.Entries.{count, from, to}
 use Rattle.plan.specs.Root.{isCommon, root}
 
@@ -22,12 +22,6 @@ module _ (l : List ℕ) where
     common-at h e b =
         ⊎-elim (λ t. inl (eqb-true (from l e) c t)) (λ t. inr (eqb-true (to l e) c t))
         (or-cases (eqb (from l e) c) (eqb (to l e) c) (all-at (count l) (λ e. eqb (from l e) c || eqb (to l e) c) h e b))
-
-    pub at-common : ((e : ℕ) → e < count l → (from l e ≡ c) ⊎ (to l e ≡ c)) → isCommon l c ≡ true
-    unfolding isCommon
-    at-common f =
-        all-true (count l) (λ e. eqb (from l e) c || eqb (to l e) c)
-        (λ e b. ⊎-elim (λ t. or-left (eqb (from l e) c) (eqb (to l e) c) (eq-eqb (from l e) c t)) (λ t. or-right (eqb (from l e) c) (eqb (to l e) c) (eq-eqb (to l e) c t)) (f e b))
 
   pub root-far : isCommon l (to l 0) ≡ true → root l ≡ to l 0
   unfolding root

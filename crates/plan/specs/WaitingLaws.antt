@@ -3,7 +3,7 @@
 --     waits-rise, waits-fall       whom a router waits for, by next hops towards the root
 --     tells-waits, waits-inside    telling is waiting seen from the other end; both ends are routers of the area
 --     waiting-distinct, waiting-rank, waiting-less     waiting never goes round in a circle, so ranks are over chains of any length, and a router ranks above those it waits for
---     due-at, due-inside           what is due, destination by destination
+--     due-at                       what is due, destination by destination
 use Prim.Native.Nat.{ℕ, _-_, _≤_, _<_}
 use mathlib.Core.Path.{_≡_, refl, sym, _∙_}
 use mathlib.Core.Bool.{Bool, true, false, not}
@@ -106,7 +106,3 @@ module _ (n : ℕ) (m l : List ℕ) (most : n ≤ width) where
       let a = oldHops n m r d in
       let b = newHops n m l r d in
       Iff·trans (set-is n (λ d. not (eqb (oldHops n m r d) (newHops n m l r d))) d (λ e. h)) ((λ e. eqb-false a b (not-true (eqb a b) e)), (λ f. rw (ne-eqb a b f) refl))
-
-  pub due-inside : (r d : ℕ) → bit (due n m l r) d ≡ true → d < n
-  unfolding due
-  due-inside r d e = bit-lt n (due n m l r) d (setOf-lt n (λ d. not (eqb (oldHops n m r d) (newHops n m l r d)))) e

@@ -6,7 +6,7 @@ use text::append;
 use text::field;
 use text::line;
 ghost use mathlib.Core.Path.{_≡_};
-ghost use Prim.Native.Nat.{_≤_, _<_, _*_};
+ghost use Prim.Native.Nat.{_≤_, _<_};
 ghost use lib.ListN.{length};
 ghost use Rattle.area.specs.Limits.{width};
 ghost use Rattle.text.specs.Text.{Appended};

@@ -1,11 +1,8 @@
--- The steps, as 01 means them, and demand 3. First the definitions, in reading order; then the laws about them; last an example.
+-- The steps, as 01 means them. First the definitions, in reading order; then the laws about them.
 pub mod Answers
 pub mod Machine
 pub mod Run
-pub mod LoopFree
 pub mod StepLaws
 pub mod MoveLaws
 pub mod CallLaws
 pub mod RunLaws
-pub mod LoopFreeLaws
-mod Examples

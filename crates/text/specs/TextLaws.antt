@@ -1,7 +1,7 @@
 -- Laws of texts and of numbers in decimal.
 --     appended-none, appended-then, appended-anew      nothing is appended; one after the other; from the start again
 --     appended-field, appended-line    a number after its name
---     appended-whole, appended-all     what is appended to the empty text is the text
+--     appended-all                     what is appended to the empty text is the text, where there is room
 --     shorter, digits-one, digits-more         a number without its last digit, one digit, and a digit more
 --     decimal-some, decimal-most       a number has one to ten digits
 --     field-most, line-most            so a number after its name is not long
@@ -60,9 +60,6 @@ appended-anew {o} {p} {w} e x = record {
   counted = x .counted;
   text = x .text ∙ rw e refl;
 }
-
-pub appended-whole : {o w p : List ℕ} {r : ℕ} → Appended o 0 w p r → take r p ≡ take (length o) w
-appended-whole x = x .text
 
 pub appended-all : {o w p : List ℕ} {r : ℕ} → Appended o 0 w p r → length w ≤ length o → take r p ≡ w
 appended-all {o} {w} x h = x .text ∙ take-all (length o) w h

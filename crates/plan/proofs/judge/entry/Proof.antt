@@ -13,7 +13,7 @@ use Rattle.area.specs.declared.entries.Entry.{Entry}
 use Rattle.area.specs.declared.refusal.Verdict.{Verdict}
 use Rattle.area.specs.Limits.{width}
 use Rattle.area.specs.Refusals.{verdictNumber}
-use Rattle.area.specs.Entries.{entryOf, from, to, metric, isFree, entryRefusal, listedRefusal}
+use Rattle.area.specs.Entries.{entryOf, from, to, isFree, entryRefusal, listedRefusal}
 use Rattle.area.specs.EntryLaws.{read-metric, read-cell, Faultless, faultless-of, listed-faulty, listed-repeated, listed-passes}
 use Rattle.plan.specs.Changes.{changeRefusal}
 use Rattle.plan.specs.ChangeLaws.{refused-entry, refused-same, passes}

@@ -1,6 +1,5 @@
 -- A rise takes the converse of the next hops to the root, a fall the next hops themselves.
 use mathlib.Core.Path.{_∙_}
-use Prim.Native.Nat.{_-_}
 use native.Mathlib.Omega.{arith}
 use borrow.Author.Needs.{needs}
 use denote.Ref.{now}

@@ -27,11 +27,11 @@ use Rattle.plan.specs.Waiting.{oldHops, newHops, waiting, telling, due}
 use Rattle.plan.specs.Rank.{greatest, above, longest, rank}
 use Rattle.plan.specs.Plan.{Tables, tables, areTables, changesRefusal, planRefusal, isPlanned, fresh, recordOf}
 use Rattle.convergence.specs.Pointers.{pointers, Along}
 use Rattle.steps.specs.Answers.{ok, ignored, refused}
 use Rattle.steps.specs.Machine.{learn, release, ready, write, finish, listens, deliver, isRecord, isKind, readsB, areRouters, callOf, stepOf}
 use Rattle.steps.specs.Run.{Call, call, replies, hasWritten}
-use Rattle.steps.specs.LoopFree.{LoopFree}
-use Rattle.steps.specs.LoopFreeLaws.{loop-free}
+use Rattle.loop_free.specs.LoopFree.{LoopFree}
+use Rattle.loop_free.specs.LoopFreeLaws.{loop-free}
 
 -- ---- the two areas
 -- the metrics m with the link i–j at v, both ways
