@@ -1,0 +1,76 @@
+//! Distances and next-hop sets of one topology: Dijkstra's search from each router, with all next hops of equal cost.
+
+use crate::limits::{CELLS, UNREACHED, UNUSED, WIDTH};
+use crate::refusal::Refusal;
+
+/// Paths: fills both tables, or refuses and writes no cell.
+pub fn paths(n: usize, metric: &[u32], dist: &mut [u32], hops: &mut [u32]) -> Result<(), Refusal> {
+    check(n, metric, [metric, dist, hops].iter().all(|table| table.len() == CELLS))?;
+    dist.fill(UNREACHED);
+    hops.fill(0);
+    for source in 0..n {
+        let row = WIDTH * source..WIDTH * source + n;
+        search(metric, source, &mut dist[row.clone()], &mut hops[row]);
+    }
+    Ok(())
+}
+
+/// The refusals of n routers and their metric table. `sized` says whether every table has the right size.
+pub fn check(n: usize, metric: &[u32], sized: bool) -> Result<(), Refusal> {
+    if n < 1 || n > WIDTH {
+        return Err(Refusal::RouterCount);
+    }
+    if !sized {
+        return Err(Refusal::TableSize);
+    }
+    for i in 0..n {
+        let row = &metric[WIDTH * i..WIDTH * i + n];
+        if row.iter().enumerate().any(|(j, &m)| j != i && (m == 0 || m > UNUSED)) {
+            return Err(Refusal::Metric);
+        }
+    }
+    Ok(())
+}
+
+/// The source's rows, which are blank before. They have as many cells as there are routers.
+fn search(metric: &[u32], source: usize, dist: &mut [u32], hops: &mut [u32]) {
+    let mut settled = 0u32;
+    dist[source] = 0;
+    while let Some(q) = nearest(dist, settled) {
+        settled |= 1 << q;
+        relax(metric, source, q, dist, hops);
+    }
+}
+
+/// The nearest reached router that is not settled.
+fn nearest(dist: &[u32], settled: u32) -> Option<usize> {
+    let mut best = None;
+    let mut low = UNREACHED;
+    for (k, &d) in dist.iter().enumerate() {
+        if settled >> k & 1 == 0 && d < low {
+            low = d;
+            best = Some(k);
+        }
+    }
+    best
+}
+
+/// Offers the way by the settled router q to every router that has a link from q.
+fn relax(metric: &[u32], source: usize, q: usize, dist: &mut [u32], hops: &mut [u32]) {
+    let base = dist[q];
+    let via = hops[q];
+    let links = &metric[WIDTH * q..WIDTH * q + dist.len()];
+    for (j, &m) in links.iter().enumerate() {
+        if j == q || m == UNUSED {
+            continue;
+        }
+        let sum = base + m;
+        let by = if q == source { 1 << j } else { via };
+        if sum < dist[j] {
+            dist[j] = sum;
+            hops[j] = by;
+        } else if sum == dist[j] {
+            hops[j] |= by;
+        }
+    }
+}

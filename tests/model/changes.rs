@@ -1,0 +1,258 @@
+//! Change lists: rises, falls, and lists with one or more faults.
+
+use crate::areas::Area;
+use crate::paths::{UNUSED, at, pairs};
+use crate::plan::{Change, MOST_CHANGES};
+use crate::random::Random;
+
+/// What can be wrong with a list, by the refusal that it is aimed at; an earlier fault may come first.
+#[derive(Clone, Copy, Debug, PartialEq, Eq)]
+pub enum Fault {
+    UnknownRouter,
+    SameRouter,
+    ZeroMetric,
+    Repeated,
+    EqualMetric,
+    OtherDirection,
+    Elsewhere,
+}
+
+pub const FAULTS: [Fault; 7] = [
+    Fault::UnknownRouter,
+    Fault::SameRouter,
+    Fault::ZeroMetric,
+    Fault::Repeated,
+    Fault::EqualMetric,
+    Fault::OtherDirection,
+    Fault::Elsewhere,
+];
+
+/// A list for the area. The area itself may be changed, for a router that comes up.
+pub fn list(random: &mut Random, area: &mut Area) -> Vec<u8> {
+    match random.below(20) {
+        0..=13 => bytes_of(&faultless(random, area)),
+        14..=18 => faulty(random, area),
+        _ => {
+            let length = random.between(0, 400);
+            random.bytes(length)
+        }
+    }
+}
+
+pub fn bytes_of(changes: &[Change]) -> Vec<u8> {
+    changes.iter().flat_map(|change| change.to_bytes()).collect()
+}
+
+/// A rise or a fall of links of one router; empty where the area has no link that can move.
+pub fn faultless(random: &mut Random, area: &mut Area) -> Vec<Change> {
+    for _ in 0..4 {
+        let router = random.below(area.n);
+        let changes = match random.below(8) {
+            0 => router_down(area, router),
+            1 => router_up(area, router),
+            kind => {
+                let rise = random.chance(50);
+                some_links(random, area, router, rise, kind)
+            }
+        };
+        if !changes.is_empty() {
+            return shuffled(random, changes);
+        }
+    }
+    Vec::new()
+}
+
+/// The first change decides the root where both of its ends are common, so the order of a list matters.
+fn shuffled(random: &mut Random, mut changes: Vec<Change>) -> Vec<Change> {
+    random.shuffle(&mut changes);
+    changes
+}
+
+fn links_of(n: usize, router: usize) -> impl Iterator<Item = (usize, usize)> {
+    pairs(n).filter(move |&(i, j)| i == router || j == router)
+}
+
+fn change(i: usize, j: usize, metric: u32) -> Change {
+    Change {
+        from: i as u8,
+        to: j as u8,
+        metric,
+    }
+}
+
+fn router_down(area: &Area, router: usize) -> Vec<Change> {
+    let used = links_of(area.n, router).filter(|&(i, j)| area.metric[at(i, j)] < UNUSED);
+    used.map(|(i, j)| change(i, j, UNUSED)).collect()
+}
+
+/// The router's links are taken out of the area and come back by the list.
+fn router_up(area: &mut Area, router: usize) -> Vec<Change> {
+    let mut changes = Vec::new();
+    for (i, j) in links_of(area.n, router) {
+        let metric = std::mem::replace(&mut area.metric[at(i, j)], UNUSED);
+        if metric < UNUSED {
+            changes.push(change(i, j, metric));
+        }
+    }
+    changes
+}
+
+/// One link in one direction, one in both, some or all links of the router.
+fn some_links(random: &mut Random, area: &Area, router: usize, rise: bool, kind: usize) -> Vec<Change> {
+    let movable = |&(i, j): &(usize, usize)| can_move(area.metric[at(i, j)], rise);
+    let mut links: Vec<(usize, usize)> = links_of(area.n, router).filter(movable).collect();
+    random.shuffle(&mut links);
+    let Some(&(i, j)) = links.first() else {
+        return Vec::new();
+    };
+    match kind {
+        2 | 3 => links.truncate(1),
+        4 | 5 => links.retain(|&link| link == (i, j) || link == (j, i)),
+        6 => links.truncate(random.between(1, links.len())),
+        _ => {}
+    }
+    links
+        .into_iter()
+        .map(|(i, j)| change(i, j, moved(random, area, area.metric[at(i, j)], rise)))
+        .collect()
+}
+
+fn can_move(metric: u32, rise: bool) -> bool {
+    if rise { metric < UNUSED } else { metric > 1 }
+}
+
+/// A metric above (rise) or below (fall) the given one, often one that makes two walks cost the same.
+fn moved(random: &mut Random, area: &Area, metric: u32, rise: bool) -> u32 {
+    let (low, high) = if rise { (metric + 1, UNUSED) } else { (1, metric - 1) };
+    let (i, j) = (random.below(area.n), random.below(area.n));
+    let wanted = match random.below(7) {
+        0 => low,
+        1 => high,
+        2 => area.metric[at(i, j)],
+        3 => random.between(1, 6) as u32,
+        4 => metric.saturating_add(random.between(1, 4) as u32),
+        5 => metric.saturating_sub(random.between(1, 4) as u32),
+        _ => random.between(low as usize, high as usize) as u32,
+    };
+    wanted.clamp(low, high)
+}
+
+/// One to three faults in a list that had none, or a fault of the list's length.
+fn faulty(random: &mut Random, area: &mut Area) -> Vec<u8> {
+    let mut changes = faultless(random, area);
+    let count = random.pick(&[0, 1, 1, 1, 1, 2, 3]);
+    for _ in 0..count {
+        let fault = random.pick(&FAULTS);
+        let place = random.below(changes.len() + 1);
+        spoil(random, area, &mut changes, fault, place);
+    }
+    let mut bytes = bytes_of(&changes);
+    if count == 0 || random.chance(10) {
+        spoil_length(random, &mut bytes);
+    }
+    bytes
+}
+
+/// Puts a fault at the place, in the entry that stands there or in one that is put there.
+pub fn spoil(random: &mut Random, area: &Area, changes: &mut Vec<Change>, fault: Fault, place: usize) {
+    let insert = place >= changes.len() || (changes.len() < MOST_CHANGES && random.chance(30));
+    let sample = changes
+        .get(place)
+        .or(changes.last())
+        .copied()
+        .unwrap_or(change(0, area.n - 1, 5));
+    if let Some(entry) = spoiled(random, area, changes, fault, place, sample) {
+        if insert {
+            changes.insert(place, entry);
+        } else {
+            changes[place] = entry;
+        }
+    }
+}
+
+/// The entry with the fault; none where the list or the area does not allow it.
+fn spoiled(
+    random: &mut Random,
+    area: &Area,
+    changes: &[Change],
+    fault: Fault,
+    place: usize,
+    entry: Change,
+) -> Option<Change> {
+    match fault {
+        Fault::UnknownRouter => Some(with_unknown_router(random, area, entry)),
+        Fault::SameRouter => Some(Change {
+            from: entry.to,
+            ..entry
+        }),
+        Fault::ZeroMetric => Some(Change { metric: 0, ..entry }),
+        Fault::Repeated => {
+            let earlier = *changes[..place.min(changes.len())].get(random.below(place))?;
+            let metric = random.pick(&[earlier.metric, entry.metric]);
+            Some(Change { metric, ..earlier })
+        }
+        Fault::EqualMetric => Some(Change {
+            metric: old_metric(area, entry)?,
+            ..entry
+        }),
+        Fault::OtherDirection => {
+            let old = old_metric(area, entry)?;
+            let rise = entry.metric < old;
+            can_move(old, rise).then(|| Change {
+                metric: moved(random, area, old, rise),
+                ..entry
+            })
+        }
+        Fault::Elsewhere => elsewhere(random, area, entry),
+    }
+}
+
+/// One end or both become a router that the area does not have.
+fn with_unknown_router(random: &mut Random, area: &Area, entry: Change) -> Change {
+    let n = area.n as u8;
+    let unknown = random.pick(&[n, n + 1, 32, 33, 128, 255]).max(n);
+    match random.below(5) {
+        0 => Change {
+            from: unknown,
+            to: unknown,
+            ..entry
+        },
+        1 | 2 => Change { from: unknown, ..entry },
+        _ => Change { to: unknown, ..entry },
+    }
+}
+
+/// The old metric of the entry's link; none where the entry names no link.
+fn old_metric(area: &Area, entry: Change) -> Option<u32> {
+    let known = usize::from(entry.from.max(entry.to)) < area.n && entry.from != entry.to;
+    known.then(|| area.metric[entry.cell()])
+}
+
+/// A change in the same direction between two routers of which neither is an end of the given entry.
+fn elsewhere(random: &mut Random, area: &Area, entry: Change) -> Option<Change> {
+    let rise = entry.metric > old_metric(area, entry)?;
+    let ends = [usize::from(entry.from), usize::from(entry.to)];
+    let apart = |&(i, j): &(usize, usize)| !ends.contains(&i) && !ends.contains(&j);
+    let mut links: Vec<(usize, usize)> = pairs(area.n).filter(apart).collect();
+    links.retain(|&(i, j)| can_move(area.metric[at(i, j)], rise));
+    random.shuffle(&mut links);
+    let &(i, j) = links.first()?;
+    Some(change(i, j, moved(random, area, area.metric[at(i, j)], rise)))
+}
+
+/// A list that is empty, not a multiple of five bytes, or too long.
+fn spoil_length(random: &mut Random, bytes: &mut Vec<u8>) {
+    match random.below(4) {
+        0 => bytes.clear(),
+        1 => bytes.truncate(bytes.len().saturating_sub(random.between(1, 4))),
+        2 => {
+            let more = random.between(1, 4);
+            bytes.extend(random.bytes(more));
+        }
+        _ => {
+            let length = 5 * random.between(MOST_CHANGES + 1, MOST_CHANGES + 10) + random.pick(&[0, 0, 0, 1, 4]);
+            let missing = length.saturating_sub(bytes.len());
+            bytes.extend(random.bytes(missing));
+        }
+    }
+}

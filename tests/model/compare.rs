@@ -1,0 +1,263 @@
+//! One call of the library beside the same call of the model: every answer, every cell and every field.
+
+use std::fmt::Debug;
+
+use crate::counts::{Counts, Numbers};
+use crate::flaw::Flaw;
+use crate::lent::{Lent, RIGHT_SIZES, SixTables};
+use crate::ofib::{self, Answer, CELLS, Contents, Record, Tables};
+use crate::paths::{self, UNUSED};
+use crate::random::Random;
+use crate::{plan, read, step, text};
+
+/// Room for every text.
+pub const ROOM: usize = 147_456;
+/// The byte that stands in the room before a call; it is in no text.
+const BEFORE: u8 = 0xA5;
+/// Bytes after the room, which no call may touch.
+const AFTER: usize = 64;
+
+pub struct Comparison {
+    pub flaw: Flaw,
+    pub counts: Counts,
+    out: Vec<u8>,
+}
+
+/// What Plan handed back.
+pub struct Planned {
+    pub answer: u8,
+    pub record: Record,
+    pub tables: SixTables,
+}
+
+/// A text as the library gives it and as the model does.
+struct TextCall {
+    name: &'static str,
+    library: fn(&[u8], &mut Tables, &mut [u8]) -> usize,
+    model: fn(&[u8], &mut Tables, Flaw) -> String,
+}
+
+const REHEARSAL: TextCall = TextCall {
+    name: "rehearsal",
+    library: ofib::rehearse,
+    model: text::rehearsal,
+};
+const ROUTES: TextCall = TextCall {
+    name: "routes",
+    library: ofib::routes,
+    model: text::routes,
+};
+
+impl Comparison {
+    pub fn new(flaw: Flaw) -> Comparison {
+        Comparison {
+            flaw,
+            counts: Counts::new(),
+            out: vec![BEFORE; ROOM + AFTER],
+        }
+    }
+
+    pub fn paths(&mut self, random: &mut Random, n: usize, metric: &[u32], sizes: [usize; 2]) -> Result<u8, String> {
+        let [mut dist, mut hops] = sizes.map(|size| Lent::filled(random, size));
+        let (mut model_dist, mut model_hops) = (dist.clone(), hops.clone());
+        let answer = ofib::paths(n, metric, dist.cells_mut(), hops.cells_mut());
+        let model = paths::paths(n, metric, model_dist.cells_mut(), model_hops.cells_mut(), self.flaw);
+        same("Paths' answer", answer, model)?;
+        dist.compare(&model_dist, "of Paths' distances")?;
+        hops.compare(&model_hops, "of Paths' next hops")?;
+        self.counts.paths[usize::from(answer)] += 1;
+        Ok(answer)
+    }
+
+    /// The sizes are those of the five tables that Plan fills.
+    pub fn plan(
+        &mut self,
+        random: &mut Random,
+        n: usize,
+        old: &[u32],
+        sizes: [usize; 5],
+        list: &[u8],
+    ) -> Result<Planned, String> {
+        let [new, old_dist, new_dist, old_hops, new_hops] = sizes;
+        let mut tables = SixTables::filled(random, [0, new, old_dist, new_dist, old_hops, new_hops]);
+        tables.tables[0] = Lent::holding(random, old);
+        let mut model_tables = tables.clone();
+        // The record is handed back whole, so nothing that it held before may be left in it.
+        let mut record = crate::steps::any_record(random);
+        let mut model_record = record.clone();
+        let answer = ofib::plan(n, list, &mut tables.lend(), &mut record);
+        let model = plan::plan(n, list, &mut model_tables.lend(), &mut model_record, self.flaw);
+        same("Plan's answer", answer, model)?;
+        tables.compare(&model_tables, "Plan")?;
+        records("Plan's record", &record, &model_record)?;
+        self.counts.plan[usize::from(answer)] += 1;
+        if answer == 0 {
+            self.counts.accepted(record.n, record.direction);
+        }
+        Ok(Planned { answer, record, tables })
+    }
+
+    /// One step of the library's record and of the model's.
+    pub fn step(&mut self, library: &mut Record, model: &mut Record, call: [u8; 3]) -> Result<Answer, String> {
+        let [kind, a, b] = call;
+        let answer = ofib::step(library, kind, a, b);
+        let model_answer = step::step(model, call, self.flaw);
+        if answer != model_answer {
+            return Err(format!(
+                "answer to step {call:?}: library {answer:?}, model {model_answer:?}"
+            ));
+        }
+        if library != model {
+            records(&format!("record after step {call:?}"), library, model)?;
+        }
+        self.counts.step(kind, answer);
+        Ok(answer)
+    }
+
+    /// All steps of a list by the library's one call, and by the model.
+    pub fn run(&mut self, record: &Record, steps: &[u8]) -> Result<Record, String> {
+        let (mut library, mut model) = (record.clone(), record.clone());
+        ofib::run(&mut library, steps);
+        step::run(&mut model, steps, self.flaw);
+        records(&format!("record after run of {} bytes", steps.len()), &library, &model)?;
+        Ok(library)
+    }
+
+    pub fn read(&mut self, random: &mut Random, file: &[u8], size: usize) -> Result<(u8, Contents), String> {
+        let mut table = Lent::filled(random, size);
+        let mut model_table = table.clone();
+        let (answer, contents) = ofib::read(file, table.cells_mut());
+        let (model, model_contents) = read::read(file, model_table.cells_mut(), self.flaw);
+        same("Read's answer", answer, model)?;
+        same("Read's contents", contents, model_contents)?;
+        table.compare(&model_table, "of Read")?;
+        self.counts.read[usize::from(answer)] += 1;
+        if size == CELLS
+            && let Err(fault) = read::judge(file, &mut [UNUSED; CELLS])
+        {
+            self.counts.read_section(fault);
+        }
+        Ok((answer, contents))
+    }
+
+    pub fn rehearsal(
+        &mut self,
+        random: &mut Random,
+        file: &[u8],
+        sizes: [usize; 6],
+        room: usize,
+    ) -> Result<String, String> {
+        let text = self.text(random, &REHEARSAL, file, sizes, room)?;
+        count_text(&mut self.counts.rehearsal, &text);
+        Ok(text)
+    }
+
+    pub fn routes(
+        &mut self,
+        random: &mut Random,
+        file: &[u8],
+        sizes: [usize; 6],
+        room: usize,
+    ) -> Result<String, String> {
+        let text = self.text(random, &ROUTES, file, sizes, room)?;
+        count_text(&mut self.counts.routes, &text);
+        Ok(text)
+    }
+
+    /// Compares the text as far as it has room, and the six tables; gives the whole text.
+    fn text(
+        &mut self,
+        random: &mut Random,
+        call: &TextCall,
+        file: &[u8],
+        sizes: [usize; 6],
+        room: usize,
+    ) -> Result<String, String> {
+        let name = call.name;
+        let mut tables = SixTables::filled(random, sizes);
+        let mut model_tables = tables.clone();
+        self.out[..room + AFTER].fill(BEFORE);
+        let length = (call.library)(file, &mut tables.lend(), &mut self.out[..room]);
+        let text = (call.model)(file, &mut model_tables.lend(), self.flaw);
+        let shown = text.len().min(room);
+        texts(name, &self.out[..shown], &text.as_bytes()[..shown])?;
+        same(&format!("{name}, length of the text"), length, shown)?;
+        if let Some(place) = self.out[shown..room + AFTER].iter().position(|&byte| byte != BEFORE) {
+            return Err(format!("{name}: byte {} after the text is touched", shown + place));
+        }
+        tables.compare(&model_tables, name)?;
+        self.counts.short_texts += u64::from(shown < text.len());
+        Ok(text)
+    }
+
+    /// Read, rehearsal and routes of one file, with all the room they need.
+    pub fn file(&mut self, random: &mut Random, file: &[u8]) -> Result<String, String> {
+        self.read(random, file, CELLS)?;
+        let text = self.rehearsal(random, file, RIGHT_SIZES, ROOM)?;
+        self.routes(random, file, RIGHT_SIZES, ROOM)?;
+        self.counts.files += 1;
+        Ok(text)
+    }
+}
+
+pub fn same<T: PartialEq + Debug>(what: &str, library: T, model: T) -> Result<(), String> {
+    if library == model {
+        Ok(())
+    } else {
+        Err(format!("{what}: library {library:?}, model {model:?}"))
+    }
+}
+
+pub fn records(what: &str, library: &Record, model: &Record) -> Result<(), String> {
+    let field = |name: &str| format!("{what}, field {name}");
+    same(&field("n"), library.n, model.n)?;
+    same(&field("root"), library.root, model.root)?;
+    same(&field("direction"), library.direction, model.direction)?;
+    entries(&field("ranks"), &library.ranks, &model.ranks)?;
+    entries(&field("waiting"), &library.waiting, &model.waiting)?;
+    entries(&field("telling"), &library.telling, &model.telling)?;
+    entries(&field("due"), &library.due, &model.due)?;
+    entries(&field("states"), &library.states, &model.states)?;
+    entries(&field("written"), &library.written, &model.written)
+}
+
+fn entries<T: PartialEq + Debug>(what: &str, library: &[T], model: &[T]) -> Result<(), String> {
+    for (index, (library, model)) in library.iter().zip(model).enumerate() {
+        if library != model {
+            return Err(format!("{what}, entry {index}: library {library:?}, model {model:?}"));
+        }
+    }
+    Ok(())
+}
+
+/// Both texts, byte for byte; names the line in which they first differ.
+pub fn texts(name: &str, library: &[u8], model: &[u8]) -> Result<(), String> {
+    if library == model {
+        return Ok(());
+    }
+    let shared = library.iter().zip(model).take_while(|(x, y)| x == y).count();
+    let start = model[..shared]
+        .iter()
+        .rposition(|&byte| byte == b'\n')
+        .map_or(0, |end| end + 1);
+    let line = |text: &[u8]| {
+        let line = text[start.min(text.len())..]
+            .split(|&byte| byte == b'\n')
+            .next()
+            .unwrap_or_default();
+        String::from_utf8_lossy(line).into_owned()
+    };
+    Err(format!(
+        "{name}, byte {shared}: library line {:?}, model line {:?}",
+        line(library),
+        line(model)
+    ))
+}
+
+/// Counts a text by the refusal that it tells of, or as one of an accepted file.
+fn count_text(numbers: &mut Numbers, text: &str) {
+    let refused = text
+        .strip_prefix("refused ")
+        .and_then(|rest| rest.trim_end().parse::<usize>().ok());
+    numbers[refused.unwrap_or(0)] += 1;
+}

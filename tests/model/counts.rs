@@ -1,0 +1,234 @@
+//! What has been compared, and which answers of 01 have come up.
+
+use crate::ofib::Answer;
+use crate::plan::{MOST_CHANGES, RISE};
+use crate::read::{Fault, Section};
+
+/// How often each answer of a call came up; 0 stands for "not refused".
+pub type Numbers = [u64; 256];
+
+pub const SECTIONS: [Section; 8] = [
+    Section::Routers,
+    Section::LinkCount,
+    Section::Links,
+    Section::ChangeCount,
+    Section::Changes,
+    Section::StepCount,
+    Section::Steps,
+    Section::End,
+];
+
+pub const STEP_KINDS: [&str; 6] = ["another kind", "learn", "release", "write", "finish", "deliver"];
+/// The place of "ignored" among a step's answers; no refusal has this number.
+const IGNORED: usize = 255;
+
+pub struct Counts {
+    pub areas: u64,
+    /// Accepted rises and falls, by the number of routers.
+    pub rises: [u64; 33],
+    pub falls: [u64; 33],
+    pub sizes: [u64; 33],
+    pub finished_runs: u64,
+    pub files: u64,
+    pub short_texts: u64,
+    pub processes: u64,
+    pub records: u64,
+    pub walks: u64,
+    pub small_plans: [u64; 5],
+    pub paths: Numbers,
+    pub plan: Numbers,
+    pub read: Numbers,
+    pub rehearsal: Numbers,
+    pub routes: Numbers,
+    steps: [Numbers; 6],
+    /// For each refusal of a change list's entry, how often it came up at each place.
+    list_places: [[u64; MOST_CHANGES]; 16],
+    /// For each refusal of Read, how often its cause lay in each section.
+    read_sections: [[u64; 8]; 16],
+}
+
+impl Counts {
+    pub fn new() -> Counts {
+        Counts {
+            areas: 0,
+            rises: [0; 33],
+            falls: [0; 33],
+            sizes: [0; 33],
+            finished_runs: 0,
+            files: 0,
+            short_texts: 0,
+            processes: 0,
+            records: 0,
+            walks: 0,
+            small_plans: [0; 5],
+            paths: [0; 256],
+            plan: [0; 256],
+            read: [0; 256],
+            rehearsal: [0; 256],
+            routes: [0; 256],
+            steps: [[0; 256]; 6],
+            list_places: [[0; MOST_CHANGES]; 16],
+            read_sections: [[0; 8]; 16],
+        }
+    }
+
+    pub fn accepted(&mut self, n: u8, direction: u8) {
+        let by_size = if direction == RISE {
+            &mut self.rises
+        } else {
+            &mut self.falls
+        };
+        by_size[usize::from(n)] += 1;
+    }
+
+    pub fn step(&mut self, kind: u8, answer: Answer) {
+        let kind = if kind > 5 { 0 } else { usize::from(kind) };
+        let number = match answer {
+            Answer::Ok => 0,
+            Answer::Ignored => IGNORED,
+            Answer::Refused(number) => usize::from(number),
+        };
+        self.steps[kind][number] += 1;
+    }
+
+    pub fn list_place(&mut self, place: usize, number: u8) {
+        self.list_places[usize::from(number)][place] += 1;
+    }
+
+    pub fn read_section(&mut self, fault: Fault) {
+        let section = SECTIONS.iter().position(|&section| section == fault.section);
+        self.read_sections[usize::from(fault.number)][section.expect("every section is listed")] += 1;
+    }
+
+    /// The answers of 01 that can come up and have not.
+    pub fn missing(&self) -> Vec<String> {
+        let mut missing = Vec::new();
+        self.missing_numbers(&mut missing);
+        self.missing_steps(&mut missing);
+        self.missing_places(&mut missing);
+        for n in 1..=32 {
+            require(&mut missing, self.sizes[n], || format!("area of {n} routers"));
+        }
+        for n in 2..=32 {
+            require(&mut missing, self.rises[n], || {
+                format!("accepted rise with {n} routers")
+            });
+            require(&mut missing, self.falls[n], || {
+                format!("accepted fall with {n} routers")
+            });
+        }
+        require(&mut missing, self.finished_runs, || {
+            "run in which every router is done".to_string()
+        });
+        missing
+    }
+
+    fn missing_numbers(&self, missing: &mut Vec<String>) {
+        let of_texts: &[usize] = &[0, 1, 2, 3, 4, 5, 6, 7, 8, 9, 10, 11, 12, 13];
+        let calls: [(&str, &Numbers, &[usize]); 5] = [
+            ("Paths", &self.paths, &[0, 3, 6, 8]),
+            ("Plan", &self.plan, &[0, 1, 3, 4, 5, 6, 7, 8, 9, 10, 11, 12, 13]),
+            ("Read", &self.read, &[0, 1, 2, 3, 4, 5, 6, 7, 8, 9]),
+            ("rehearsal", &self.rehearsal, of_texts),
+            ("routes", &self.routes, of_texts),
+        ];
+        for (call, numbers, wanted) in calls {
+            for &number in wanted {
+                require(missing, numbers[number], || format!("{call} answering {number}"));
+            }
+        }
+    }
+
+    fn missing_steps(&self, missing: &mut Vec<String>) {
+        let wanted: [&[usize]; 6] = [
+            &[20, 21],
+            &[0, 20, 4, 23],
+            &[0, 20, 4, 23],
+            &[0, 20, 4, 23, 24, 25],
+            &[0, 20, 4, 23, 24, 26],
+            &[0, IGNORED, 20, 4, 27, 28],
+        ];
+        for (kind, numbers) in wanted.into_iter().enumerate() {
+            for &number in numbers {
+                require(missing, self.steps[kind][number], || {
+                    format!("{} answering {number}", STEP_KINDS[kind])
+                });
+            }
+        }
+    }
+
+    fn missing_places(&self, missing: &mut Vec<String>) {
+        for number in [4, 5, 6, 7, 11] {
+            // The first entry of a list cannot repeat an earlier one.
+            let first = if number == 7 { 1 } else { 0 };
+            for place in first..MOST_CHANGES {
+                let seen = self.list_places[number][place];
+                require(missing, seen, || format!("Plan refusing {number} at entry {place}"));
+            }
+        }
+        let wanted: [(usize, &[usize]); 8] = [
+            (1, &[0, 1, 2, 3, 4, 5, 6]),
+            (2, &[7]),
+            (3, &[0]),
+            (4, &[2]),
+            (5, &[2]),
+            (6, &[2]),
+            (7, &[2]),
+            (9, &[1, 3, 5]),
+        ];
+        for (number, sections) in wanted {
+            for &section in sections {
+                let seen = self.read_sections[number][section];
+                require(missing, seen, || {
+                    format!("Read refusing {number} in section {:?}", SECTIONS[section])
+                });
+            }
+        }
+    }
+
+    pub fn print(&self) {
+        let sum = |numbers: &[u64]| numbers.iter().sum::<u64>();
+        println!(
+            "areas: {}, accepted rises {}, falls {}",
+            self.areas,
+            sum(&self.rises),
+            sum(&self.falls)
+        );
+        println!("runs in which every router got done: {}", self.finished_runs);
+        println!("Paths: {}", answers(&self.paths));
+        println!("Plan: {}", answers(&self.plan));
+        println!("Read: {}", answers(&self.read));
+        println!("rehearsal: {}", answers(&self.rehearsal));
+        println!("routes: {}", answers(&self.routes));
+        for (kind, numbers) in STEP_KINDS.iter().zip(&self.steps) {
+            println!("step, {kind}: {}", answers(numbers));
+        }
+        println!(
+            "files: {}, texts cut short {}, runs of the program {}",
+            self.files, self.short_texts, self.processes
+        );
+        let [_, _, two, three, four] = self.small_plans;
+        println!("reachable records: {}, walks {}", self.records, self.walks);
+        println!("plans searched for them: {two} with 2 routers, {three} with 3, {four} with 4");
+    }
+}
+
+fn require(missing: &mut Vec<String>, seen: u64, what: impl Fn() -> String) {
+    if seen == 0 {
+        missing.push(what());
+    }
+}
+
+/// The answers that came up, with how often each did.
+fn answers(numbers: &Numbers) -> String {
+    let name = |number: usize| match number {
+        0 => "ok".to_string(),
+        IGNORED => "ignored".to_string(),
+        _ => number.to_string(),
+    };
+    let seen = numbers.iter().enumerate().filter(|(_, count)| **count > 0);
+    let words: Vec<String> = seen
+        .map(|(number, count)| format!("{} {count}", name(number)))
+        .collect();
+    words.join(", ")
+}

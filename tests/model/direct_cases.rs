@@ -1,0 +1,287 @@
+//! Calls that no bench file leads to: any n, any table size, any metric, any record.
+
+use crate::area_cases::compare_area;
+use crate::areas::{self, Area};
+use crate::changes::{self, FAULTS};
+use crate::compare::{Comparison, ROOM};
+use crate::difference::{Difference, describe_area, describe_step};
+use crate::files;
+use crate::lent::RIGHT_SIZES;
+use crate::ofib::{CELLS, Record, WIDTH};
+use crate::paths::{UNUSED, at, pairs};
+use crate::plan::Change;
+use crate::random::Random;
+use crate::steps;
+
+const PART: u64 = 2;
+/// Among them numbers that are 0 to 32 when cut to 8, 16 or 32 bits.
+const WRONG_N: [usize; 16] = [
+    0,
+    33,
+    34,
+    64,
+    255,
+    256,
+    257,
+    288,
+    65_541,
+    1 << 32,
+    (1 << 32) + 1,
+    (1 << 32) + 32,
+    1 << 63,
+    usize::MAX - 223,
+    usize::MAX - 1,
+    usize::MAX,
+];
+const WRONG_SIZES: [usize; 7] = [0, 1, 32, 1023, 1025, 2048, 1 << 16];
+const WRONG_METRICS: [u32; 5] = [0, UNUSED + 1, UNUSED + 2, 1 << 31, u32::MAX];
+
+/// The calls that are the same for every seed but for the areas they are made on, and then `count` random ones of each
+/// sort.
+pub fn direct_cases(comparison: &mut Comparison, seed: u64, count: u64) -> Result<(), Difference> {
+    let mut random = Random::for_case(seed, PART, 0);
+    faults_at_each_place(comparison, &mut random)?;
+    two_faults(comparison, &mut random)?;
+    wrong_n(comparison, &mut random)?;
+    wrong_sizes(comparison, &mut random)?;
+    wrong_sizes_with_a_file(comparison, &mut random)?;
+    wrong_metric_at_each_place(comparison, &mut random)?;
+    every_kind(comparison, &mut random)?;
+    wrong_state_at_each_index(comparison, &mut random)?;
+    for number in 1..=count {
+        let mut random = Random::for_case(seed, PART, number);
+        wrong_at_random(comparison, &mut random)?;
+        any_record(comparison, &mut random)?;
+    }
+    Ok(())
+}
+
+/// The longest list, with each fault at each place.
+fn faults_at_each_place(comparison: &mut Comparison, random: &mut Random) -> Result<(), Difference> {
+    for fault in FAULTS {
+        let (area, changes) = longest_list(random);
+        for place in 0..changes.len() {
+            let mut spoiled = changes.clone();
+            changes::spoil(random, &area, &mut spoiled, fault, place);
+            let title = format!("{fault:?} at entry {place}");
+            compare_area(comparison, random, &title, &area, &changes::bytes_of(&spoiled))?;
+        }
+    }
+    Ok(())
+}
+
+/// A full mesh of 32 routers, and a rise or fall of all 62 links of one of them.
+fn longest_list(random: &mut Random) -> (Area, Vec<Change>) {
+    let area = areas::full_mesh(random, WIDTH);
+    let router = random.below(WIDTH);
+    let rise = random.chance(50);
+    let of_router = pairs(WIDTH).filter(|&(i, j)| i == router || j == router);
+    let mut changes: Vec<Change> = of_router
+        .map(|(i, j)| {
+            let old = area.metric[at(i, j)];
+            let metric = if rise {
+                old + random.between(1, 9) as u32
+            } else {
+                random.between(1, old as usize - 1) as u32
+            };
+            Change {
+                from: i as u8,
+                to: j as u8,
+                metric,
+            }
+        })
+        .collect();
+    random.shuffle(&mut changes);
+    (area, changes)
+}
+
+/// A short list, with each two faults at each two places.
+fn two_faults(comparison: &mut Comparison, random: &mut Random) -> Result<(), Difference> {
+    for (first, second) in FAULTS.iter().flat_map(|&x| FAULTS.iter().map(move |&y| (x, y))) {
+        let mut area = areas::full_mesh(random, 5);
+        let mut changes = changes::faultless(random, &mut area);
+        changes.truncate(4);
+        for (p, q) in pairs(changes.len()) {
+            let mut spoiled = changes.clone();
+            changes::spoil(random, &area, &mut spoiled, first, p);
+            changes::spoil(random, &area, &mut spoiled, second, q);
+            let title = format!("{first:?} at entry {p}, {second:?} at entry {q}");
+            compare_area(comparison, random, &title, &area, &changes::bytes_of(&spoiled))?;
+        }
+    }
+    Ok(())
+}
+
+fn wrong_n(comparison: &mut Comparison, random: &mut Random) -> Result<(), Difference> {
+    for n in WRONG_N {
+        for size in [CELLS, 0, 1023] {
+            let (mut area, list) = area_and_list(random);
+            area.n = n;
+            area.metric.resize(size, 0);
+            compare_both(comparison, random, &area, [CELLS; 5], &list)?;
+            compare_both(comparison, random, &area, [size; 5], &list)?;
+        }
+    }
+    Ok(())
+}
+
+/// Each table by itself with each wrong size; the metric table is the sixth.
+fn wrong_sizes(comparison: &mut Comparison, random: &mut Random) -> Result<(), Difference> {
+    for size in WRONG_SIZES {
+        for table in 0..6 {
+            let (mut area, list) = area_and_list(random);
+            let mut sizes = [CELLS; 5];
+            match sizes.get_mut(table) {
+                Some(other) => *other = size,
+                None => area.metric.resize(size, 1),
+            }
+            compare_both(comparison, random, &area, sizes, &list)?;
+        }
+    }
+    Ok(())
+}
+
+/// Read, rehearsal and routes with each of their tables of a wrong size, on files with and without a fault.
+fn wrong_sizes_with_a_file(comparison: &mut Comparison, random: &mut Random) -> Result<(), Difference> {
+    for size in WRONG_SIZES {
+        for table in 0..6 {
+            let mut parts = files::faultless(random, 6);
+            if random.chance(30) {
+                files::spoil(random, &mut parts);
+            }
+            let file = parts.bytes();
+            let mut sizes = RIGHT_SIZES;
+            sizes[table] = size;
+            sizes[random.below(6)] = random.pick(&[CELLS, CELLS, size]);
+            let mut compare = || {
+                comparison.read(random, &file, size)?;
+                comparison.rehearsal(random, &file, sizes, ROOM)?;
+                comparison.routes(random, &file, sizes, ROOM)
+            };
+            compare().map_err(|what| Difference::in_file(format!("table sizes {sizes:?}: {what}"), &file))?;
+        }
+    }
+    Ok(())
+}
+
+/// At the places that are read a wrong metric is refused, at the others it changes nothing.
+fn wrong_metric_at_each_place(comparison: &mut Comparison, random: &mut Random) -> Result<(), Difference> {
+    for n in [1, 2, 5, 31, 32] {
+        let mut area = areas::area_of_size(random, n);
+        for place in 0..CELLS {
+            let metric = random.pick(&WRONG_METRICS);
+            let right = std::mem::replace(&mut area.metric[place], metric);
+            let outcome = comparison.paths(random, n, &area.metric, [CELLS; 2]);
+            outcome.map_err(|what| Difference::in_calls(what, describe_area("wrong metric", &area, &[], &[])))?;
+            area.metric[place] = right;
+        }
+    }
+    Ok(())
+}
+
+/// Some of n, sizes and metrics wrong at once.
+fn wrong_at_random(comparison: &mut Comparison, random: &mut Random) -> Result<(), Difference> {
+    let (mut area, list) = area_and_list(random);
+    let mut sizes = [CELLS; 5];
+    if random.chance(50) {
+        for _ in 0..random.between(1, 3) {
+            let place = if random.chance(70) {
+                at(random.below(area.n), random.below(area.n))
+            } else {
+                random.below(CELLS)
+            };
+            area.metric[place] = random.pick(&WRONG_METRICS);
+        }
+    }
+    if random.chance(20) {
+        let size = random.pick(&WRONG_SIZES);
+        sizes = sizes.map(|right| if random.chance(30) { size } else { right });
+    }
+    if random.chance(10) {
+        area.metric.resize(random.pick(&WRONG_SIZES), 1);
+    }
+    if random.chance(10) {
+        area.n = random.pick(&WRONG_N);
+    }
+    compare_both(comparison, random, &area, sizes, &list)
+}
+
+fn area_and_list(random: &mut Random) -> (Area, Vec<u8>) {
+    let mut area = areas::area(random);
+    let list = changes::list(random, &mut area);
+    (area, list)
+}
+
+/// Paths and Plan; the sizes are those of the tables that Plan fills, and Paths gets the second and the last of them.
+fn compare_both(
+    comparison: &mut Comparison,
+    random: &mut Random,
+    area: &Area,
+    sizes: [usize; 5],
+    list: &[u8],
+) -> Result<(), Difference> {
+    let mut compare = || {
+        comparison.paths(random, area.n, &area.metric, [sizes[1], sizes[4]])?;
+        comparison.plan(random, area.n, &area.metric, sizes, list)
+    };
+    let title = format!("direct calls with table sizes {sizes:?}");
+    compare().map_err(|what| Difference::in_calls(what, describe_area(&title, area, list, &[])))?;
+    Ok(())
+}
+
+fn every_kind(comparison: &mut Comparison, random: &mut Random) -> Result<(), Difference> {
+    for kind in 0..=255 {
+        for _ in 0..20 {
+            let record = steps::any_record(random);
+            let [_, a, b] = steps::edge(random, &record);
+            compare_one_step(comparison, &record, [kind, a, b])?;
+        }
+    }
+    Ok(())
+}
+
+/// A state that does not exist is refused at every index, whether or not the router at it is below n.
+fn wrong_state_at_each_index(comparison: &mut Comparison, random: &mut Random) -> Result<(), Difference> {
+    for index in 0..WIDTH {
+        for state in [0, 3, 4, 5, 128, 255] {
+            for n in [0, 1, 16, 31, 32, 33, 255] {
+                let mut record = steps::any_record(random);
+                record.n = n;
+                record.states = record.states.map(|state| state % 4);
+                record.states[index] = state;
+                let call = steps::within(random, &record);
+                compare_one_step(comparison, &record, call)?;
+            }
+        }
+    }
+    Ok(())
+}
+
+fn compare_one_step(comparison: &mut Comparison, record: &Record, call: [u8; 3]) -> Result<(), Difference> {
+    let (mut library, mut model) = (record.clone(), record.clone());
+    let outcome = comparison.step(&mut library, &mut model, call);
+    outcome.map_err(|what| Difference::in_calls(what, describe_step(record, &call)))?;
+    Ok(())
+}
+
+/// Steps on a record that no plan gives, one after the other and as one list.
+fn any_record(comparison: &mut Comparison, random: &mut Random) -> Result<(), Difference> {
+    let start = steps::any_record(random);
+    let (mut library, mut model) = (start.clone(), start.clone());
+    let mut bytes = Vec::new();
+    for _ in 0..random.between(1, 8) {
+        let call = match random.below(10) {
+            0 => [random.byte(), random.byte(), random.byte()],
+            1 | 2 => steps::edge(random, &library),
+            _ => steps::within(random, &library),
+        };
+        bytes.extend(call);
+        let outcome = comparison.step(&mut library, &mut model, call);
+        outcome.map_err(|what| Difference::in_calls(what, describe_step(&start, &bytes)))?;
+    }
+    let left_over = random.below(3);
+    bytes.extend(random.bytes(left_over));
+    let outcome = comparison.run(&start, &bytes);
+    outcome.map_err(|what| Difference::in_calls(what, describe_step(&start, &bytes)))?;
+    Ok(())
+}

@@ -1,0 +1,177 @@
+//! Bench files: Read, the texts of the rehearsal and of the routes, and the program itself.
+
+use std::path::PathBuf;
+
+use crate::areas;
+use crate::compare::{Comparison, ROOM};
+use crate::difference::Difference;
+use crate::files::{self, LINK_FAULTS, Parts};
+use crate::lent::RIGHT_SIZES;
+use crate::process;
+use crate::random::Random;
+use crate::read::LARGEST;
+
+const PART: u64 = 3;
+/// Files up to this size are cut after every byte.
+const SMALL: usize = 120;
+
+/// How many files there are to be, and how many of them the program is run with.
+#[derive(Clone)]
+pub struct Amount {
+    pub cases: u64,
+    /// From one place of the longest link section that gets each fault to the next.
+    pub link_stride: usize,
+    pub program: Option<PathBuf>,
+    /// From one file that the program is run with to the next.
+    pub program_stride: u64,
+}
+
+pub fn file_cases(comparison: &mut Comparison, seed: u64, amount: &Amount) -> Result<(), Difference> {
+    let mut random = Random::for_case(seed, PART, u64::MAX);
+    largest_file(comparison, &mut random, amount)?;
+    for (n, stride) in [(2, 1), (5, 1), (32, amount.link_stride)] {
+        link_faults(comparison, &mut random, n, stride, amount)?;
+    }
+    for number in 0..amount.cases {
+        file_case(comparison, seed, number, amount)?;
+    }
+    Ok(())
+}
+
+/// One faultless file, sometimes with all that can be cut off it, or one file with faults.
+pub fn file_case(comparison: &mut Comparison, seed: u64, number: u64, amount: &Amount) -> Result<(), Difference> {
+    let mut random = Random::for_case(seed, PART, number);
+    let most_routers = random.pick(&[2, 3, 4, 8, 16, 32]);
+    match random.below(40) {
+        0 => {
+            let parts = files::faultless(&mut random, most_routers);
+            cut_and_lengthened(comparison, &mut random, &parts, amount)
+        }
+        1..=24 => {
+            let file = files::faultless(&mut random, most_routers).bytes();
+            compare_file(comparison, &mut random, &file, amount)
+        }
+        25..=33 => {
+            let file = files::faulty(&mut random, most_routers);
+            compare_file(comparison, &mut random, &file, amount)
+        }
+        34..=37 => {
+            let mut file = files::faultless(&mut random, most_routers).bytes();
+            files::alter(&mut random, &mut file);
+            compare_file(comparison, &mut random, &file, amount)
+        }
+        _ => {
+            let file = files::any_bytes(&mut random);
+            compare_file(comparison, &mut random, &file, amount)
+        }
+    }
+}
+
+/// The file itself, the file with bytes after its end, and its beginnings.
+fn cut_and_lengthened(
+    comparison: &mut Comparison,
+    random: &mut Random,
+    parts: &Parts,
+    amount: &Amount,
+) -> Result<(), Difference> {
+    let file = parts.bytes();
+    compare_file(comparison, random, &file, amount)?;
+    let mut longer = file.clone();
+    let more = random.pick(&[1, 1, 2, 3, 5, 100]);
+    longer.extend(random.bytes(more));
+    compare_file(comparison, random, &longer, amount)?;
+    for length in lengths(random, parts, file.len()) {
+        compare_file(comparison, random, &file[..length], amount)?;
+    }
+    Ok(())
+}
+
+/// Every length of a small file; of a larger one those at the borders of the sections and a few others.
+fn lengths(random: &mut Random, parts: &Parts, size: usize) -> Vec<usize> {
+    if size <= SMALL {
+        return (0..size).collect();
+    }
+    let borders = parts.borders();
+    let mut lengths: Vec<usize> = borders
+        .iter()
+        .flat_map(|&border| [border.saturating_sub(1), border, border + 1])
+        .collect();
+    lengths.extend((0..8).map(|_| random.below(size)));
+    lengths.retain(|&length| length < size);
+    lengths.sort();
+    lengths.dedup();
+    lengths
+}
+
+/// The largest file, one byte more, many bytes more, and its beginnings.
+fn largest_file(comparison: &mut Comparison, random: &mut Random, amount: &Amount) -> Result<(), Difference> {
+    let parts = files::largest(random);
+    let file = parts.bytes();
+    assert_eq!(file.len(), LARGEST, "size of the largest file");
+    let always = Amount {
+        cases: 0,
+        link_stride: 1,
+        program: amount.program.clone(),
+        program_stride: 1,
+    };
+    for more in [0, 1, 2, 3, 20_000] {
+        let mut longer = file.clone();
+        longer.extend(random.bytes(more));
+        compare_file(comparison, random, &longer, &always)?;
+    }
+    for length in lengths(random, &parts, file.len()) {
+        compare_file(comparison, random, &file[..length], &always)?;
+    }
+    Ok(())
+}
+
+/// A full mesh with each fault of a link at each place, or from one place to another by the stride.
+fn link_faults(
+    comparison: &mut Comparison,
+    random: &mut Random,
+    n: usize,
+    stride: usize,
+    amount: &Amount,
+) -> Result<(), Difference> {
+    let area = areas::full_mesh(random, n);
+    let links = files::links_of(random, &area);
+    let parts = Parts::new(n, links, vec![0, 1, 0, 0, 1], Vec::new());
+    for place in (0..parts.links.len()).step_by(stride) {
+        for fault in LINK_FAULTS {
+            let mut spoiled = parts.clone();
+            files::spoil_link(random, &mut spoiled, fault, place);
+            if random.chance(30) {
+                files::spoil(random, &mut spoiled);
+            }
+            compare_file(comparison, random, &spoiled.bytes(), amount)?;
+        }
+    }
+    Ok(())
+}
+
+/// All comparisons of one file; some texts once more with too little room.
+pub fn compare_file(
+    comparison: &mut Comparison,
+    random: &mut Random,
+    file: &[u8],
+    amount: &Amount,
+) -> Result<(), Difference> {
+    let mut compare = || {
+        let text = comparison.file(random, file)?;
+        if random.chance(15) {
+            let room = random.below(text.len() + 4);
+            comparison.rehearsal(random, file, RIGHT_SIZES, room)?;
+            let most = random.pick(&[12, 200, ROOM]);
+            let room = random.below(most);
+            comparison.routes(random, file, RIGHT_SIZES, room)?;
+        }
+        match &amount.program {
+            Some(program) if comparison.counts.files % amount.program_stride == 0 => {
+                comparison.counts.processes += 1;
+                process::compare(random, program, file)
+            }
+            _ => Ok(()),
+        }
+    };
+    compare().map_err(|what| Difference::in_file(what, file))
+}

@@ -1,0 +1,238 @@
+//! Bench files: faultless ones, and ones with faults at chosen places.
+
+use crate::areas::{self, Area};
+use crate::changes;
+use crate::flaw::Flaw;
+use crate::ofib::{CELLS, Record, Tables, WIDTH};
+use crate::paths::{UNUSED, at, pairs};
+use crate::plan::{Change, MOST_CHANGES, plan};
+use crate::random::Random;
+use crate::read::MOST_STEPS;
+use crate::step::step;
+use crate::steps::Caller;
+
+/// The parts of a file. The counts stand by themselves, so that they can be wrong.
+#[derive(Clone)]
+pub struct Parts {
+    pub n: u8,
+    pub link_count: usize,
+    pub links: Vec<Change>,
+    pub change_count: usize,
+    pub changes: Vec<u8>,
+    pub step_count: usize,
+    pub steps: Vec<u8>,
+}
+
+impl Parts {
+    pub fn new(n: usize, links: Vec<Change>, changes: Vec<u8>, steps: Vec<u8>) -> Parts {
+        Parts {
+            n: n as u8,
+            link_count: links.len(),
+            links,
+            change_count: changes.len() / 5,
+            changes,
+            step_count: steps.len() / 3,
+            steps,
+        }
+    }
+
+    pub fn bytes(&self) -> Vec<u8> {
+        let mut file = vec![self.n];
+        file.extend((self.link_count as u16).to_be_bytes());
+        file.extend(changes::bytes_of(&self.links));
+        file.push(self.change_count as u8);
+        file.extend(&self.changes);
+        file.extend((self.step_count as u16).to_be_bytes());
+        file.extend(&self.steps);
+        file
+    }
+
+    /// Where each section begins and ends.
+    pub fn borders(&self) -> Vec<usize> {
+        let sizes = [1, 2, 5 * self.links.len(), 1, self.changes.len(), 2, self.steps.len()];
+        let mut borders = vec![0];
+        for size in sizes {
+            borders.push(borders[borders.len() - 1] + size);
+        }
+        borders
+    }
+}
+
+/// A file without a fault of Read's; its changes may be ones that Plan refuses.
+pub fn faultless(random: &mut Random, most_routers: usize) -> Parts {
+    let n = random.between(1, most_routers);
+    let mut area = areas::area_of_size(random, n);
+    let mut list = changes::list(random, &mut area);
+    list.truncate(list.len().min(5 * MOST_CHANGES) / 5 * 5);
+    let steps = steps_for(random, &area, &list);
+    Parts::new(n, links_of(random, &area), list, steps)
+}
+
+/// The largest file that can be accepted: all links, all changes of a router, all steps.
+pub fn largest(random: &mut Random) -> Parts {
+    let area = areas::full_mesh(random, WIDTH);
+    let router = random.below(WIDTH);
+    let of_router = pairs(WIDTH).filter(|&(i, j)| i == router || j == router);
+    let down = of_router.map(|(i, j)| Change {
+        from: i as u8,
+        to: j as u8,
+        metric: UNUSED,
+    });
+    let list = changes::bytes_of(&down.collect::<Vec<Change>>());
+    let steps = calls(random, &area, &list, MOST_STEPS);
+    Parts::new(WIDTH, links_of(random, &area), list, steps)
+}
+
+/// The area's links in any order; some that are not used are listed as well.
+pub fn links_of(random: &mut Random, area: &Area) -> Vec<Change> {
+    let percent = random.pick(&[0, 0, 20, 100]);
+    let link = |(i, j)| Change {
+        from: i as u8,
+        to: j as u8,
+        metric: area.metric[at(i, j)],
+    };
+    let mut links: Vec<Change> = pairs(area.n).map(link).collect();
+    links.retain(|link| link.metric < UNUSED || random.chance(percent));
+    random.shuffle(&mut links);
+    links
+}
+
+fn steps_for(random: &mut Random, area: &Area, list: &[u8]) -> Vec<u8> {
+    let most = random.pick(&[0, 3, 20, 20, 100, 300]);
+    let count = random.between(0, most);
+    calls(random, area, list, count)
+}
+
+/// Calls chosen along the run of the area's plan; any bytes where there is no plan.
+fn calls(random: &mut Random, area: &Area, list: &[u8], count: usize) -> Vec<u8> {
+    let mut cells = vec![vec![0; CELLS]; 5];
+    let mut old = area.metric.clone();
+    let mut record = Record::default();
+    let [new, old_dist, new_dist, old_hops, new_hops] = cells.as_mut_slice() else {
+        unreachable!("five tables")
+    };
+    let mut tables = Tables {
+        old: &mut old,
+        new,
+        old_dist,
+        new_dist,
+        old_hops,
+        new_hops,
+    };
+    if plan(area.n, list, &mut tables, &mut record, Flaw::None) != 0 {
+        return random.bytes(3 * count);
+    }
+    let mut caller = Caller::new(random);
+    let mut bytes = Vec::new();
+    for _ in 0..count {
+        let call = caller.next(random, &record);
+        step(&mut record, call, Flaw::None);
+        bytes.extend(call);
+    }
+    bytes
+}
+
+/// What can be wrong in one link entry.
+#[derive(Clone, Copy, Debug)]
+pub enum LinkFault {
+    UnknownRouter,
+    SameRouter,
+    ZeroMetric,
+    Repeated,
+}
+
+pub const LINK_FAULTS: [LinkFault; 4] = [
+    LinkFault::UnknownRouter,
+    LinkFault::SameRouter,
+    LinkFault::ZeroMetric,
+    LinkFault::Repeated,
+];
+
+/// Puts a fault into the link at the place. The first link repeats none.
+pub fn spoil_link(random: &mut Random, parts: &mut Parts, fault: LinkFault, place: usize) {
+    let earlier = parts.links[random.below(place)];
+    let unknown = random.pick(&[parts.n, parts.n.wrapping_add(1), 32, 255]).max(parts.n);
+    let link = &mut parts.links[place];
+    match fault {
+        LinkFault::UnknownRouter if random.chance(50) => link.from = unknown,
+        LinkFault::UnknownRouter => link.to = unknown,
+        LinkFault::SameRouter => link.to = link.from,
+        LinkFault::ZeroMetric => link.metric = 0,
+        LinkFault::Repeated if place > 0 => (link.from, link.to) = (earlier.from, earlier.to),
+        LinkFault::Repeated => {}
+    }
+}
+
+/// A file with one to three faults, sometimes cut or lengthened as well.
+pub fn faulty(random: &mut Random, most_routers: usize) -> Vec<u8> {
+    let mut parts = faultless(random, most_routers);
+    for _ in 0..random.between(1, 3) {
+        spoil(random, &mut parts);
+    }
+    let mut file = parts.bytes();
+    match random.below(10) {
+        0 | 1 => file.truncate(random.below(file.len())),
+        2 => {
+            let more = random.between(1, 9);
+            file.extend(random.bytes(more));
+        }
+        _ => {}
+    }
+    file
+}
+
+/// Puts one random fault anywhere into the file's parts.
+pub fn spoil(random: &mut Random, parts: &mut Parts) {
+    let n = usize::from(parts.n);
+    match random.below(8) {
+        0 => parts.n = random.pick(&[0, 33, 64, 255, parts.n.wrapping_sub(1), parts.n.wrapping_add(1)]),
+        1 => parts.link_count = near(random, parts.link_count, n * n.saturating_sub(1), u16::MAX.into()),
+        2 => parts.change_count = near(random, parts.change_count, MOST_CHANGES, u8::MAX.into()),
+        3 => parts.step_count = near(random, parts.step_count, MOST_STEPS, u16::MAX.into()),
+        4 => {
+            let odd = random.between(1, 6);
+            parts.steps.extend(random.bytes(odd));
+        }
+        _ if parts.links.is_empty() => parts.n = 0,
+        _ => {
+            let fault = random.pick(&LINK_FAULTS);
+            let place = random.below(parts.links.len());
+            spoil_link(random, parts, fault, place);
+        }
+    }
+}
+
+/// A count near the right one or near the largest that is allowed.
+fn near(random: &mut Random, count: usize, most: usize, top: usize) -> usize {
+    let choices = [
+        count + 1,
+        count.saturating_sub(1),
+        most,
+        most + 1,
+        top,
+        random.below(top + 1),
+    ];
+    random.pick(&choices).min(top)
+}
+
+/// Bytes that are no bench file, though often with a right number of routers and a small link count.
+pub fn any_bytes(random: &mut Random) -> Vec<u8> {
+    let length = random.pick(&[0, 1, 2, 3, 4, 5, 8, 20, 60, 200, 1000]);
+    let mut file = random.bytes(length);
+    if random.chance(70) && length > 3 {
+        file[0] = random.between(1, WIDTH) as u8;
+        file[1] = 0;
+        file[2] = random.below(4) as u8;
+    }
+    file
+}
+
+/// Changes some bytes of a file.
+pub fn alter(random: &mut Random, file: &mut [u8]) {
+    for _ in 0..random.between(1, 4) {
+        let place = random.below(file.len());
+        if let Some(byte) = file.get_mut(place) {
+            *byte = random.pick(&[0, 1, *byte ^ 1, *byte ^ 128, 255]);
+        }
+    }
+}

@@ -1,0 +1,51 @@
+//! Mistakes that can be put into the model on purpose, to show that the comparison sees them.
+
+#[derive(Clone, Copy, Debug, PartialEq, Eq)]
+pub enum Flaw {
+    None,
+    /// Read answers 2 where the file ends too early.
+    ReadTwoForOne,
+    /// Read leaves the links it has read in the table when it refuses.
+    ReadKeepsLinks,
+    /// The largest metric counts as a used link.
+    MaximumUsed,
+    /// One next hop is kept where several cost the same.
+    OneNextHop,
+    /// A fall is ordered like a rise.
+    FallAsRise,
+    /// The near end of the first change is the root where both ends are common.
+    RootNearEnd,
+    /// The rank is the length of the shortest chain of waiting routers.
+    ShortestRank,
+    /// The rank is one too large: the routers of the chain are counted, not its links.
+    RankOffByOne,
+    /// A router with nothing due finishes without waiting.
+    FinishUnordered,
+    /// Write answers ok and moves nothing.
+    WriteMovesNothing,
+    /// An idle router takes a completion message.
+    IdleReceives,
+    /// A write of a destination that is already written is answered ok.
+    WriteTwice,
+    /// The text says ok for an ignored message.
+    IgnoredAsOk,
+    /// The routes leave out a pair that has a walk in only one of the two topologies.
+    RouteNeedsBoth,
+}
+
+pub const FLAWS: [Flaw; 14] = [
+    Flaw::ReadTwoForOne,
+    Flaw::ReadKeepsLinks,
+    Flaw::MaximumUsed,
+    Flaw::OneNextHop,
+    Flaw::FallAsRise,
+    Flaw::RootNearEnd,
+    Flaw::ShortestRank,
+    Flaw::RankOffByOne,
+    Flaw::FinishUnordered,
+    Flaw::WriteMovesNothing,
+    Flaw::IdleReceives,
+    Flaw::WriteTwice,
+    Flaw::IgnoredAsOk,
+    Flaw::RouteNeedsBoth,
+];

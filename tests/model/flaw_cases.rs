@@ -1,0 +1,85 @@
+//! Each mistake that the model can be given must show: in the comparison, and where it breaks the order of the writes
+//! also in the walks along the pointers.
+
+use crate::area_cases::area_case;
+use crate::compare::Comparison;
+use crate::difference::Difference;
+use crate::file_cases::{self, file_case};
+use crate::flaw::{FLAWS, Flaw};
+use crate::lent::{RIGHT_SIZES, SixTables};
+use crate::ofib::Record;
+use crate::plan::plan;
+use crate::random::Random;
+use crate::reachable::{search, small_area, unchanged_between};
+use crate::step::step;
+
+const PART: u64 = 5;
+/// So many areas and as many files are compared before a mistake counts as not seen.
+const MOST_CASES: u64 = 2000;
+const MOST_SEARCHES: u64 = 2000;
+
+pub fn flaw_cases(seed: u64) -> Result<(), String> {
+    for flaw in FLAWS {
+        let (cases, what) =
+            first_difference(flaw, seed).ok_or(format!("flaw {flaw:?}: the comparison did not see it"))?;
+        println!(
+            "flaw {flaw:?}: caught at case {cases} ({})",
+            what.lines().next().unwrap_or_default()
+        );
+    }
+    for flaw in [Flaw::FinishUnordered, Flaw::FallAsRise] {
+        let (plans, what) = first_bad_walk(flaw, seed).ok_or(format!("flaw {flaw:?}: no walk showed it"))?;
+        let what = what.split(" with ").next().unwrap_or_default();
+        println!("flaw {flaw:?}: caught by a walk at plan {plans} ({what})");
+    }
+    match first_bad_walk(Flaw::None, seed) {
+        None => Ok(()),
+        Some((_, what)) => Err(format!("the model without a flaw: {what}")),
+    }
+}
+
+/// Areas and files in turn; after how many cases library and flawed model differ, and in what.
+fn first_difference(flaw: Flaw, seed: u64) -> Option<(u64, String)> {
+    let mut comparison = Comparison::new(flaw);
+    let amount = file_cases::Amount {
+        cases: 0,
+        link_stride: 1,
+        program: None,
+        program_stride: 1,
+    };
+    for number in 0..MOST_CASES {
+        let outcome = area_case(&mut comparison, seed, number);
+        let outcome = outcome.and_then(|()| file_case(&mut comparison, seed, number, &amount));
+        if let Err(Difference { what, .. }) = outcome {
+            return Some((comparison.counts.areas + comparison.counts.files, what));
+        }
+    }
+    None
+}
+
+/// The walks over the flawed model by itself: after how many plans one goes wrong, and how.
+fn first_bad_walk(flaw: Flaw, seed: u64) -> Option<(u64, String)> {
+    for number in 1..=if flaw == Flaw::None { 20 } else { MOST_SEARCHES } {
+        let mut random = Random::for_case(seed, PART, number);
+        let n = random.between(2, 4);
+        let (area, list) = if number == 1 {
+            unchanged_between()
+        } else {
+            small_area(&mut random, n)
+        };
+        let mut tables = SixTables::filled(&mut random, RIGHT_SIZES);
+        tables.tables[0].cells_mut().copy_from_slice(&area.metric);
+        let mut record = Record::default();
+        if plan(area.n, &list, &mut tables.lend(), &mut record, flaw) != 0 {
+            continue;
+        }
+        let outcome = search(&tables, &record, |record, call| {
+            step(record, call, flaw);
+            Ok(())
+        });
+        if let Err(what) = outcome {
+            return Some((number, what));
+        }
+    }
+    None
+}

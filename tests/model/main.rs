@@ -1,0 +1,141 @@
+//! Compares the proved library with a model that is written from 01 alone.
+
+mod area_cases;
+mod areas;
+mod changes;
+mod compare;
+mod counts;
+mod difference;
+mod direct_cases;
+mod file_cases;
+mod files;
+mod flaw;
+mod flaw_cases;
+mod lent;
+// The binding is not only for this program, which need not use all of it.
+#[allow(dead_code)]
+#[path = "../../bindings/ofib.rs"]
+mod ofib;
+mod options;
+mod paths;
+mod plan;
+mod process;
+mod random;
+mod reachable;
+mod read;
+mod step;
+mod steps;
+mod text;
+mod worked;
+
+use std::path::Path;
+use std::process::ExitCode;
+use std::time::Instant;
+
+use compare::Comparison;
+use difference::Difference;
+use flaw::Flaw;
+use options::Options;
+use random::Random;
+
+fn main() -> ExitCode {
+    let options = match options::parse(std::env::args().skip(1)) {
+        Ok(options) => options,
+        Err(message) => {
+            eprintln!("model: {message}");
+            return ExitCode::from(2);
+        }
+    };
+    let outcome = match &options.replay {
+        Some(path) => replay(&options, path),
+        None => compare_all(&options),
+    };
+    match outcome {
+        Ok(line) => {
+            println!("{line}");
+            ExitCode::SUCCESS
+        }
+        Err(message) => {
+            println!("model: {message}");
+            ExitCode::FAILURE
+        }
+    }
+}
+
+/// All parts one after the other; the last line, or what is wrong.
+fn compare_all(options: &Options) -> Result<String, String> {
+    let seed = options.seed;
+    println!("model: seed {seed}");
+    worked::check_model().map_err(|what| format!("the model contradicts 01: {what}"))?;
+    flaw_cases::flaw_cases(seed)?;
+    let mut comparison = Comparison::new(Flaw::None);
+    compare_parts(&mut comparison, options).map_err(|difference| saved(options, &difference))?;
+    comparison.counts.print();
+    let missing = comparison.counts.missing();
+    if !missing.is_empty() {
+        return Err(format!("never seen: {}", missing.join("; ")));
+    }
+    let (areas, files, records) = (
+        comparison.counts.areas,
+        comparison.counts.files,
+        comparison.counts.records,
+    );
+    Ok(format!(
+        "model: seed {seed}, {areas} areas, {files} files, {records} records: no difference"
+    ))
+}
+
+fn compare_parts(comparison: &mut Comparison, options: &Options) -> Result<(), Difference> {
+    let seed = options.seed;
+    worked::compare_library(comparison)?;
+    timed("areas", || {
+        (0..options.areas).try_for_each(|number| area_cases::area_case(comparison, seed, number))
+    })?;
+    timed("direct calls", || {
+        direct_cases::direct_cases(comparison, seed, options.direct)
+    })?;
+    timed("files", || file_cases::file_cases(comparison, seed, &options.files))?;
+    timed("reachable records", || {
+        reachable::small_areas(comparison, seed, &options.small)
+    })
+}
+
+fn timed<T>(name: &str, part: impl FnOnce() -> T) -> T {
+    let start = Instant::now();
+    let outcome = part();
+    println!("{name}: {:.1} s", start.elapsed().as_secs_f64());
+    outcome
+}
+
+/// Writes the case to a file and says what differs and where the case is.
+fn saved(options: &Options, difference: &Difference) -> String {
+    match difference.save(&options.out) {
+        Ok(path) => format!("difference: {}\nthe case is in {}", difference.what, path.display()),
+        Err(error) => format!(
+            "difference: {}\nthe case could not be written: {error}",
+            difference.what
+        ),
+    }
+}
+
+/// Compares one saved case again: the text of an area case, or a bench file.
+fn replay(options: &Options, path: &Path) -> Result<String, String> {
+    let bytes = std::fs::read(path).map_err(|error| format!("{}: {error}", path.display()))?;
+    let mut comparison = Comparison::new(Flaw::None);
+    let outcome = match difference::area_case_of(&String::from_utf8_lossy(&bytes)) {
+        Some((seed, number)) => area_cases::area_case(&mut comparison, seed, number),
+        None if path.extension().is_some_and(|end| end == "txt") => {
+            return Err("only area cases and bench files can be replayed; run again with the same seed".to_string());
+        }
+        None => {
+            let mut random = Random::for_case(options.seed, 0, 0);
+            let amount = file_cases::Amount {
+                program_stride: 1,
+                ..options.files.clone()
+            };
+            file_cases::compare_file(&mut comparison, &mut random, &bytes, &amount)
+        }
+    };
+    outcome.map_err(|difference| format!("difference: {}", difference.what))?;
+    Ok(format!("model: {}: no difference", path.display()))
+}

@@ -1,0 +1,100 @@
+//! Paths: distances and next-hop sets of an area (01, "The area and its paths").
+
+use crate::flaw::Flaw;
+use crate::ofib::{CELLS, WIDTH};
+
+/// The metric of a link that is not used.
+pub const UNUSED: u32 = 16_777_215;
+/// The distance where no walk exists.
+pub const UNREACHED: u32 = u32::MAX;
+/// Above every sum of metrics; the sum of two of them still fits in 64 bits.
+const FAR: u64 = 1 << 40;
+
+/// The cell of the ordered pair (i, j).
+pub fn at(i: usize, j: usize) -> usize {
+    WIDTH * i + j
+}
+
+/// All ordered pairs of different routers below n, the first rising and then the second.
+pub fn pairs(n: usize) -> impl Iterator<Item = (usize, usize)> {
+    (0..n)
+        .flat_map(move |i| (0..n).map(move |j| (i, j)))
+        .filter(|(i, j)| i != j)
+}
+
+/// The refusals that Paths and Plan have in common, in their order; 0 for none.
+pub fn refusal(n: usize, metric: &[u32], other_sizes: &[usize]) -> u8 {
+    if n == 0 || n > WIDTH {
+        return 3;
+    }
+    if metric.len() != CELLS || other_sizes.iter().any(|&size| size != CELLS) {
+        return 8;
+    }
+    let wrong = |cell: u32| cell == 0 || cell > UNUSED;
+    if pairs(n).any(|(i, j)| wrong(metric[at(i, j)])) {
+        6
+    } else {
+        0
+    }
+}
+
+pub fn paths(n: usize, metric: &[u32], dist: &mut [u32], hops: &mut [u32], flaw: Flaw) -> u8 {
+    let refused = refusal(n, metric, &[dist.len(), hops.len()]);
+    if refused == 0 {
+        fill(n, metric, dist, hops, flaw);
+    }
+    refused
+}
+
+/// Writes all 1,024 cells of both tables; the input has no fault.
+pub fn fill(n: usize, metric: &[u32], dist: &mut [u32], hops: &mut [u32], flaw: Flaw) {
+    let least = least_sums(n, metric, flaw);
+    dist.fill(UNREACHED);
+    hops.fill(0);
+    for i in 0..n {
+        dist[at(i, i)] = 0;
+    }
+    for (i, j) in pairs(n).filter(|&(i, j)| least[at(i, j)] < FAR) {
+        dist[at(i, j)] = least[at(i, j)] as u32;
+        hops[at(i, j)] = next_hops(n, metric, &least, i, j, flaw);
+    }
+}
+
+fn used(metric: u32, flaw: Flaw) -> bool {
+    metric < UNUSED || (flaw == Flaw::MaximumUsed && metric == UNUSED)
+}
+
+/// Floyd–Warshall: after round k, each cell is the least sum over walks whose inner routers are at most k.
+fn least_sums(n: usize, metric: &[u32], flaw: Flaw) -> Vec<u64> {
+    let mut least = vec![FAR; CELLS];
+    for i in 0..n {
+        least[at(i, i)] = 0;
+    }
+    for (i, j) in pairs(n).filter(|&(i, j)| used(metric[at(i, j)], flaw)) {
+        least[at(i, j)] = u64::from(metric[at(i, j)]);
+    }
+    for k in 0..n {
+        let through: Vec<u64> = least[at(k, 0)..at(k, n)].to_vec();
+        for i in 0..n {
+            let first = least[at(i, k)];
+            for (cell, rest) in least[at(i, 0)..at(i, n)].iter_mut().zip(&through) {
+                *cell = (*cell).min(first + rest);
+            }
+        }
+    }
+    least
+}
+
+/// The definition itself: each k whose link and remaining distance together make up the distance.
+fn next_hops(n: usize, metric: &[u32], least: &[u64], i: usize, j: usize, flaw: Flaw) -> u32 {
+    let mut set: u32 = 0;
+    for k in (0..n).filter(|&k| k != i && used(metric[at(i, k)], flaw)) {
+        if u64::from(metric[at(i, k)]) + least[at(k, j)] == least[at(i, j)] {
+            set |= 1 << k;
+        }
+    }
+    if flaw == Flaw::OneNextHop && set != 0 {
+        return 1 << set.trailing_zeros();
+    }
+    set
+}

@@ -1,0 +1,221 @@
+//! Plan: the new metrics, both topologies' paths and the fresh record (01, "The plan").
+
+use crate::flaw::Flaw;
+use crate::ofib::{Record, Tables, WIDTH};
+use crate::paths::{self, UNUSED, at};
+
+pub const MOST_CHANGES: usize = 62;
+pub const RISE: u8 = 1;
+pub const FALL: u8 = 2;
+
+/// One entry of the change list.
+#[derive(Clone, Copy, Debug, PartialEq, Eq)]
+pub struct Change {
+    pub from: u8,
+    pub to: u8,
+    pub metric: u32,
+}
+
+impl Change {
+    pub fn from_bytes(bytes: &[u8]) -> Change {
+        Change {
+            from: bytes[0],
+            to: bytes[1],
+            metric: u32::from_be_bytes([0, bytes[2], bytes[3], bytes[4]]),
+        }
+    }
+
+    pub fn to_bytes(self) -> [u8; 5] {
+        let [_, high, middle, low] = self.metric.to_be_bytes();
+        [self.from, self.to, high, middle, low]
+    }
+
+    /// The cell of the link that is changed; both routers are below 32.
+    pub fn cell(self) -> usize {
+        at(self.from.into(), self.to.into())
+    }
+
+    fn has_end(self, router: u8) -> bool {
+        self.from == router || self.to == router
+    }
+
+    fn same_pair(self, other: Change) -> bool {
+        self.from == other.from && self.to == other.to
+    }
+}
+
+pub fn changes_of(list: &[u8]) -> Vec<Change> {
+    list.chunks_exact(5).map(Change::from_bytes).collect()
+}
+
+pub fn plan(n: usize, list: &[u8], t: &mut Tables, record: &mut Record, flaw: Flaw) -> u8 {
+    *record = Record::default();
+    let refused = refusal(n, list, t);
+    if refused != 0 {
+        return refused;
+    }
+    let changes = changes_of(list);
+    apply(n, &changes, t.old, t.new);
+    paths::fill(n, t.old, t.old_dist, t.old_hops, flaw);
+    paths::fill(n, t.new, t.new_dist, t.new_hops, flaw);
+    *record = fresh_record(n, &changes, t, flaw);
+    0
+}
+
+/// The number of the first refusal in the order of 01, or 0.
+fn refusal(n: usize, list: &[u8], t: &Tables) -> u8 {
+    let sizes = [
+        t.new.len(),
+        t.old_dist.len(),
+        t.new_dist.len(),
+        t.old_hops.len(),
+        t.new_hops.len(),
+    ];
+    let common = paths::refusal(n, t.old, &sizes);
+    if common != 0 {
+        return common;
+    }
+    if list.len() % 5 != 0 {
+        return 1;
+    }
+    if list.len() / 5 > MOST_CHANGES {
+        return 9;
+    }
+    if list.is_empty() {
+        return 10;
+    }
+    let changes = changes_of(list);
+    if let Some((_, number)) = first_fault(n, t.old, &changes) {
+        return number;
+    }
+    match (direction(t.old, &changes), root(&changes, Flaw::None)) {
+        (None, _) => 12,
+        (_, None) => 13,
+        _ => 0,
+    }
+}
+
+/// The place and the number of the first faulty entry.
+pub fn first_fault(n: usize, old: &[u32], changes: &[Change]) -> Option<(usize, u8)> {
+    (0..changes.len())
+        .map(|place| (place, entry_fault(n, old, changes, place)))
+        .find(|&(_, number)| number != 0)
+}
+
+fn entry_fault(n: usize, old: &[u32], changes: &[Change], place: usize) -> u8 {
+    let change = changes[place];
+    if usize::from(change.from) >= n || usize::from(change.to) >= n {
+        4
+    } else if change.from == change.to {
+        5
+    } else if change.metric == 0 {
+        6
+    } else if changes[..place].iter().any(|&earlier| earlier.same_pair(change)) {
+        7
+    } else if change.metric == old[change.cell()] {
+        11
+    } else {
+        0
+    }
+}
+
+/// Rise or fall, where every entry agrees; the entries have no fault.
+fn direction(old: &[u32], changes: &[Change]) -> Option<u8> {
+    if changes.iter().all(|change| change.metric > old[change.cell()]) {
+        Some(RISE)
+    } else if changes.iter().all(|change| change.metric < old[change.cell()]) {
+        Some(FALL)
+    } else {
+        None
+    }
+}
+
+/// The router that is an end of every change. A common router is an end of the first change, and where both of its ends
+/// are common the far one is meant: so the far end is tried first.
+fn root(changes: &[Change], flaw: Flaw) -> Option<u8> {
+    let first = changes.first()?;
+    let mut ends = [first.to, first.from];
+    if flaw == Flaw::RootNearEnd {
+        ends.reverse();
+    }
+    ends.into_iter()
+        .find(|&end| changes.iter().all(|change| change.has_end(end)))
+}
+
+/// The old metrics with the changes applied; all other cells say that there is no link.
+fn apply(n: usize, changes: &[Change], old: &[u32], new: &mut [u32]) {
+    new.fill(UNUSED);
+    for (i, j) in paths::pairs(n) {
+        new[at(i, j)] = old[at(i, j)];
+    }
+    for change in changes {
+        new[change.cell()] = change.metric;
+    }
+}
+
+fn fresh_record(n: usize, changes: &[Change], t: &Tables, flaw: Flaw) -> Record {
+    let root = root(changes, flaw).expect("the list has been judged");
+    let direction = direction(t.old, changes).expect("the list has been judged");
+    let mut record = Record {
+        n: n as u8,
+        root,
+        direction,
+        ..Record::default()
+    };
+    for r in 0..n {
+        record.waiting[r] = waiting_set(n, r, root.into(), direction, t, flaw);
+        record.due[r] = set_of(n, |d| t.old_hops[at(r, d)] != t.new_hops[at(r, d)]);
+    }
+    let mut known = [None; WIDTH];
+    for r in 0..n {
+        record.telling[r] = set_of(n, |other| has(record.waiting[other], r));
+        record.ranks[r] = rank(r, &record.waiting, &mut known, flaw);
+    }
+    record
+}
+
+/// In a rise, r waits for the routers that used r towards the root in the old topology; in a fall, for the routers that
+/// r will use towards the root in the new one.
+fn waiting_set(n: usize, r: usize, root: usize, direction: u8, t: &Tables, flaw: Flaw) -> u32 {
+    if direction == RISE || flaw == Flaw::FallAsRise {
+        set_of(n, |other| has(t.old_hops[at(other, root)], r))
+    } else {
+        t.new_hops[at(r, root)]
+    }
+}
+
+/// The links of the longest chain from r in which each router waits for the next. There is no cycle: along a chain the
+/// distance to the root rises (in a rise) or falls (in a fall) with every link, since no metric is 0.
+fn rank(r: usize, waiting: &[u32; WIDTH], known: &mut [Option<u8>; WIDTH], flaw: Flaw) -> u8 {
+    if let Some(rank) = known[r] {
+        return rank;
+    }
+    let behind: Vec<u8> = members(waiting[r])
+        .map(|next| 1 + rank(next, waiting, known, flaw))
+        .collect();
+    let longest = match flaw {
+        Flaw::ShortestRank => behind.iter().min(),
+        _ => behind.iter().max(),
+    };
+    let rank = match longest {
+        Some(links) => *links,
+        None if flaw == Flaw::RankOffByOne => 1,
+        None => 0,
+    };
+    known[r] = Some(rank);
+    rank
+}
+
+pub fn has(set: u32, router: usize) -> bool {
+    set >> router & 1 == 1
+}
+
+pub fn members(set: u32) -> impl Iterator<Item = usize> {
+    (0..WIDTH).filter(move |&router| has(set, router))
+}
+
+fn set_of(n: usize, belongs: impl Fn(usize) -> bool) -> u32 {
+    (0..n)
+        .filter(|&router| belongs(router))
+        .fold(0, |set, router| set | 1 << router)
+}

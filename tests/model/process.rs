@@ -1,0 +1,61 @@
+//! The rehearsal program, run as a process with a bench file as its standard input.
+
+use std::io::{self, ErrorKind, Write};
+use std::path::Path;
+use std::process::{Command, Stdio};
+use std::time::Duration;
+
+use crate::compare::texts;
+use crate::flaw::Flaw;
+use crate::lent::{RIGHT_SIZES, SixTables};
+use crate::random::Random;
+use crate::text::rehearsal;
+
+/// How much of its input the program reads.
+const READ: usize = 17_565;
+
+/// The program's output beside the model's text of what the program reads.
+pub fn compare(random: &mut Random, program: &Path, file: &[u8]) -> Result<(), String> {
+    let in_pieces = random.chance(20);
+    let output = output(program, file, in_pieces).map_err(|error| format!("{}: {error}", program.display()))?;
+    let mut tables = SixTables::filled(random, RIGHT_SIZES);
+    let text = rehearsal(&file[..file.len().min(READ)], &mut tables.lend(), Flaw::None);
+    texts("output of the program", &output, text.as_bytes())
+}
+
+/// The input is at most some 40,000 bytes, which a pipe takes at once, so all of it can be written before the output is
+/// read.
+fn output(program: &Path, file: &[u8], in_pieces: bool) -> io::Result<Vec<u8>> {
+    let mut child = Command::new(program)
+        .stdin(Stdio::piped())
+        .stdout(Stdio::piped())
+        .spawn()?;
+    if let Some(mut input) = child.stdin.take() {
+        let written = write(&mut input, file, in_pieces);
+        // The program may have ended before it has been given all.
+        if let Err(error) = written
+            && error.kind() != ErrorKind::BrokenPipe
+        {
+            return Err(error);
+        }
+    }
+    let output = child.wait_with_output()?;
+    match output.status.code() {
+        Some(_) => Ok(output.stdout),
+        None => Err(io::Error::other(format!("the program was ended: {}", output.status))),
+    }
+}
+
+/// In pieces, with a pause between them, the program gets its input by more than one reading.
+fn write(input: &mut impl Write, file: &[u8], in_pieces: bool) -> io::Result<()> {
+    if !in_pieces {
+        return input.write_all(file);
+    }
+    let size = (file.len() / 3).max(1);
+    for piece in file.chunks(size) {
+        input.write_all(piece)?;
+        input.flush()?;
+        std::thread::sleep(Duration::from_millis(1));
+    }
+    Ok(())
+}

@@ -1,0 +1,289 @@
+//! Small areas: every record that a plan can get to, and on each of them all walks along the pointers (01, "The steps",
+//! what demand 3 is about).
+
+use std::collections::HashSet;
+use std::hash::{BuildHasherDefault, Hasher};
+
+use crate::areas::{self, Area};
+use crate::changes::{self, bytes_of};
+use crate::compare::Comparison;
+use crate::difference::{Difference, describe_area};
+use crate::lent::SixTables;
+use crate::ofib::{CELLS, Record};
+use crate::paths::{UNREACHED, UNUSED, at, pairs};
+use crate::plan::{Change, has, members};
+use crate::random::Random;
+use crate::step::{DELIVER, FINISH, LEARN, RELEASE, WRITE};
+
+const PART: u64 = 4;
+/// The metrics of the areas that are listed completely.
+const METRICS: [u32; 3] = [1, 2, UNUSED];
+
+pub struct Amount {
+    /// From one listed change of an area with three routers that is searched to the next.
+    pub stride: u64,
+    /// Areas with four routers are searched until there are this many records.
+    pub records: u64,
+}
+
+/// What a search has found.
+#[derive(Default)]
+pub struct Found {
+    pub records: u64,
+    pub walks: u64,
+}
+
+pub fn small_areas(comparison: &mut Comparison, seed: u64, amount: &Amount) -> Result<(), Difference> {
+    listed_areas(comparison, 2, 1)?;
+    listed_areas(comparison, 3, amount.stride)?;
+    let (area, list) = unchanged_between();
+    search_area(comparison, &mut Random::for_case(seed, PART, 0), &area, &list)?;
+    let mut number = 1;
+    let before = comparison.counts.records;
+    while comparison.counts.records - before < amount.records {
+        let mut random = Random::for_case(seed, PART, number);
+        let (area, list) = small_area(&mut random, 4);
+        search_area(comparison, &mut random, &area, &list)?;
+        number += 1;
+    }
+    Ok(())
+}
+
+/// Router 1 has nothing due: it uses router 2 towards router 3 before and after the change. Router 0 uses router 1
+/// before, and router 2 uses router 0 after. If router 1 does not wait for router 0, then 0, 1, 2 is a cycle until
+/// router 0 has written.
+pub fn unchanged_between() -> (Area, Vec<u8>) {
+    let mut metric = vec![UNUSED; CELLS];
+    for (i, j, m) in [(0, 1, 1), (1, 2, 1), (2, 3, 1), (2, 0, 1), (0, 3, 9)] {
+        metric[at(i, j)] = m;
+    }
+    (
+        Area { n: 4, metric },
+        bytes_of(&[Change {
+            from: 2,
+            to: 3,
+            metric: UNUSED,
+        }]),
+    )
+}
+
+/// An area with few different metrics, so that walks often cost the same, and a change of it.
+pub fn small_area(random: &mut Random, n: usize) -> (Area, Vec<u8>) {
+    let mut area = Area {
+        n,
+        metric: areas::unread_cells(random, n),
+    };
+    let unused = random.between(0, 60);
+    for (i, j) in pairs(n) {
+        let metric = random.between(1, 4) as u32;
+        area.metric[at(i, j)] = if random.chance(unused) { UNUSED } else { metric };
+    }
+    let list = bytes_of(&changes::faultless(random, &mut area));
+    (area, list)
+}
+
+/// All areas of n routers with metrics from the list above, and all changes of each with metrics from it.
+fn listed_areas(comparison: &mut Comparison, n: usize, stride: u64) -> Result<(), Difference> {
+    let links: Vec<(usize, usize)> = pairs(n).collect();
+    let mut random = Random::for_case(0, PART, u64::MAX);
+    let mut number = 0;
+    for code in 0..3_usize.pow(links.len() as u32) {
+        let mut area = Area {
+            n,
+            metric: areas::unread_cells(&mut random, n),
+        };
+        for (place, &(i, j)) in links.iter().enumerate() {
+            area.metric[at(i, j)] = METRICS[digit(code, place)];
+        }
+        for list in all_changes(&area) {
+            number += 1;
+            if number % stride == 0 {
+                search_area(comparison, &mut random, &area, &list)?;
+            }
+        }
+    }
+    Ok(())
+}
+
+fn digit(code: usize, place: usize) -> usize {
+    code / 3_usize.pow(place as u32) % 3
+}
+
+/// For each router, all lists that give its links other metrics; Plan refuses the mixed ones. A list between two
+/// routers alone comes up for both of them and is kept once, in both orders, since its first entry decides the root.
+fn all_changes(area: &Area) -> Vec<Vec<u8>> {
+    let mut lists = Vec::new();
+    for router in 0..area.n {
+        let links: Vec<(usize, usize)> = pairs(area.n).filter(|&(i, j)| i == router || j == router).collect();
+        for code in 0..3_usize.pow(links.len() as u32) {
+            let list = changes_by_code(area, &links, code);
+            lists.push(bytes_of(&list));
+            if let [first, second] = list.as_slice()
+                && first.from == second.to
+                && first.to == second.from
+            {
+                lists.push(bytes_of(&[*second, *first]));
+            }
+        }
+    }
+    lists.sort();
+    lists.dedup();
+    lists
+}
+
+/// One digit of the code for each link's new metric; a link that keeps its metric is left out.
+fn changes_by_code(area: &Area, links: &[(usize, usize)], code: usize) -> Vec<Change> {
+    let mut list = Vec::new();
+    for (place, &(i, j)) in links.iter().enumerate() {
+        let metric = METRICS[digit(code, place)];
+        if metric != area.metric[at(i, j)] {
+            list.push(Change {
+                from: i as u8,
+                to: j as u8,
+                metric,
+            });
+        }
+    }
+    list
+}
+
+/// Plans the change with the library and searches all records from there, if the plan is accepted.
+fn search_area(comparison: &mut Comparison, random: &mut Random, area: &Area, list: &[u8]) -> Result<(), Difference> {
+    let mut compare = || {
+        let planned = comparison.plan(random, area.n, &area.metric, [CELLS; 5], list)?;
+        if planned.answer != 0 {
+            return Ok(());
+        }
+        comparison.counts.small_plans[area.n] += 1;
+        let found = search(&planned.tables, &planned.record, |record, call| {
+            let mut model = record.clone();
+            comparison.step(record, &mut model, call).map(|_| ())
+        })?;
+        comparison.counts.records += found.records;
+        comparison.counts.walks += found.walks;
+        Ok(())
+    };
+    compare().map_err(|what: String| Difference::in_calls(what, describe_area("reachable records", area, list, &[])))
+}
+
+/// Visits every record that calls lead to from the fresh one, and judges the pointers of each.
+pub fn search(
+    tables: &SixTables,
+    fresh: &Record,
+    mut step: impl FnMut(&mut Record, [u8; 3]) -> Result<(), String>,
+) -> Result<Found, String> {
+    let mut found = Found::default();
+    let mut seen: HashSet<u64, BuildHasherDefault<KeyHasher>> = HashSet::default();
+    seen.insert(key(fresh));
+    let mut open = vec![fresh.clone()];
+    while let Some(record) = open.pop() {
+        found.records += 1;
+        found.walks += judge_pointers(tables, &record)?;
+        for call in all_calls(record.n, found.records as u8) {
+            let mut next = record.clone();
+            step(&mut next, call).map_err(|what| format!("from {record:?}: {what}"))?;
+            if seen.insert(key(&next)) {
+                open.push(next);
+            }
+        }
+    }
+    Ok(found)
+}
+
+/// All calls of the five kinds with routers of the area. Three kinds do not read b, which is then any byte.
+fn all_calls(n: u8, any: u8) -> impl Iterator<Item = [u8; 3]> {
+    let of_one = (0..n).flat_map(move |a| [[LEARN, a, any], [RELEASE, a, any], [FINISH, a, any]]);
+    let of_two = (0..n).flat_map(move |a| (0..n).flat_map(move |b| [[WRITE, a, b], [DELIVER, a, b]]));
+    of_one.chain(of_two)
+}
+
+/// States, waiting and written sets of up to four routers. A step changes nothing else of a record, as the comparison
+/// of every field has shown before.
+fn key(record: &Record) -> u64 {
+    let routers = 0..usize::from(record.n).min(4);
+    routers.fold(0, |key, r| {
+        key << 10 | u64::from(record.states[r]) << 8 | u64::from(record.waiting[r]) << 4 | u64::from(record.written[r])
+    })
+}
+
+/// The key is one number, so mixing its bits is enough.
+#[derive(Default)]
+struct KeyHasher(u64);
+
+impl Hasher for KeyHasher {
+    fn finish(&self) -> u64 {
+        self.0
+    }
+
+    fn write(&mut self, bytes: &[u8]) {
+        for &byte in bytes {
+            self.write_u64(self.0.rotate_left(8) ^ u64::from(byte));
+        }
+    }
+
+    fn write_u64(&mut self, key: u64) {
+        let mixed = key.wrapping_mul(0x9E37_79B9_7F4A_7C15);
+        self.0 = mixed ^ (mixed >> 32);
+    }
+}
+
+/// For every destination and every start: no walk goes round in a cycle, and where the start reaches the destination
+/// in both topologies no walk ends elsewhere. The number of walks.
+fn judge_pointers(tables: &SixTables, record: &Record) -> Result<u64, String> {
+    let n = usize::from(record.n);
+    let mut walks = 0;
+    for destination in 0..n {
+        for start in 0..n {
+            let pointers = Pointers {
+                tables,
+                record,
+                destination,
+                must_arrive: reaches(tables, start, destination),
+            };
+            walks += pointers
+                .follow(start, 0)
+                .map_err(|what| format!("walk from {start} to {destination}: {what}"))?;
+        }
+    }
+    Ok(walks)
+}
+
+fn reaches(tables: &SixTables, start: usize, destination: usize) -> bool {
+    let [_, _, old_dist, new_dist, _, _] = &tables.tables;
+    let cell = at(start, destination);
+    old_dist.cells()[cell] != UNREACHED && new_dist.cells()[cell] != UNREACHED
+}
+
+/// The pointers of all routers for one destination.
+struct Pointers<'a> {
+    tables: &'a SixTables,
+    record: &'a Record,
+    destination: usize,
+    must_arrive: bool,
+}
+
+impl Pointers<'_> {
+    /// The new next hops where the router has written the destination, else the old ones.
+    fn of(&self, router: usize) -> u32 {
+        let [_, _, _, _, old_hops, new_hops] = &self.tables.tables;
+        let written = has(self.record.written[router], self.destination);
+        let hops = if written { new_hops } else { old_hops };
+        hops.cells()[at(router, self.destination)]
+    }
+
+    /// Prolongs a walk of so many links in every way; a walk of n links visits a router twice. The number of walks.
+    fn follow(&self, router: usize, links: usize) -> Result<u64, String> {
+        if links >= usize::from(self.record.n) {
+            return Err(format!("a cycle through router {router} with {:?}", self.record));
+        }
+        let pointers = self.of(router);
+        if pointers == 0 && router != self.destination && self.must_arrive {
+            return Err(format!("it ends at router {router} with {:?}", self.record));
+        }
+        let mut walks = 1;
+        for next in members(pointers) {
+            walks += self.follow(next, links + 1)?;
+        }
+        Ok(walks)
+    }
+}

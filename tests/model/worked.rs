@@ -1,0 +1,202 @@
+//! The printed rehearsal and the small areas C1 to C13 of 01: the model must give what 01 says, and the library the
+//! same.
+
+use crate::areas::Area;
+use crate::changes::bytes_of;
+use crate::compare::{Comparison, same};
+use crate::difference::Difference;
+use crate::files::Parts;
+use crate::flaw::Flaw;
+use crate::lent::{RIGHT_SIZES, SixTables};
+use crate::ofib::{Answer, CELLS, Record};
+use crate::paths::{UNUSED, at, paths};
+use crate::plan::{Change, plan};
+use crate::random::Random;
+use crate::step::step;
+use crate::text::rehearsal;
+
+type Link = (u8, u8, u32);
+
+const INPUT: &str = "03 0006 0001000001 0100000001 0102000001 0201000001 0002000003 0200000003 \
+    02 0102FFFFFF 0201FFFFFF 000A 010100 020100 030102 010000 020000 030002 040000 050001 050001 030102";
+
+const OUTPUT: &str = "\
+router 0 rank 0 waits 0 tells 2 due 4
+router 1 rank 1 waits 1 tells 4 due 4
+router 2 rank 2 waits 2 tells 0 due 3
+step 1 ok
+step 2 ok
+step 3 refused 24
+step 4 ok
+step 5 ok
+step 6 ok
+step 7 ok
+step 8 ok
+step 9 ignored
+step 10 ok
+end
+";
+
+const FIRST_LINKS: [Link; 6] = [(0, 1, 1), (1, 0, 1), (1, 2, 1), (2, 1, 1), (0, 2, 3), (2, 0, 3)];
+const FIRST_CHANGES: [Link; 2] = [(1, 2, UNUSED), (2, 1, UNUSED)];
+
+/// The examples on the model alone.
+pub fn check_model() -> Result<(), String> {
+    let mut random = Random::for_case(0, 0, 0);
+    let mut tables = SixTables::filled(&mut random, RIGHT_SIZES);
+    same(
+        "printed rehearsal",
+        OUTPUT,
+        &rehearsal(&input(), &mut tables.lend(), Flaw::None),
+    )?;
+    orders()?;
+    path_examples()?;
+    refusals()?;
+    printed_steps()
+}
+
+/// The examples on the library beside the model.
+pub fn compare_library(comparison: &mut Comparison) -> Result<(), Difference> {
+    for file in files() {
+        compare_example(comparison, &file).map_err(|what| Difference::in_file(what, &file))?;
+    }
+    Ok(())
+}
+
+/// All calls on the file, and its texts with every room from none to more than they need.
+fn compare_example(comparison: &mut Comparison, file: &[u8]) -> Result<(), String> {
+    let mut random = Random::for_case(0, 0, 1);
+    comparison.file(&mut random, file)?;
+    for room in 0..=OUTPUT.len() + 3 {
+        comparison.rehearsal(&mut random, file, RIGHT_SIZES, room)?;
+        comparison.routes(&mut random, file, RIGHT_SIZES, room)?;
+    }
+    Ok(())
+}
+
+fn input() -> Vec<u8> {
+    let digits: Vec<u8> = INPUT
+        .chars()
+        .filter_map(|c| c.to_digit(16))
+        .map(|digit| digit as u8)
+        .collect();
+    digits.chunks(2).map(|pair| pair[0] * 16 + pair[1]).collect()
+}
+
+fn planned(n: usize, links: &[Link], changes: &[Link]) -> (u8, Record, SixTables) {
+    let mut random = Random::for_case(0, 0, 2);
+    let mut tables = SixTables::filled(&mut random, RIGHT_SIZES);
+    tables.tables[0].cells_mut().copy_from_slice(&area(n, links).metric);
+    let mut record = Record::default();
+    let answer = plan(
+        n,
+        &bytes_of(&entries(changes)),
+        &mut tables.lend(),
+        &mut record,
+        Flaw::None,
+    );
+    (answer, record, tables)
+}
+
+fn area(n: usize, links: &[Link]) -> Area {
+    let mut metric = vec![UNUSED; CELLS];
+    for link in entries(links) {
+        metric[link.cell()] = link.metric;
+    }
+    Area { n, metric }
+}
+
+fn entries(links: &[Link]) -> Vec<Change> {
+    links
+        .iter()
+        .map(|&(from, to, metric)| Change { from, to, metric })
+        .collect()
+}
+
+/// C1, C2 and C4: root, ranks and waiting sets.
+fn orders() -> Result<(), String> {
+    let (_, record, _) = planned(3, &FIRST_LINKS, &FIRST_CHANGES);
+    same("C1, ranks", &record.ranks[..3], &[0, 1, 2])?;
+    let links = [(0, 1, 1), (1, 0, 1), (0, 2, 3), (2, 0, 3)];
+    let (_, record, _) = planned(3, &links, &[(1, 2, 1), (2, 1, 1)]);
+    same("C2, ranks", &record.ranks[..3], &[2, 1, 0])?;
+    same("C2, waits", &record.waiting[..3], &[2, 4, 0])?;
+    let (_, record, _) = planned(3, &FIRST_LINKS, &[FIRST_CHANGES[1], FIRST_CHANGES[0]]);
+    same("C4, root", record.root, 1)?;
+    same("C4, waits", &record.waiting[..3], &[0, 5, 0])
+}
+
+/// C3, C5, C6 and C13: distances and next-hop sets.
+fn path_examples() -> Result<(), String> {
+    let links = [(0, 1, 1), (1, 0, 1), (1, 2, 1), (2, 1, 1), (0, 2, 2), (2, 0, 2)];
+    let (_, _, tables) = planned(3, &links, &FIRST_CHANGES);
+    let [_, _, _, _, old_hops, new_hops] = &tables.tables;
+    same("C3", (old_hops.cells()[at(0, 2)], new_hops.cells()[at(0, 2)]), (6, 4))?;
+    same("C5", path(2, &[(0, 1, UNUSED)], 0, 1), (u32::MAX, 0))?;
+    same("C6", path(2, &[(0, 1, UNUSED - 1)], 0, 1), (16_777_214, 2))?;
+    same("C13", path(3, &[(0, 1, 1), (1, 2, UNUSED - 1)], 0, 2), (16_777_215, 2))?;
+    same(
+        "the largest distance",
+        path(32, &longest_chain(), 0, 31),
+        (520_093_634, 2),
+    )
+}
+
+/// All 32 routers one behind the other, with the largest metric that is used.
+fn longest_chain() -> Vec<Link> {
+    (0..31).map(|i| (i, i + 1, UNUSED - 1)).collect()
+}
+
+fn path(n: usize, links: &[Link], i: usize, j: usize) -> (u32, u32) {
+    let (mut dist, mut hops) = (vec![0; CELLS], vec![0; CELLS]);
+    paths(n, &area(n, links).metric, &mut dist, &mut hops, Flaw::None);
+    (dist[at(i, j)], hops[at(i, j)])
+}
+
+/// C7 to C10: refusals of Plan.
+fn refusals() -> Result<(), String> {
+    let answer = |n, links: &[Link], changes: &[Link]| planned(n, links, changes).0;
+    same("C7", answer(2, &[(0, 1, 2)], &[(0, 1, 2)]), 11)?;
+    same("C8", answer(2, &[(0, 1, 2), (1, 0, 2)], &[(0, 1, 3), (1, 0, 1)]), 12)?;
+    same("C9", answer(4, &[(0, 1, 1), (2, 3, 1)], &[(0, 1, 2), (2, 3, 2)]), 13)?;
+    same("C10", answer(3, &FIRST_LINKS, &[]), 10)
+}
+
+/// C11 and C12: answers to the printed steps.
+fn printed_steps() -> Result<(), String> {
+    let (_, mut record, _) = planned(3, &FIRST_LINKS, &FIRST_CHANGES);
+    let file = input();
+    let steps = &file[file.len() - 30..];
+    let answers: Vec<Answer> = steps
+        .chunks_exact(3)
+        .map(|call| step(&mut record, [call[0], call[1], call[2]], Flaw::None))
+        .collect();
+    same("C11", answers[2], Answer::Refused(24))?;
+    same("C12", (answers[7], answers[8]), (Answer::Ok, Answer::Ignored))
+}
+
+/// The examples as bench files.
+fn files() -> Vec<Vec<u8>> {
+    let chain = longest_chain();
+    let examples: [(usize, &[Link], &[Link]); 9] = [
+        (
+            3,
+            &[(0, 1, 1), (1, 0, 1), (0, 2, 3), (2, 0, 3)],
+            &[(1, 2, 1), (2, 1, 1)],
+        ),
+        (3, &FIRST_LINKS, &[(2, 1, UNUSED), (1, 2, UNUSED)]),
+        (2, &[(0, 1, UNUSED)], &[(0, 1, UNUSED - 1)]),
+        (2, &[(0, 1, 2)], &[(0, 1, 2)]),
+        (2, &[(0, 1, 2), (1, 0, 2)], &[(0, 1, 3), (1, 0, 1)]),
+        (4, &[(0, 1, 1), (2, 3, 1)], &[(0, 1, 2), (2, 3, 2)]),
+        (3, &FIRST_LINKS, &[]),
+        (3, &[(0, 1, 1), (1, 2, UNUSED - 1)], &[(0, 1, 2)]),
+        (32, &chain, &[(30, 31, UNUSED)]),
+    ];
+    let file = |(n, links, changes): (usize, &[Link], &[Link])| {
+        Parts::new(n, entries(links), bytes_of(&entries(changes)), Vec::new()).bytes()
+    };
+    let mut files: Vec<Vec<u8>> = examples.into_iter().map(file).collect();
+    files.push(input());
+    files
+}
