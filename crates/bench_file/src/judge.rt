@@ -65,7 +65,7 @@ fn links(n: usize, list: &[u8], announced: usize) -> Verdict
             return Verdict::Refused(Refusal::Incomplete);
         }
         let link = decode(list, e);
-        let answer = entry(n, link, seen);
+        let answer = entry(n, link, &seen);
         if !answer.is_accepted() {
             return answer;
         }
@@ -77,9 +77,9 @@ fn links(n: usize, list: &[u8], announced: usize) -> Verdict
 }
 
 // The fault of one link, beside the pairs of those before it.
-fn entry(n: usize, link: Entry, seen: [u32; WIDTH]) -> Verdict
+fn entry(n: usize, link: Entry, seen: &[u32; WIDTH]) -> Verdict
     requires { ⌜ n ≤ width ⌝ }
-    ensures { λ r. ⌜ verdictNumber r ≡ orThen (entryRefusal n link) (pick (bit (getD seen (link .from) 0) (link .to)) 7 0) ⌝ }
+    ensures { λ r. ⌜ verdictNumber r ≡ orThen (entryRefusal n link) (pick (bit (getD (now (seen .entry)) (link .from) 0) (link .to)) 7 0) ⌝ }
 {
     let answer = check(n, link);
     if !answer.is_accepted() {

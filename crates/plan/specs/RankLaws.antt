@@ -4,6 +4,7 @@
 --     above-start, above-skip, above-more      found router by router
 --     longest-chain, chain-longest         some chain has `longest` links, and none of at most h links has more
 --     longest-le, longest-same, rank-same      their bound; what the n routers wait for decides them
+--     longest-stays        where one link more makes no chain longer, more links do not either
 --     chain-distinct, chain-few            where waiting comes down in some measure, a chain meets no router twice, and takes fewer links than there are routers
 --     rank-is, same-rank                   so the rank is over chains of any length; nothing else is
 --     rank-less                            a router ranks above those it waits for
@@ -96,6 +97,12 @@ pub longest-le : (n : ℕ) (w : ℕ → ℕ) (h r : ℕ) → longest n w h r ≤
 unfolding longest
 longest-le n w zero r = omega arith
 longest-le n w (suc h) r = above-least n (w r) (longest n w h) (suc h) (λ k l e. omega (arith, longest-le n w h k))
+
+-- where chains of one link more are no longer, chains of any more links are not either
+pub longest-stays : (n : ℕ) (w : ℕ → ℕ) (h : ℕ) → ((r : ℕ) → r < n → longest n w (suc h) r ≡ longest n w h r) → (k : ℕ) → h ≤ k → (r : ℕ) → r < n → longest n w k r ≡ longest n w h r
+unfolding longest
+longest-stays n w h e zero b r l = let none : h ≡ 0 = omega arith in rw none refl
+longest-stays n w h e (suc k) b r l = ⊎-elim (λ q. rw q refl) (λ m. above-same n (w r) (longest n w k) (longest n w h) (longest-stays n w h e k (le-of-suc-le-suc m)) ∙ e r l) (eq-or-lt-of-le b)
 
 -- a chain of as many links exists
 pub longest-chain : (n : ℕ) (w : ℕ → ℕ) (h r : ℕ) → (c : Chain w r) × (links c ≡ longest n w h r)

@@ -8,7 +8,7 @@ ghost use Prim.Native.Nat.{ℕ, _≤_, _<_, _*_};
 ghost use lib.Dec.{eqb};
 ghost use lib.ListN.{length, getD};
 ghost use Rattle.area.specs.Limits.{width};
-ghost use Rattle.area.specs.Tests.{pick};
+ghost use Rattle.area.specs.Tests.{pick, all};
 ghost use Rattle.area.specs.Sets.{bit, setOf};
 ghost use Rattle.area.specs.Tables.{cell, perRouter};
 ghost use Rattle.plan.specs.Rank.{above, rank};
@@ -64,7 +64,7 @@ fn holders(n: usize, sets: [u32; WIDTH], r: usize) -> u32
     found
 }
 
-// The ranks: each round allows chains of one link more, and a chain has fewer links than there are routers.
+// The ranks: each round allows chains of one link more, and a chain has fewer links than there are routers. After a round that changes nothing no round changes anything.
 pub(crate) fn ranks(n: usize, waiting: [u32; WIDTH]) -> [u8; WIDTH]
     requires { ⌜ n ≤ width ⌝ }
     ensures { λ t. ⌜ t ≡ perRouter width n (rank n (λ r. getD waiting r 0)) ⌝ }
@@ -72,9 +72,25 @@ pub(crate) fn ranks(n: usize, waiting: [u32; WIDTH]) -> [u8; WIDTH]
     let mut ranks = [0u8; WIDTH];
     for h in 1..n {
         let next = longer(n, waiting, ranks);
+        if agree(n, ranks, next) {
+            return ranks;
+        }
         ranks = next;
     }
     ranks
+}
+
+// Have two tables the same rank for every router?
+fn agree(n: usize, a: [u8; WIDTH], b: [u8; WIDTH]) -> bool
+    requires { ⌜ n ≤ width ⌝ }
+    ensures { λ r. ⌜ r ≡ all n (λ s. eqb (getD a s 0) (getD b s 0)) ⌝ }
+{
+    for s in 0..n {
+        if a[s] != b[s] {
+            return false;
+        }
+    }
+    true
 }
 
 // One round: for each router one more than the largest rank of those that it waits for.

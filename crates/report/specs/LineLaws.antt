@@ -18,7 +18,7 @@ use Rattle.area.specs.declared.refusal.Refusal.{Refusal}
 use Rattle.area.specs.Limits.{unreached}
 use Rattle.area.specs.Refusals.{refusalNumber}
 use Rattle.text.specs.Text.{Appended, word, field, line}
-use Rattle.text.specs.TextLaws.{appended-none, appended-then}
+use Rattle.text.specs.TextLaws.{appended-none, appended-then, line-after}
 use Rattle.plan.specs.declared.Record.{Record}
 use Rattle.steps.specs.declared.Answer.{Answer}
 use Rattle.steps.specs.declared.Answer.the-variants.{Ok, Ignored, Refused}
@@ -30,9 +30,9 @@ use Rattle.report.specs.declared.pairs.Path.{Path}
 use Rattle.report.specs.Lines.{refusedLine, routerLine, routerLines, answerText, stepLine, stepLines, pathText, routeLine, isPrinted, pairText, path, rowLines, routeLines}
 
 -- ---- the rehearsal
-pub refused-appended : (k : ℕ) {o p q : List ℕ} {a b c : ℕ} → Appended o a (word " ") p b → Appended p b (line (word "refused ") k) q c → Appended o a (answerText (refused k)) q c
+pub refused-appended : (k : ℕ) {o p : List ℕ} {a b : ℕ} → Appended o a (line (word " refused ") k) p b → Appended o a (answerText (refused k)) p b
 unfolding answerText refusedLine
-refused-appended k u v = appended-then u v
+refused-appended k u = rw (line-after (word " ") (word "refused ") k) at u
 
 -- an answer, by its case
 module _ (x : Answer) {o q : List ℕ} {a b : ℕ} where

@@ -128,6 +128,5 @@ fn said(answer: Answer, out: &mut [u8], at: usize) -> usize
 fn refused(number: u8, out: &mut [u8], at: usize) -> usize
     ensures { λ r. ⌜ Appended (now (out .entry)) at (answerText (refused number)) (now (out .exit)) r ⌝ }
 {
-    let at = append(out, at, b" ");
-    line(out, at, b"refused ", number as u32)
+    line(out, at, b" refused ", number as u32)
 }

@@ -1,12 +1,13 @@
 -- A copy to the end of a text, of as many bytes as there is room for, appends them.
-use Prim.Native.Nat.{ℕ, zero, suc, _+_, _-_, min}
+use Prim.Native.Nat.{ℕ, zero, suc, _+_, _-_, _≤_, _<_, min}
 use mathlib.Core.Path.{_≡_, refl, sym, ap, _∙_}
 use mathlib.Core.List.{List, [], _∷_, _++_}
 use native.Mathlib.Decide.{decLt}
 use native.Mathlib.Omega.{arith}
 use native.Mathlib.Nat.{zero-sub, sub-zero, suc-sub-suc}
-use lib.ListN.{length, take, length-take}
-use lib.Seq.{take-all, length-take-le, paste, length-paste, take-paste}
+use native.Mathlib.Numerals.{add-one}
+use lib.ListN.{length, take, set, length-take, length-set, length-append}
+use lib.Seq.{take-all, length-take-le, take-append-le, take-suc-set, paste, length-paste, take-paste}
 use Rattle.text.specs.Text.{Appended}
 
 -- the first n elements of two lists
@@ -36,4 +37,22 @@ module _ (o w : List ℕ) (a m k : ℕ) (is-end : m ≡ min a (length o)) (is-co
     within = omega (arith, length-paste o m w k (omega arith) (omega arith));
     counted = sym (length-take-le (m + k) (paste o m w k) (omega (arith, length-paste o m w k (omega arith) (omega arith))));
     text = take-paste o m w k (omega arith) (omega arith) ∙ sym copied;
+  }
+
+-- one byte, where there is room for it, and where there is none
+module _ (o : List ℕ) (a x : ℕ) where
+  pub appended-byte : a < length o → Appended o a (x ∷ []) (set o a x) (a + 1)
+  appended-byte h = record {
+    size = length-set o a x;
+    within = simp length-set (omega arith);
+    counted = sym (length-take-le (a + 1) (set o a x) (simp length-set (omega arith)));
+    text = rw (add-one, take-suc-set o a x h) (sym (take-all (length o) (take a o ++ (x ∷ [])) (simp (length-append, length-take) (omega arith))));
+  }
+
+  pub appended-full : length o ≤ a → Appended o a (x ∷ []) o (length o)
+  appended-full h = record {
+    size = refl;
+    within = omega arith;
+    counted = sym (length-take-le (length o) o (omega arith));
+    text = rw (take-all a o h) (sym (take-append-le (length o) o (x ∷ []) (omega arith)));
   }

@@ -1,6 +1,7 @@
 -- Laws of texts and of numbers in decimal.
 --     appended-none, appended-then, appended-anew      nothing is appended; one after the other; from the start again
 --     appended-field, appended-line    a number after its name
+--     line-after                       a line whose name is made of two parts
 --     appended-all                     what is appended to the empty text is the text, where there is room
 --     shorter, digits-one, digits-more         a number without its last digit, one digit, and a digit more
 --     decimal-some, decimal-most       a number has one to ten digits
@@ -51,6 +52,11 @@ appended-field name x u v = appended-then u v
 pub appended-line : (name : List ℕ) (x : ℕ) {o p q : List ℕ} {a b c : ℕ} → Appended o a (field name x) p b → Appended p b (word "\n") q c → Appended o a (line name x) q c
 unfolding line
 appended-line name x u v = appended-then u v
+
+-- the first part of a name may stand before the line
+pub line-after : (v w : List ℕ) (x : ℕ) → line (v ++ w) x ≡ v ++ line w x
+unfolding line field
+line-after v w x = simp append-assoc
 
 -- a buffer of the same length has the same room for a text that starts anew
 pub appended-anew : {o p w q : List ℕ} {r : ℕ} → length p ≡ length o → Appended p 0 w q r → Appended o 0 w q r

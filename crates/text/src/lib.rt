@@ -1,5 +1,6 @@
 // Texts in a lent buffer: a text is the first bytes of `out`, and each function here appends to it and gives its new length. What `out` has no room for is left off.
 ghost use mathlib.Core.Path.{_≡_};
+ghost use mathlib.Core.List.{[], _∷_};
 ghost use Prim.Native.Nat.{_≤_, min};
 ghost use lib.ListN.{length, drop};
 ghost use Rattle.text.specs.Text.{Appended, decimal, field, line};
@@ -14,6 +15,17 @@ pub fn append(out: &mut [u8], at: usize, bytes: &[u8]) -> usize
         out[from + i] = bytes[i];
     }
     from + count
+}
+
+// Appends one byte.
+fn byte(out: &mut [u8], at: usize, x: u8) -> usize
+    ensures { λ r. ⌜ Appended (now (out .entry)) at (x ∷ []) (now (out .exit)) r ⌝ }
+{
+    if out.len() <= at {
+        return out.len();
+    }
+    out[at] = x;
+    at + 1
 }
 
 // Appends x in decimal.
@@ -38,7 +50,7 @@ pub fn line(out: &mut [u8], at: usize, name: &[u8], x: u32) -> usize
     ensures { λ r. ⌜ Appended (now (out .entry)) at (line (now (name .entry)) x) (now (out .exit)) r ⌝ }
 {
     let numbered = field(out, at, name, x);
-    append(out, numbered, b"\n")
+    byte(out, numbered, b'\n')
 }
 
 // Puts the decimal digits of x at the end of `digits`, and gives the place of the first.

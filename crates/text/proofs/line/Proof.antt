@@ -6,11 +6,8 @@ use Rattle.text.proofs.line.Tie as tie
 field-requires : tie.Need-field-requires
 field-requires c κs = search needs
 
-slice-aggregate-append : tie.Need-slice-aggregate-append
-slice-aggregate-append c = search needs
-
-append-requires : tie.Need-append-requires
-append-requires c κs = search needs
+byte-requires : tie.Need-byte-requires
+byte-requires c κs = search needs
 
 same-length : tie.Need-same-length
 same-length c = search needs
@@ -19,5 +16,4 @@ returns : tie.Need-returns
 returns c = search appended-line
 
 pub line-spec : {M : Type 1} → statement M
-line-spec =
-    tie.close (tie.spec field-requires slice-aggregate-append append-requires same-length returns)
+line-spec = tie.close (tie.spec field-requires byte-requires same-length returns)

@@ -54,8 +54,8 @@ returns c = search faulty
 mul-member : tie.Need-mul-member
 mul-member c = let own : c .before .before .before .args .link .from < width = search in-sets in omega (arith, own)
 
-array-read-member : tie.Need-array-read-member
-array-read-member c = let own : c .before .before .before .args .link .from < width = search in-sets in omega (arith, own)
+element-copy-out-member : tie.Need-element-copy-out-member
+element-copy-out-member c = let own : c .before .before .before .args .link .from < width = search in-sets in omega (arith, own)
 
 member-requires : tie.Need-member-requires
 member-requires c κs = search needs
@@ -74,7 +74,7 @@ entry-spec =
     is-accepted-requires
     returns
     mul-member
-    array-read-member
+    element-copy-out-member
     member-requires
     returns-2
     returns-3)

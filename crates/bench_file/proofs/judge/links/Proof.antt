@@ -71,24 +71,24 @@ is-accepted-requires c κs = omega arith
 
 returns-2 : tie.Need-returns-2 Inv-loop μ-loop
 returns-2 c =
-    let at-loop = c .before .before .before .before .before .before .loop in
-    let a = c .before .before .before .before .before .before .before .before .before .args in
-    faulty (a .n) (now (a .list)) (at-loop .e) (at-loop .seen) (omega arith) (at-loop .inv .2) _ (at-loop .inv .1) (omega arith) (c .before .before .before .decode .result) (c .before .before .before .decode .ensures) (c .before .before .entry .result) (c .before .before .entry .ensures) (c .before .is-accepted .result) (c .before .is-accepted .ensures) (a .announced) (omega arith) (at-loop .inv .3) (c .if2 .taken)
+    let at-loop = c .before .before .before .before .before .before .before .loop in
+    let a = c .before .before .before .before .before .before .before .before .before .before .args in
+    faulty (a .n) (now (a .list)) (at-loop .e) (at-loop .seen) (omega arith) (at-loop .inv .2) _ (at-loop .inv .1) (omega arith) (c .before .before .before .before .decode .result) (c .before .before .before .before .decode .ensures) (c .before .before .entry .result) (c .before .before .entry .ensures) (c .before .is-accepted .result) (c .before .is-accepted .ensures) (a .announced) (omega arith) (at-loop .inv .3) (c .if2 .taken)
 
 mul-add : tie.Need-mul-add Inv-loop μ-loop
-mul-add c = let link = c .before .before .before .decode .result in let own : link .from < width = search in-sets in omega (arith, own)
+mul-add c = let link = c .before .before .before .before .decode .result in let own : link .from < width = search in-sets in omega (arith, own)
 
 array-read-add : tie.Need-array-read-add Inv-loop μ-loop
-array-read-add c = let link = c .before .before .before .decode .result in let own : link .from < width = search in-sets in omega (arith, own)
+array-read-add c = let link = c .before .before .before .before .decode .result in let own : link .from < width = search in-sets in omega (arith, own)
 
 add-requires : tie.Need-add-requires Inv-loop μ-loop
 add-requires c κs = omega arith
 
 mul-seen : tie.Need-mul-seen Inv-loop μ-loop
-mul-seen c = let link = c .before .before .before .before .decode .result in let own : link .from < width = search in-sets in omega (arith, own)
+mul-seen c = let link = c .before .before .before .before .before .decode .result in let own : link .from < width = search in-sets in omega (arith, own)
 
 array-write-seen : tie.Need-array-write-seen Inv-loop μ-loop
-array-write-seen c = let link = c .before .before .before .before .decode .result in let own : link .from < width = search in-sets in omega (arith, own)
+array-write-seen c = let link = c .before .before .before .before .before .decode .result in let own : link .from < width = search in-sets in omega (arith, own)
 
 add-e : tie.Need-add-e Inv-loop μ-loop
 add-e c = omega arith
@@ -99,10 +99,10 @@ loop-less c = omega arith
 loop-again : tie.Need-loop-again Inv-loop μ-loop
 loop-again c =
     let turn = c .before .before in
-    let at-loop = turn .before .before .before .before .before .loop in
-    let a = turn .before .before .before .before .before .before .before .before .args in
-    let none = passed (a .n) (now (a .list)) (at-loop .e) (at-loop .seen) (omega arith) (at-loop .inv .2) _ (at-loop .inv .1) (omega arith) (turn .before .before .decode .result) (turn .before .before .decode .ensures) (turn .before .entry .result) (turn .before .entry .ensures) (turn .is-accepted .result) (turn .is-accepted .ensures) (c .before .if2 .left) in
-    (omega arith, at-loop .inv .1, seen-next (a .n) (now (a .list)) (at-loop .e) (at-loop .seen) (omega arith) (at-loop .inv .2) (turn .before .before .decode .result) (turn .before .before .decode .ensures) none (c .add .result) (c .add .ensures), below-more _ (at-loop .e) (at-loop .inv .3) none)
+    let at-loop = turn .before .before .before .before .before .before .loop in
+    let a = turn .before .before .before .before .before .before .before .before .before .args in
+    let none = passed (a .n) (now (a .list)) (at-loop .e) (at-loop .seen) (omega arith) (at-loop .inv .2) _ (at-loop .inv .1) (omega arith) (turn .before .before .before .decode .result) (turn .before .before .before .decode .ensures) (turn .before .entry .result) (turn .before .entry .ensures) (turn .is-accepted .result) (turn .is-accepted .ensures) (c .before .if2 .left) in
+    (omega arith, at-loop .inv .1, seen-next (a .n) (now (a .list)) (at-loop .e) (at-loop .seen) (omega arith) (at-loop .inv .2) (turn .before .before .before .decode .result) (turn .before .before .before .decode .ensures) none (c .add .result) (c .add .ensures), below-more _ (at-loop .e) (at-loop .inv .3) none)
 
 returns-3 : tie.Need-returns-3 Inv-loop μ-loop
 returns-3 c =

@@ -1,11 +1,14 @@
 -- h - 1 rounds are made.
-use mathlib.Core.Path.{_≡_, _∙_}
+use mathlib.Core.Path.{_≡_, sym, _∙_}
 use Prim.Native.Nat.{suc, _+_, _-_, _≤_}
 use native.Mathlib.Omega.{arith}
+use borrow.Author.Tests.{eqb-true}
+use lib.Dec.{eqb}
 use lib.ListN.{getD}
 use Rattle.area.specs.Limits.{width}
+use Rattle.area.specs.TestLaws.{all-at}
 use Rattle.plan.specs.Rank.{rank}
-use Rattle.plan.proofs.Rounds.{Made, made-none, made-le, made-more}
+use Rattle.plan.proofs.Rounds.{Made, made-none, made-le, made-more, made-stays}
 use Rattle.plan.proofs.order.ranks.Statement.{statement}
 use Rattle.plan.proofs.order.ranks.Tie as tie
 
@@ -26,6 +29,19 @@ longer-requires c κs =
       λ s l. omega (arith, made-le width (a .n) (λ r. getD (a .waiting) r 0) (omega arith) (at-loop .h - 1) (at-loop .ranks) (at-loop .inv .2) s l),
     )
 
+agree-requires : tie.Need-agree-requires Inv-loop μ-loop
+agree-requires c κs = omega arith
+
+returns : tie.Need-returns Inv-loop μ-loop
+unfolding rank
+returns c =
+    let turn = c .before .before in
+    let at-loop = turn .before .before .loop in
+    let a = turn .before .before .before .args in
+    let next = turn .longer .result in
+    let same = all-at (a .n) (λ s. eqb (getD (at-loop .ranks) s 0) (getD next s 0)) (sym (c .before .agree .ensures) ∙ c .if1 .taken) in
+    made-stays width (a .n) (λ r. getD (a .waiting) r 0) (omega arith) (at-loop .h - 1) (at-loop .ranks) (at-loop .inv .2) next (turn .longer .ensures) (λ s l. eqb-true _ _ (same s l)) (a .n - 1) (omega arith)
+
 add-h : tie.Need-add-h Inv-loop μ-loop
 add-h c = omega arith
 
@@ -34,17 +50,18 @@ loop-less c = omega arith
 
 loop-again : tie.Need-loop-again Inv-loop μ-loop
 loop-again c =
-    let at-loop = c .before .before .loop in
-    let a = c .before .before .before .args in
+    let turn = c .before .before in
+    let at-loop = turn .before .before .loop in
+    let a = turn .before .before .before .args in
     let e : at-loop .h + 1 - 1 ≡ suc (at-loop .h - 1) = omega arith in (
       omega arith,
       omega arith,
-      rw e (c .longer .ensures ∙ made-more width (a .n) (λ r. getD (a .waiting) r 0) (omega arith) (at-loop .h - 1) (at-loop .ranks) (at-loop .inv .2)),
+      rw e (turn .longer .ensures ∙ made-more width (a .n) (λ r. getD (a .waiting) r 0) (omega arith) (at-loop .h - 1) (at-loop .ranks) (at-loop .inv .2)),
     )
 
-returns : tie.Need-returns Inv-loop μ-loop
+returns-2 : tie.Need-returns-2 Inv-loop μ-loop
 unfolding rank
-returns c =
+returns-2 c =
     let at-loop = c .before .loop in
     let e : at-loop .h - 1 ≡ c .before .before .args .n - 1 = omega arith in
     rw e at (at-loop .inv .2)
@@ -52,4 +69,14 @@ returns c =
 pub ranks-spec : {M : Type 1} → statement M
 ranks-spec =
     tie.close
-    (tie.spec Inv-loop μ-loop loop-holds longer-requires add-h loop-less loop-again returns)
+    (tie.spec
+    Inv-loop
+    μ-loop
+    loop-holds
+    longer-requires
+    agree-requires
+    returns
+    add-h
+    loop-less
+    loop-again
+    returns-2)

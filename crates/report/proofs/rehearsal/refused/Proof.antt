@@ -3,12 +3,6 @@ use Rattle.report.specs.LineLaws.{refused-appended}
 use Rattle.report.proofs.rehearsal.refused.Statement.{statement}
 use Rattle.report.proofs.rehearsal.refused.Tie as tie
 
-slice-aggregate-append : tie.Need-slice-aggregate-append
-slice-aggregate-append c = search needs
-
-append-requires : tie.Need-append-requires
-append-requires c κs = search needs
-
 slice-aggregate-line : tie.Need-slice-aggregate-line
 slice-aggregate-line c = search needs
 
@@ -22,12 +16,4 @@ returns : tie.Need-returns
 returns c = search refused-appended
 
 pub refused-spec : {M : Type 1} → statement M
-refused-spec =
-    tie.close
-    (tie.spec
-    slice-aggregate-append
-    append-requires
-    slice-aggregate-line
-    line-requires
-    same-length
-    returns)
+refused-spec = tie.close (tie.spec slice-aggregate-line line-requires same-length returns)
