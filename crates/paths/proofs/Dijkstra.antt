@@ -16,9 +16,10 @@ use Rattle.area.specs.Limits.{width, unused, unreached}
 use Rattle.area.specs.Sets.{num, bit, added}
 use Rattle.area.specs.TestLaws.{look, or-cases, or-left, or-right, or-none, same-test}
 use Rattle.area.specs.SetLaws.{bit-zero, bit-added, bit-union, is-setOf}
-use Rattle.paths.specs.Walk.{Walk, stay, link, sum, links}
+use Rattle.paths.specs.Walk.{Walk, stay, link, sum}
 use Rattle.paths.specs.Distance.{distance}
 use Rattle.paths.specs.NextHops.{isNext, nextHops, Next}
+use Rattle.paths.specs.SumLaws.{Within}
 use Rattle.paths.specs.WalkLaws.{Graph, then, sum-then, links-then}
 use Rattle.paths.specs.DistanceLaws.{sum-bound, distance-le, distance-walk, distance-top, distance-self}
 use Rattle.paths.specs.NextHopLaws.{next-true, true-next, next-near, next-nearer, Over, direct, over, over-next, next-over}
@@ -71,13 +72,9 @@ pub record By (g : ℕ → ℕ → ℕ) (s σ : ℕ) (D H : ℕ → ℕ) (j k : 
   pub exact : D from + g from j ≡ D j
   pub first : First s H from j k
 
--- a walk of at most c links has the sum v
-abbrev pub Short : (ℕ → ℕ → ℕ) → ℕ → ℕ → ℕ → ℕ → Type 0
-Short g s c j v = (w : Walk g s j) × (links w ≤ c) × (sum w ≡ v)
-
 pub record Front (n : ℕ) (g : ℕ → ℕ → ℕ) (s : ℕ) (D H : ℕ → ℕ) (σ : ℕ) : Type 0 where
   pub start : D s ≡ 0
-  pub sound : (j : ℕ) → j < n → (D j ≡ unreached) ⊎ Short g s (count σ n) j (D j)
+  pub sound : (j : ℕ) → j < n → (D j ≡ unreached) ⊎ Within g (count σ n) s j (D j)
   pub tight : (i j : ℕ) → g i j < unused → bit σ i ≡ true → D j ≤ D i + g i j
   pub order : (i j : ℕ) → i < n → j < n → bit σ i ≡ true → bit σ j ≡ false → D i ≤ D j
   pub hops : (j k : ℕ) → j < n → k < width → (bit (H j) k ≡ true) ↔ By g s σ D H j k
@@ -91,7 +88,7 @@ module _ {n : ℕ} {g : ℕ → ℕ → ℕ} {s : ℕ} where
   begin D H source most here there none = record {
     start = here;
     sound = λ j l. elim (ℕ-discrete s j) [
-      | yes e ↦ subst (λ (i : ℕ). (D i ≡ unreached) ⊎ Short g s (count 0 n) i (D i)) e (inr (stay, omega arith, sym here))
+      | yes e ↦ subst (λ (i : ℕ). (D i ≡ unreached) ⊎ Within g (count 0 n) s i (D i)) e (inr (stay, omega arith, sym here))
       | no f ↦ inl (there j (omega arith) (λ e. f (sym e)))
     ];
     tight = λ i j u b. never i b;
@@ -101,7 +98,7 @@ module _ {n : ℕ} {g : ℕ → ℕ → ℕ} {s : ℕ} where
   }
 
   -- a reached router's distance is small
-  pub small : {D H : ℕ → ℕ} {σ : ℕ} → Front n g s D H σ → (j : ℕ) → j < n → D j < unreached → Short g s (count σ n) j (D j)
+  pub small : {D H : ℕ → ℕ} {σ : ℕ} → Front n g s D H σ → (j : ℕ) → j < n → D j < unreached → Within g (count σ n) s j (D j)
   small f j l r = ⊎-elim (λ e. absurd (let x : ⊥ = omega arith in x)) (λ w. w) (f .sound j l)
 
   pub small-bound : {D H : ℕ → ℕ} {σ : ℕ} → Front n g s D H σ → (j : ℕ) → j < n → D j < unreached → D j ≤ n * 16777214
@@ -177,7 +174,7 @@ module _ {n : ℕ} {g : ℕ → ℕ → ℕ} (G : Graph n g) (most : n ≤ width
       let far = near j h (was-not j h u) in
       ⊎-elim (λ k. omega arith) (λ w. omega (arith, w .1)) (came (turn j (omega arith)))
 
-  sound′ : (j : ℕ) → j < n → (D′ j ≡ unreached) ⊎ Short g s (count σ′ n) j (D′ j)
+  sound′ : (j : ℕ) → j < n → (D′ j ≡ unreached) ⊎ Within g (count σ′ n) s j (D′ j)
   sound′ j l =
       let more = count-more σ q (omega arith) n within most fresh in
       ⊎-elim (λ e. ⊎-elim (λ none. inl (e ∙ none)) (λ w. inr (w .0, omega (arith, w .1), w .2 ∙ sym e)) (f .sound j l))
