@@ -68,8 +68,7 @@ mod c {
             states: *mut [u8; WIDTH], written: *mut [u32; WIDTH],
         ) -> u8;
         pub fn ofib_step(
-            routers: *mut u8, root: *mut u8, direction: *mut u8,
-            ranks: *mut [u8; WIDTH], waiting: *mut [u32; WIDTH], telling: *mut [u32; WIDTH], due: *mut [u32; WIDTH],
+            n: u8, waiting: *mut [u32; WIDTH], telling: *const [u32; WIDTH], due: *const [u32; WIDTH],
             states: *mut [u8; WIDTH], written: *mut [u32; WIDTH],
             kind: u8, a: u8, b: u8,
         ) -> u8;
@@ -130,10 +129,7 @@ pub fn plan(n: usize, list: &[u8], t: &mut Tables, r: &mut Record) -> u8 {
 /// Step: the record is changed in place.
 pub fn step(r: &mut Record, kind: u8, a: u8, b: u8) -> Answer {
     let number = unsafe {
-        c::ofib_step(
-            &mut r.n, &mut r.root, &mut r.direction, &mut r.ranks, &mut r.waiting, &mut r.telling, &mut r.due, &mut r.states, &mut r.written,
-            kind, a, b,
-        )
+        c::ofib_step(r.n, &mut r.waiting, &r.telling, &r.due, &mut r.states, &mut r.written, kind, a, b)
     };
     match number {
         0 => Answer::Ok,

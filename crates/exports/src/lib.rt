@@ -2,12 +2,13 @@
 use area::limits::WIDTH;
 use plan::Record;
 use steps::Answer;
-use steps::Machine;
+use steps::calls::step;
 ghost use mathlib.Core.Path.{_≡_};
 ghost use Rattle.paths.specs.Paths.{refusalOf, distancesOf, hopsOf};
+ghost use Rattle.plan.specs.declared.Record.{Record};
 ghost use Rattle.plan.specs.Plan.{tables, areTables, planRefusal, recordOf, tablesOf};
-ghost use Rattle.steps.specs.Answers.{replyOf, gives};
-ghost use Rattle.steps.specs.Machine.{stepOf};
+ghost use Rattle.steps.specs.Answers.{replyOf};
+ghost use Rattle.steps.specs.Machine.{over, stepOf};
 ghost use Rattle.steps.specs.Run.{run, callsOf};
 ghost use Rattle.bench_file.specs.Read.{readRefusal, contentsOf, metricsOf};
 ghost use Rattle.text.specs.Text.{Appended};
@@ -91,55 +92,27 @@ pub extern "C" fn ofib_plan(
     answer.number()
 }
 
-// Step. The nine first places are the record, and get the record that is handed back. The answer is 0 for ok, 255 for ignored, and the number of a refusal.
+// Step. n and five of the tables per router are all that it reads of a record, and three of these tables all that it changes. The answer is 0 for ok, 255 for ignored, and the number of a refusal.
 #[no_mangle]
 pub extern "C" fn ofib_step(
-    routers: &mut u8,
-    root: &mut u8,
-    direction: &mut u8,
-    ranks: &mut [u8; WIDTH],
+    n: u8,
     waiting: &mut [u32; WIDTH],
-    telling: &mut [u32; WIDTH],
-    due: &mut [u32; WIDTH],
+    telling: &[u32; WIDTH],
+    due: &[u32; WIDTH],
     states: &mut [u8; WIDTH],
     written: &mut [u32; WIDTH],
     kind: u8,
     a: u8,
     b: u8,
 ) -> u8
-    ensures answer { λ r. ⌜ r ≡ replyNumber (stepOf (recordFrom (now (routers .entry)) (now (root .entry)) (now (direction .entry)) (now (ranks .entry)) (now (waiting .entry)) (now (telling .entry)) (now (due .entry)) (now (states .entry)) (now (written .entry))) kind a b .reply) ⌝ }
-    ensures record { λ _. ⌜ recordFrom (now (routers .exit)) (now (root .exit)) (now (direction .exit)) (now (ranks .exit)) (now (waiting .exit)) (now (telling .exit)) (now (due .exit)) (now (states .exit)) (now (written .exit)) ≡ stepOf (recordFrom (now (routers .entry)) (now (root .entry)) (now (direction .entry)) (now (ranks .entry)) (now (waiting .entry)) (now (telling .entry)) (now (due .entry)) (now (states .entry)) (now (written .entry))) kind a b .next ⌝ }
+    ensures answer { λ r. ⌜ ((x : Record) → r ≡ replyNumber (stepOf (over x n (now (waiting .entry)) (now (telling .entry)) (now (due .entry)) (now (states .entry)) (now (written .entry))) kind a b .reply)) ⌝ }
+    ensures record { λ _. ⌜ ((x : Record) → over x n (now (waiting .exit)) (now (telling .entry)) (now (due .entry)) (now (states .exit)) (now (written .exit)) ≡ stepOf (over x n (now (waiting .entry)) (now (telling .entry)) (now (due .entry)) (now (states .entry)) (now (written .entry))) kind a b .next) ⌝ }
 {
-    let record = lent(
-        *routers,
-        *root,
-        *direction,
-        ranks,
-        waiting,
-        telling,
-        due,
-        states,
-        written,
-    );
-    let stepped = Machine { now: record }.step(kind, a, b);
-    let next = stepped.next;
-    hand_back(
-        next,
-        routers,
-        root,
-        direction,
-        ranks,
-        waiting,
-        telling,
-        due,
-        states,
-        written,
-    );
-    let answer = stepped.answer;
+    let answer = step(n, waiting, telling, due, states, written, kind, a, b);
     number(answer)
 }
 
-// All the steps that the bytes stand for, three bytes each. The nine first places are the record, as for a step.
+// All the steps that the bytes stand for, three bytes each. The nine first places are the record, and get the last one.
 #[no_mangle]
 pub extern "C" fn ofib_run(
     routers: &mut u8,

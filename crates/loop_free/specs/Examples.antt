@@ -28,7 +28,7 @@ use Rattle.plan.specs.Rank.{greatest, above, longest, rank}
 use Rattle.plan.specs.Plan.{Tables, tables, areTables, changesRefusal, planRefusal, isPlanned, fresh, recordOf}
 use Rattle.convergence.specs.Pointers.{pointers, Along}
 use Rattle.steps.specs.Answers.{ok, ignored, refused}
-use Rattle.steps.specs.Machine.{learn, release, ready, write, finish, listens, deliver, isRecord, isKind, readsB, areRouters, callOf, stepOf}
+use Rattle.steps.specs.Machine.{learn, release, ready, write, finish, listens, deliver, isSound, isKind, readsB, areRouters, callOf, stepOf}
 use Rattle.steps.specs.Run.{Call, call, replies, hasWritten}
 use Rattle.loop_free.specs.LoopFree.{LoopFree}
 use Rattle.loop_free.specs.LoopFreeLaws.{loop-free}
@@ -103,7 +103,7 @@ record FallAnswers (r : Record) : Type 0 where
   has-not : hasWritten r fallCalls 0 2 ≡ false
 
 answered : RiseAnswers (recordOf 3 metricsUp goesDown lent) × FallAnswers (recordOf 3 metricsDown comesUp lent)
-unfolding beforeRise beforeFall riseCalls riseRest fallCalls replies hasWritten stepOf callOf areRouters readsB isKind isRecord isCount all
+unfolding beforeRise beforeFall riseCalls riseRest fallCalls replies hasWritten stepOf callOf areRouters readsB isKind isSound isCount all
     deliver listens finish write ready release learn bit setOf added removed subset
 answered = (
   subst RiseAnswers (sym (planned .0 .given)) (record { all-ten = refl; has-written = refl; has-not = refl }),

@@ -20,7 +20,7 @@ use Rattle.plan.specs.Waiting.{oldHops, newHops, waiting, telling, due}
 use Rattle.plan.specs.Rank.{greatest, above, longest, rank}
 use Rattle.plan.specs.Plan.{Tables, tables, areTables, changesRefusal, planRefusal, isPlanned, fresh, blank, filled, recordOf, tablesOf}
 use Rattle.steps.specs.Answers.{Reply, refused}
-use Rattle.steps.specs.Machine.{learn, release, ready, write, finish, listens, deliver, isRecord, isKind, readsB, areRouters, callOf, stepOf}
+use Rattle.steps.specs.Machine.{learn, release, ready, write, finish, listens, deliver, isSound, isKind, readsB, areRouters, callOf, stepOf}
 use Rattle.steps.specs.Run.{callsOf, replies}
 use Rattle.text.specs.Text.{digits, decimal, field, line}
 use Rattle.bench_file.specs.Sections.{changes, steps}
@@ -97,7 +97,7 @@ unfolding readRefusal fileRefusal mostLinks linkRefusal restRefusal contentsOf c
     isLink topology sums least Rattle.paths.specs.Distance.distance isNext nextHops isMetric areMetrics refusalOf distanceCell hopCell distancesOf hopsOf
     changeRefusal isRise isFall isCommon Rattle.plan.specs.Root.root newCell newMetrics oldHops newHops waiting telling due greatest above longest rank
     areTables changesRefusal planRefusal isPlanned fresh blank filled recordOf tablesOf
-    learn release ready write finish listens deliver isRecord isKind readsB areRouters callOf stepOf callsOf replies
+    learn release ready write finish listens deliver isSound isKind readsB areRouters callOf stepOf callsOf replies
     digits decimal field line Rattle.report.specs.Bench.refusal refusedLine routerLine routerLines answerText stepLine stepLines rehearsal
 answer f refusal = orThen (readRefusal f lent) (refusedBy f)
 answer f root = planned f .root

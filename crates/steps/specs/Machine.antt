@@ -41,20 +41,24 @@ abbrev pub writtenOf : Record → ℕ → ℕ
 writtenOf r a = getD (r .written) a 0
 
 -- ---- the record with one entry of router a replaced
--- a call changes no other tables than these
-abbrev pub withTables : Record → (waiting states written : List ℕ) → Record
-withTables r waiting states written =
+-- the record with another n and other tables: all that a call reads
+abbrev pub over : Record → ℕ → (waiting telling due states written : List ℕ) → Record
+over r n waiting telling due states written =
     record {
-      n = r .n;
+      n = n;
       root = r .root;
       direction = r .direction;
       ranks = r .ranks;
       waiting = waiting;
-      telling = r .telling;
-      due = r .due;
+      telling = telling;
+      due = due;
       states = states;
       written = written;
     }
+
+-- a call changes no other tables than these
+abbrev pub withTables : Record → (waiting states written : List ℕ) → Record
+withTables r waiting states written = over r (r .n) waiting (r .telling) (r .due) states written
 
 abbrev pub withState : Record → ℕ → ℕ → Record
 withState r a s = withTables r (r .waiting) (set (r .states) a s) (r .written)
@@ -112,9 +116,12 @@ deliver r a b =
     (gives r ignored)))
 
 -- ---- the refusals that come before
--- n is a number of routers, and every state is one of the four
-unfoldable pub isRecord : Record → Bool
-isRecord r = isCount (r .n) && all width (λ i. leb (stateOf r i) done)
+-- n is a number of routers, and every one of the states s is one of the four
+unfoldable pub isSound : ℕ → List ℕ → Bool
+isSound n s = isCount n && all width (λ i. leb (getD s i 0) done)
+
+abbrev pub isRecord : Record → Bool
+isRecord r = isSound (r .n) (r .states)
 
 unfoldable pub isKind : ℕ → Bool
 isKind kind = leb 1 kind && leb kind 5

@@ -22,7 +22,7 @@ use Rattle.steps.specs.Answers.{ok, refused, Outcome, gives}
 use Rattle.steps.specs.Machine.{idle, holding, ongoing, done, stateOf, waitingOf, tellingOf, dueOf, writtenOf, withState, withWaiting, withWritten}
 use Rattle.steps.specs.Machine.{learn, release, ready, write, finish, listens, deliver, isRecord, isKind, readsB, areRouters, callOf, stepOf}
 use Rattle.steps.specs.Run.{isOk}
-use Rattle.steps.specs.StepLaws.{record-most}
+use Rattle.steps.specs.StepLaws.{sound-most}
 
 -- Entry x of the table t when its entry a is set to v: x is a, and the entry is v; or it is as it was.
 abbrev pub Entry : List ℕ → ℕ → ℕ → ℕ → Type 0
@@ -154,7 +154,7 @@ module _ (r : Record) (kind a b : ℕ) where
       (λ known. unless (not (areRouters r kind a b)) 4
       (λ routers.
       let y = both-true (ltb a (r .n)) (not (readsB kind) || ltb b (r .n)) (not-false (areRouters r kind a b) routers) in
-      call-moves (record-most r (not-false (isRecord r) good)) (ltb-true a (r .n) (y .0)) (not-false (isKind kind) known) (λ e. reads e (y .1)))))
+      call-moves (sound-most (r .n) (r .states) (not-false (isRecord r) good)) (ltb-true a (r .n) (y .0)) (not-false (isKind kind) known) (λ e. reads e (y .1)))))
     where
       reads : readsB kind ≡ true → (not (readsB kind) || ltb b (r .n)) ≡ true → b < r .n
       reads e t = ltb-true b (r .n) (rw e at t)

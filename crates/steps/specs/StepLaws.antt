@@ -8,8 +8,12 @@ use Prim.Native.Nat.{ℕ, _≤_, _<_}
 use mathlib.Core.Path.{_≡_, refl, _∙_}
 use mathlib.Core.Bool.{true, false, _&&_}
 use mathlib.Core.Logic.{_≢_, _⊎_, inl, inr}
+use mathlib.Core.List.{List}
+use native.Mathlib.Decide.{ℕ-discrete}
+use native.Mathlib.Omega.{arith}
 use lib.Dec.{leb, ltb}
-use borrow.Author.Tests.{eq-eqb, ne-eqb, lt-ltb, le-leb, lt-leb}
+use lib.ListN.{getD}
+use borrow.Author.Tests.{eq-eqb, ne-eqb, lt-ltb, le-ltb, le-leb, lt-leb}
 use Rattle.area.specs.Limits.{width}
 use Rattle.area.specs.Tests.{all}
 use Rattle.area.specs.Sets.{bit, added, removed, subset}
@@ -18,7 +22,7 @@ use Rattle.area.specs.Sizes.{isCount}
 use Rattle.area.specs.SizeLaws.{count-most}
 use Rattle.plan.specs.declared.Record.{Record}
 use Rattle.steps.specs.Answers.{ok, ignored, refused, gives}
-use Rattle.steps.specs.Machine.{idle, holding, ongoing, done, stateOf, waitingOf, tellingOf, dueOf, writtenOf, withState, withWaiting, withWritten, learn, release, ready, write, finish, listens, deliver, isRecord, isKind, readsB, areRouters, callOf, stepOf}
+use Rattle.steps.specs.Machine.{idle, holding, ongoing, done, stateOf, waitingOf, tellingOf, dueOf, writtenOf, withState, withWaiting, withWritten, learn, release, ready, write, finish, listens, deliver, isSound, isRecord, isKind, readsB, areRouters, callOf, stepOf}
 
 -- ---- which kinds there are, and which read b
 pub kind-known : (kind : ℕ) → 1 ≤ kind → kind ≤ 5 → isKind kind ≡ true
@@ -30,17 +34,20 @@ unfolding isKind
 kind-other kind (inl h) = rw (lt-leb 1 kind h) refl
 kind-other kind (inr h) = rw (lt-leb kind 5 h) (and-false (leb 1 kind) false refl)
 
-pub reads-one : (readsB 1 ≡ false) × (readsB 2 ≡ false) × (readsB 4 ≡ false)
-unfolding readsB
-reads-one = (refl, refl, refl)
-
 pub reads-two : (readsB 3 ≡ true) × (readsB 5 ≡ true)
 unfolding readsB
 reads-two = (refl, refl)
 
-pub record-most : (r : Record) → isRecord r ≡ true → r .n ≤ width
-unfolding isRecord
-record-most r e = count-most (r .n) (both-true (isCount (r .n)) (all width (λ i. leb (stateOf r i) done)) e .0)
+pub reads-other : (kind : ℕ) → 1 ≤ kind → kind ≤ 5 → kind ≢ 1 → kind ≢ 2 → kind ≢ 4 → readsB kind ≡ true
+reads-other kind a b p q r = go (ℕ-discrete kind 3)
+  where
+    go : Dec (kind ≡ 3) → readsB kind ≡ true
+    go (yes e) = rw e (reads-two .0)
+    go (no u) = let e : kind ≡ 5 = omega arith in rw e (reads-two .1)
+
+pub sound-most : (n : ℕ) (s : List ℕ) → isSound n s ≡ true → n ≤ width
+unfolding isSound
+sound-most n s e = count-most n (both-true (isCount n) (all width (λ i. leb (getD s i 0) done)) e .0)
 
 -- ---- the refusals that come first, and what is left then
 module _ (r : Record) (kind a b : ℕ) where
@@ -70,6 +77,14 @@ module _ (r : Record) (kind a b : ℕ) where
   pub routers-two : readsB kind ≡ true → areRouters r kind a b ≡ (ltb a (r .n) && ltb b (r .n))
   unfolding areRouters
   routers-two e = rw e refl
+
+  -- one of them is no router of the area
+  pub first-out : r .n ≤ a → areRouters r kind a b ≡ false
+  unfolding areRouters
+  first-out h = rw (le-ltb a (r .n) h) refl
+
+  pub second-out : readsB kind ≡ true → r .n ≤ b → areRouters r kind a b ≡ false
+  second-out e h = routers-two e ∙ and-false (ltb a (r .n)) _ (le-ltb b (r .n) h)
 
 -- ---- each kind
 module _ (r : Record) (a b : ℕ) (good : isRecord r ≡ true) (a-in : a < r .n) where

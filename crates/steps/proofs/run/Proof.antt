@@ -7,7 +7,7 @@ use borrow.Author.Needs.{needs}
 use lib.ListN.{length, getD, drop}
 use Rattle.plan.specs.declared.Record.{Record}
 use Rattle.steps.specs.Answers.{Outcome}
-use Rattle.steps.specs.Machine.{stepOf}
+use Rattle.steps.specs.Machine.{withTables, stepOf}
 use Rattle.steps.specs.Run.{run, callsOf}
 use Rattle.steps.specs.CallLaws.{no-call, next-call}
 use Rattle.steps.proofs.run.Statement.{statement}
@@ -27,10 +27,10 @@ module _ (first : Record) (l : List ℕ) where
   left-none r i e h = sym (e ∙ rw (no-call l i h) refl)
 
 abbrev Inv-loop : tie.InvT-loop
-Inv-loop bytes current₀ at₀ current at = (at ≤ length bytes) × Left current₀ bytes current at
+Inv-loop first bytes n waiting₀ telling due states₀ written₀ at₀ waiting states written at = (at ≤ length bytes) × Left first bytes (withTables first waiting states written) at
 
 abbrev μ-loop : tie.MeasureT-loop
-μ-loop bytes current₀ at₀ current at = length bytes - at
+μ-loop first bytes n waiting₀ telling due states₀ written₀ at₀ waiting states written at = length bytes - at
 
 loop-holds : tie.Need-loop-holds Inv-loop μ-loop
 loop-holds c = (omega arith, refl)
@@ -64,15 +64,17 @@ loop-less c = omega arith
 
 loop-again : tie.Need-loop-again Inv-loop μ-loop
 loop-again c =
-    let start = c .before .before .before .before .before .before .before .before .args in
-    let at-loop = c .before .before .before .before .before .before .loop in
-    (omega arith, left-more (start .first) (start .bytes .now) (at-loop .current) (at-loop .at) _ (at-loop .inv .1) (omega arith) (c .before .step .ensures))
+    let start = c .before .before .before .before .before .before .before .before .before .before .before .before .before .before .before .before .before .args in
+    let at-loop = c .before .before .before .before .before .before .before .before .before .before .loop in
+    let r = withTables (start .first) (at-loop .waiting) (at-loop .states) (at-loop .written) in
+    (omega arith, left-more (start .first) (start .bytes .now) r (at-loop .at) _ (at-loop .inv .1) (omega arith) (c .step .ensures (start .first)))
 
 returns : tie.Need-returns Inv-loop μ-loop
 returns c =
-    let start = c .before .before .before .args in
+    let start = c .before .before .before .before .before .before .before .before .args in
     let at-loop = c .before .loop in
-    left-none (start .first) (start .bytes .now) (at-loop .current) (at-loop .at) (at-loop .inv .1) (omega arith)
+    let r = withTables (start .first) (at-loop .waiting) (at-loop .states) (at-loop .written) in
+    left-none (start .first) (start .bytes .now) r (at-loop .at) (at-loop .inv .1) (omega arith)
 
 pub run-spec : {M : Type 1} → statement M
 run-spec =

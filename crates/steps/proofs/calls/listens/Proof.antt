@@ -1,14 +1,14 @@
 -- One law for each return.
+use Prim.Native.Nat.{ℕ}
 use mathlib.Core.Path.{_≡_, sym, _∙_}
 use mathlib.Core.Bool.{Bool, false}
 use mathlib.Core.Logic.{_≢_}
-use Prim.Native.Nat.{ℕ}
 use borrow.Author.Needs.{needs}
 use Rattle.area.specs.Sets.{bit}
 use Rattle.steps.specs.Machine.{holding, ongoing, listens}
 use Rattle.steps.specs.StepLaws.{listens-holding, listens-ongoing, listens-neither}
-use Rattle.steps.proofs.listens.Statement.{statement}
-use Rattle.steps.proofs.listens.Tie as tie
+use Rattle.steps.proofs.calls.listens.Statement.{statement}
+use Rattle.steps.proofs.calls.listens.Tie as tie
 
 module _ (s w a : ℕ) (t : Bool) (told : t ≡ bit w a) where
   is-holding : s ≡ holding → t ≡ listens s w a
