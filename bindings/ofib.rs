@@ -1,5 +1,6 @@
-//! The proved library `libexports.a`, as safe Rust. No exported function asks anything of its caller, so nothing has to be tested before a call: a slice goes over as its pointer and its length, and a
-//! field of the record as a pointer to it. The declarations are the ones of `crates/exports/src/lib.rt`; nothing but this file's reader holds the two together.
+//! The proved library `libexports.a`, as safe Rust. No exported function asks anything of its caller, so nothing has to
+//! be tested before a call: a slice goes over as its pointer and its length, an array as its pointer. The declarations
+//! are those of `crates/exports/src/lib.rt`; no tool compares the two, and `tests/model` would see a difference.
 
 pub const WIDTH: usize = 32;
 pub const CELLS: usize = WIDTH * WIDTH;
@@ -52,51 +53,107 @@ mod c {
 
     #[link(name = "exports", kind = "static")]
     unsafe extern "C" {
-        pub fn ofib_read(file: *const u8, file_len: usize, table: *mut u32, table_len: usize, contents: *mut [usize; 6]) -> u8;
-        pub fn ofib_paths(n: usize, metric: *const u32, metric_len: usize, dist: *mut u32, dist_len: usize, hops: *mut u32, hops_len: usize) -> u8;
+        pub fn ofib_read(
+            file: *const u8,
+            file_len: usize,
+            table: *mut u32,
+            table_len: usize,
+            contents: *mut [usize; 6],
+        ) -> u8;
+        pub fn ofib_paths(
+            n: usize,
+            metric: *const u32,
+            metric_len: usize,
+            dist: *mut u32,
+            dist_len: usize,
+            hops: *mut u32,
+            hops_len: usize,
+        ) -> u8;
         pub fn ofib_plan(
             n: usize,
-            old: *const u32, old_len: usize,
-            list: *const u8, list_len: usize,
-            new: *mut u32, new_len: usize,
-            old_dist: *mut u32, old_dist_len: usize,
-            new_dist: *mut u32, new_dist_len: usize,
-            old_hops: *mut u32, old_hops_len: usize,
-            new_hops: *mut u32, new_hops_len: usize,
-            routers: *mut u8, root: *mut u8, direction: *mut u8,
-            ranks: *mut [u8; WIDTH], waiting: *mut [u32; WIDTH], telling: *mut [u32; WIDTH], due: *mut [u32; WIDTH],
-            states: *mut [u8; WIDTH], written: *mut [u32; WIDTH],
+            old: *const u32,
+            old_len: usize,
+            list: *const u8,
+            list_len: usize,
+            new: *mut u32,
+            new_len: usize,
+            old_dist: *mut u32,
+            old_dist_len: usize,
+            new_dist: *mut u32,
+            new_dist_len: usize,
+            old_hops: *mut u32,
+            old_hops_len: usize,
+            new_hops: *mut u32,
+            new_hops_len: usize,
+            routers: *mut u8,
+            root: *mut u8,
+            direction: *mut u8,
+            ranks: *mut [u8; WIDTH],
+            waiting: *mut [u32; WIDTH],
+            telling: *mut [u32; WIDTH],
+            due: *mut [u32; WIDTH],
+            states: *mut [u8; WIDTH],
+            written: *mut [u32; WIDTH],
         ) -> u8;
         pub fn ofib_step(
-            n: u8, waiting: *mut [u32; WIDTH], telling: *const [u32; WIDTH], due: *const [u32; WIDTH],
-            states: *mut [u8; WIDTH], written: *mut [u32; WIDTH],
-            kind: u8, a: u8, b: u8,
+            n: u8,
+            waiting: *mut [u32; WIDTH],
+            telling: *const [u32; WIDTH],
+            due: *const [u32; WIDTH],
+            states: *mut [u8; WIDTH],
+            written: *mut [u32; WIDTH],
+            kind: u8,
+            a: u8,
+            b: u8,
         ) -> u8;
         pub fn ofib_run(
-            routers: *mut u8, root: *mut u8, direction: *mut u8,
-            ranks: *mut [u8; WIDTH], waiting: *mut [u32; WIDTH], telling: *mut [u32; WIDTH], due: *mut [u32; WIDTH],
-            states: *mut [u8; WIDTH], written: *mut [u32; WIDTH],
-            steps: *const u8, steps_len: usize,
+            routers: *mut u8,
+            root: *mut u8,
+            direction: *mut u8,
+            ranks: *mut [u8; WIDTH],
+            waiting: *mut [u32; WIDTH],
+            telling: *mut [u32; WIDTH],
+            due: *mut [u32; WIDTH],
+            states: *mut [u8; WIDTH],
+            written: *mut [u32; WIDTH],
+            steps: *const u8,
+            steps_len: usize,
         );
         pub fn ofib_rehearse(
-            file: *const u8, file_len: usize,
-            old: *mut u32, old_len: usize,
-            new: *mut u32, new_len: usize,
-            old_dist: *mut u32, old_dist_len: usize,
-            new_dist: *mut u32, new_dist_len: usize,
-            old_hops: *mut u32, old_hops_len: usize,
-            new_hops: *mut u32, new_hops_len: usize,
-            out: *mut u8, out_len: usize,
+            file: *const u8,
+            file_len: usize,
+            old: *mut u32,
+            old_len: usize,
+            new: *mut u32,
+            new_len: usize,
+            old_dist: *mut u32,
+            old_dist_len: usize,
+            new_dist: *mut u32,
+            new_dist_len: usize,
+            old_hops: *mut u32,
+            old_hops_len: usize,
+            new_hops: *mut u32,
+            new_hops_len: usize,
+            out: *mut u8,
+            out_len: usize,
         ) -> usize;
         pub fn ofib_routes(
-            file: *const u8, file_len: usize,
-            old: *mut u32, old_len: usize,
-            new: *mut u32, new_len: usize,
-            old_dist: *mut u32, old_dist_len: usize,
-            new_dist: *mut u32, new_dist_len: usize,
-            old_hops: *mut u32, old_hops_len: usize,
-            new_hops: *mut u32, new_hops_len: usize,
-            out: *mut u8, out_len: usize,
+            file: *const u8,
+            file_len: usize,
+            old: *mut u32,
+            old_len: usize,
+            new: *mut u32,
+            new_len: usize,
+            old_dist: *mut u32,
+            old_dist_len: usize,
+            new_dist: *mut u32,
+            new_dist_len: usize,
+            old_hops: *mut u32,
+            old_hops_len: usize,
+            new_hops: *mut u32,
+            new_hops_len: usize,
+            out: *mut u8,
+            out_len: usize,
         ) -> usize;
     }
 }
@@ -105,23 +162,62 @@ mod c {
 pub fn read(file: &[u8], table: &mut [u32]) -> (u8, Contents) {
     let mut c = [0; 6];
     let answer = unsafe { c::ofib_read(file.as_ptr(), file.len(), table.as_mut_ptr(), table.len(), &mut c) };
-    (answer, Contents { n: c[0], links: c[1], changes: c[2], changes_at: c[3], steps: c[4], steps_at: c[5] })
+    (
+        answer,
+        Contents {
+            n: c[0],
+            links: c[1],
+            changes: c[2],
+            changes_at: c[3],
+            steps: c[4],
+            steps_at: c[5],
+        },
+    )
 }
 
 /// Paths: the number of its refusal, or 0.
 pub fn paths(n: usize, metric: &[u32], dist: &mut [u32], hops: &mut [u32]) -> u8 {
-    unsafe { c::ofib_paths(n, metric.as_ptr(), metric.len(), dist.as_mut_ptr(), dist.len(), hops.as_mut_ptr(), hops.len()) }
+    unsafe {
+        c::ofib_paths(
+            n,
+            metric.as_ptr(),
+            metric.len(),
+            dist.as_mut_ptr(),
+            dist.len(),
+            hops.as_mut_ptr(),
+            hops.len(),
+        )
+    }
 }
 
 /// Plan: the number of its refusal, or 0. `t.old` is read, and the other tables and the record are filled.
 pub fn plan(n: usize, list: &[u8], t: &mut Tables, r: &mut Record) -> u8 {
     unsafe {
         c::ofib_plan(
-            n, t.old.as_ptr(), t.old.len(), list.as_ptr(), list.len(),
-            t.new.as_mut_ptr(), t.new.len(),
-            t.old_dist.as_mut_ptr(), t.old_dist.len(), t.new_dist.as_mut_ptr(), t.new_dist.len(),
-            t.old_hops.as_mut_ptr(), t.old_hops.len(), t.new_hops.as_mut_ptr(), t.new_hops.len(),
-            &mut r.n, &mut r.root, &mut r.direction, &mut r.ranks, &mut r.waiting, &mut r.telling, &mut r.due, &mut r.states, &mut r.written,
+            n,
+            t.old.as_ptr(),
+            t.old.len(),
+            list.as_ptr(),
+            list.len(),
+            t.new.as_mut_ptr(),
+            t.new.len(),
+            t.old_dist.as_mut_ptr(),
+            t.old_dist.len(),
+            t.new_dist.as_mut_ptr(),
+            t.new_dist.len(),
+            t.old_hops.as_mut_ptr(),
+            t.old_hops.len(),
+            t.new_hops.as_mut_ptr(),
+            t.new_hops.len(),
+            &mut r.n,
+            &mut r.root,
+            &mut r.direction,
+            &mut r.ranks,
+            &mut r.waiting,
+            &mut r.telling,
+            &mut r.due,
+            &mut r.states,
+            &mut r.written,
         )
     }
 }
@@ -129,7 +225,17 @@ pub fn plan(n: usize, list: &[u8], t: &mut Tables, r: &mut Record) -> u8 {
 /// Step: the record is changed in place.
 pub fn step(r: &mut Record, kind: u8, a: u8, b: u8) -> Answer {
     let number = unsafe {
-        c::ofib_step(r.n, &mut r.waiting, &r.telling, &r.due, &mut r.states, &mut r.written, kind, a, b)
+        c::ofib_step(
+            r.n,
+            &mut r.waiting,
+            &r.telling,
+            &r.due,
+            &mut r.states,
+            &mut r.written,
+            kind,
+            a,
+            b,
+        )
     };
     match number {
         0 => Answer::Ok,
@@ -142,20 +248,41 @@ pub fn step(r: &mut Record, kind: u8, a: u8, b: u8) -> Answer {
 pub fn run(r: &mut Record, steps: &[u8]) {
     unsafe {
         c::ofib_run(
-            &mut r.n, &mut r.root, &mut r.direction, &mut r.ranks, &mut r.waiting, &mut r.telling, &mut r.due, &mut r.states, &mut r.written,
-            steps.as_ptr(), steps.len(),
+            &mut r.n,
+            &mut r.root,
+            &mut r.direction,
+            &mut r.ranks,
+            &mut r.waiting,
+            &mut r.telling,
+            &mut r.due,
+            &mut r.states,
+            &mut r.written,
+            steps.as_ptr(),
+            steps.len(),
         )
     }
 }
 
-/// The text of a rehearsal, at the start of `out` as far as that has room; its length.
+/// Puts the text of a rehearsal at the start of `out`, as far as that has room; the number of bytes put there.
 pub fn rehearse(file: &[u8], t: &mut Tables, out: &mut [u8]) -> usize {
     unsafe {
         c::ofib_rehearse(
-            file.as_ptr(), file.len(), t.old.as_mut_ptr(), t.old.len(), t.new.as_mut_ptr(), t.new.len(),
-            t.old_dist.as_mut_ptr(), t.old_dist.len(), t.new_dist.as_mut_ptr(), t.new_dist.len(),
-            t.old_hops.as_mut_ptr(), t.old_hops.len(), t.new_hops.as_mut_ptr(), t.new_hops.len(),
-            out.as_mut_ptr(), out.len(),
+            file.as_ptr(),
+            file.len(),
+            t.old.as_mut_ptr(),
+            t.old.len(),
+            t.new.as_mut_ptr(),
+            t.new.len(),
+            t.old_dist.as_mut_ptr(),
+            t.old_dist.len(),
+            t.new_dist.as_mut_ptr(),
+            t.new_dist.len(),
+            t.old_hops.as_mut_ptr(),
+            t.old_hops.len(),
+            t.new_hops.as_mut_ptr(),
+            t.new_hops.len(),
+            out.as_mut_ptr(),
+            out.len(),
         )
     }
 }
@@ -164,10 +291,22 @@ pub fn rehearse(file: &[u8], t: &mut Tables, out: &mut [u8]) -> usize {
 pub fn routes(file: &[u8], t: &mut Tables, out: &mut [u8]) -> usize {
     unsafe {
         c::ofib_routes(
-            file.as_ptr(), file.len(), t.old.as_mut_ptr(), t.old.len(), t.new.as_mut_ptr(), t.new.len(),
-            t.old_dist.as_mut_ptr(), t.old_dist.len(), t.new_dist.as_mut_ptr(), t.new_dist.len(),
-            t.old_hops.as_mut_ptr(), t.old_hops.len(), t.new_hops.as_mut_ptr(), t.new_hops.len(),
-            out.as_mut_ptr(), out.len(),
+            file.as_ptr(),
+            file.len(),
+            t.old.as_mut_ptr(),
+            t.old.len(),
+            t.new.as_mut_ptr(),
+            t.new.len(),
+            t.old_dist.as_mut_ptr(),
+            t.old_dist.len(),
+            t.new_dist.as_mut_ptr(),
+            t.new_dist.len(),
+            t.old_hops.as_mut_ptr(),
+            t.old_hops.len(),
+            t.new_hops.as_mut_ptr(),
+            t.new_hops.len(),
+            out.as_mut_ptr(),
+            out.len(),
         )
     }
 }
