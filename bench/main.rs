@@ -4,8 +4,6 @@
 //! - Read puts a link into the table as soon as it is judged, and clears the table again after a fault; the library
 //!   judges all links first.
 //! - A repeated change is found by a set of pairs; the library looks through the changes before it.
-//! - The rounds of the ranks end with the first that changes nothing; the library makes one round less than there are
-//!   routers.
 //! - The members of a set are visited one by one; the library asks of every router whether it is one.
 
 mod areas;

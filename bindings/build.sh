@@ -1,0 +1,19 @@
+# For scripts that set `top` to the repository's top: proves and builds the static library and the program `rehearse`, where that is not done yet, and sets `target` to the folder they are in.
+# OFIB_TARGET names another such folder, in which both are already.
+target=${OFIB_TARGET:-$top/target}
+if [ -z "${OFIB_TARGET-}" ]; then
+    mkdir -p "$target"
+    if ! (cd "$top" && rt staticlib exports && rt check rehearse) >"$target/build.log" 2>&1; then
+        cat "$target/build.log" >&2
+        echo "$0: the library could not be built" >&2
+        exit 2
+    fi
+fi
+archive=$target/staticlib/libexports.a
+program=$target/bin/rehearse
+for file in "$archive" "$program"; do
+    if [ ! -f "$file" ]; then
+        echo "$0: $file is missing" >&2
+        exit 2
+    fi
+done
