@@ -1,12 +1,14 @@
 -- Laws of all that is printed: what was appended part by part is the whole.
---     rehearsal-refused, routes-refused, refused-printed, refused-routes       where Read or Plan refuses
+--     rehearsal-refused, routes-refused, refused-printed       where Read or Plan refuses
 --     few-routers, few-in-record, steps-end, steps-few, full-tables        what is known where neither refuses
---     rehearsal-whole, routes-whole, file-of, prepared, printed, routes-printed        all that is printed then
+--     rehearsal-whole, routes-whole, file-of, prepared, printed        all that is printed then
+--     accepted, refused-listed, lines-listed, prepared-own, listed-tables, routes-printed      the refusal, or the lines of all pairs
 use Prim.Native.Nat.{ℕ, _+_, _-_, _*_, _≤_}
 use mathlib.Core.Path.{_≡_, refl, sym, ap, ap₂, subst, _∙_}
 use mathlib.Core.Bool.{Bool, true, false, not}
 use mathlib.Core.Logic.{_≢_}
 use mathlib.Core.List.{List, _++_}
+use native.Mathlib.Decide.{ℕ-discrete}
 use native.Mathlib.Omega.{arith}
 use borrow.Author.Tests.{eqb-true, eqb-false, not-true, not-false, eq-eqb, ne-eqb}
 use lib.Dec.{eqb}
@@ -14,6 +16,7 @@ use lib.ListN.{length, take, drop, length-take}
 use Rattle.area.specs.declared.refusal.Verdict.{Verdict}
 use Rattle.area.specs.Limits.{width}
 use Rattle.area.specs.Refusals.{verdictNumber}
+use Rattle.area.specs.Tests.{pick}
 use Rattle.area.specs.TestLaws.{then-both}
 use Rattle.area.specs.SizeLaws.{count-most}
 use Rattle.text.specs.Text.{Appended, word, line}
@@ -104,9 +107,6 @@ module _ (f m : List ℕ) (t : Tables) where
       pub refused-printed : {o p : List ℕ} {a : ℕ} → Appended o 0 (line (word "refused ") k) p a → Appended o 0 (rehearsal f m t) p a
       refused-printed x = rw (rehearsal-refused some) (rw (is ∙ told) at x)
 
-      pub refused-routes : {o p : List ℕ} {a : ℕ} → Appended o 0 (line (word "refused ") k) p a → Appended o 0 (routes f m t) p a
-      refused-routes x = rw (routes-refused some) (rw (is ∙ told) at x)
-
     module _ (h : not ok ≡ false) (r : Record) (c : Contents) (u : Tables) (owed : refusal f m t ≡ 0 → Prepared f r c u) where
       none : refusal f m t ≡ 0
       none = sym told ∙ eqb-true (verdictNumber v) 0 (sym good ∙ not-false ok h)
@@ -121,7 +121,35 @@ module _ (f m : List ℕ) (t : Tables) where
           (subst (λ (w : List ℕ). Appended o 0 w p a) (ap₂ routerLines (prepared .fresh) (routers-is f r c u prepared)) x)
           (appended-then (subst (λ (w : List ℕ). Appended p a w q b) (ap₂ (λ (s : Record) (l : List ℕ). stepLines 1 (replies s (callsOf l))) (prepared .fresh) (part f r c u prepared)) y) z))
 
-      pub routes-printed : (d h′ e g : List ℕ) → d ≡ u .oldDistances → h′ ≡ u .oldHops → e ≡ u .newDistances → g ≡ u .newHops → {o p : List ℕ} {a : ℕ} → Appended o 0 (routeLines d h′ e g (c .n) (c .n)) p a → Appended o 0 (routes f m t) p a
-      routes-printed d h′ e g i j k l x =
-          rw (routes-whole none)
-          (rw (i ∙ ap (λ (s : Tables). s .oldDistances) (prepared .tables), j ∙ ap (λ (s : Tables). s .oldHops) (prepared .tables), k ∙ ap (λ (s : Tables). s .newDistances) (prepared .tables), l ∙ ap (λ (s : Tables). s .newHops) (prepared .tables), n-is f r c u prepared) at x)
+-- ---- the refusal, or the lines of all pairs
+module _ (v : Verdict) (ok : Bool) (good : ok ≡ eqb (verdictNumber v) 0) where
+  pub accepted : not ok ≡ false → verdictNumber v ≡ 0
+  accepted h = eqb-true (verdictNumber v) 0 (sym good ∙ not-false ok h)
+
+  module _ (l : List ℕ) {o p : List ℕ} {a : ℕ} where
+    pub refused-listed : not ok ≡ true → (k : ℕ) → k ≡ verdictNumber v → Appended o 0 (line (word "refused ") k) p a → Appended o 0 (pick (eqb (verdictNumber v) 0) l (refusedLine (verdictNumber v))) p a
+    unfolding refusedLine
+    refused-listed h k is x = rw (sym good ∙ not-true ok h) (rw is at x)
+
+    pub lines-listed : not ok ≡ false → Appended o 0 l p a → Appended o 0 (pick (eqb (verdictNumber v) 0) l (refusedLine (verdictNumber v))) p a
+    lines-listed h x = rw (sym good ∙ not-false ok h) x
+
+module _ (f m : List ℕ) (t : Tables) (v : Verdict) (told : verdictNumber v ≡ refusal f m t) (r : Record) (c : Contents) (u : Tables) (owed : refusal f m t ≡ 0 → Prepared f r c u) where
+  -- what is prepared does not depend on the tables that were lent
+  pub prepared-own : verdictNumber v ≡ 0 → Prepared f r c (tablesOf f)
+  prepared-own z = let ready = owed (sym told ∙ z) in record { accepted = ready .accepted; fresh = ready .fresh; contents = ready .contents; tables = refl }
+
+  module _ (d h e g : List ℕ) (i : d ≡ u .oldDistances) (j : h ≡ u .oldHops) (k : e ≡ u .newDistances) (l : g ≡ u .newHops) where
+    pub listed-tables : verdictNumber v ≡ 0 → (c .n ≤ width) × Full d h e g
+    listed-tables z = let ready = owed (sym told ∙ z) in (few-routers f r c u ready, full-tables f r c u ready d h e g i j k l)
+
+    pub routes-printed : {o p : List ℕ} {a : ℕ} → Appended o 0 (pick (eqb (verdictNumber v) 0) (routeLines d h e g (c .n) (c .n)) (refusedLine (verdictNumber v))) p a → Appended o 0 (routes f m t) p a
+    unfolding refusedLine
+    routes-printed {o} {p} {a} x = go (ℕ-discrete (refusal f m t) 0)
+      where
+        go : Dec (refusal f m t ≡ 0) → Appended o 0 (routes f m t) p a
+        go (yes z) =
+            let ready = owed z in
+            rw (routes-whole f m t z)
+            (rw (eq-eqb (verdictNumber v) 0 (told ∙ z), i ∙ ap (λ (s : Tables). s .oldDistances) (ready .tables), j ∙ ap (λ (s : Tables). s .oldHops) (ready .tables), k ∙ ap (λ (s : Tables). s .newDistances) (ready .tables), l ∙ ap (λ (s : Tables). s .newHops) (ready .tables), n-is f r c u ready) at x)
+        go (no q) = rw (routes-refused f m t q) (rw (told, ne-eqb (refusal f m t) 0 q) at x)

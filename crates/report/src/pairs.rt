@@ -2,16 +2,20 @@
 use crate::bench::prepare;
 use area::limits::UNREACHED;
 use area::limits::WIDTH;
+use area::refusal::Verdict;
 use text::append;
 use text::field;
 use text::line;
 ghost use mathlib.Core.Path.{_≡_};
 ghost use Prim.Native.Nat.{_≤_, _<_};
+ghost use lib.Dec.{eqb};
 ghost use lib.ListN.{length};
 ghost use Rattle.area.specs.Limits.{width};
+ghost use Rattle.area.specs.Refusals.{verdictNumber};
+ghost use Rattle.area.specs.Tests.{pick};
 ghost use Rattle.text.specs.Text.{Appended};
 ghost use Rattle.plan.specs.Plan.{tables};
-ghost use Rattle.report.specs.Lines.{pathText, routeLine, isPrinted, pairText, rowLines, routeLines};
+ghost use Rattle.report.specs.Lines.{refusedLine, pathText, routeLine, isPrinted, pairText, rowLines, routeLines};
 ghost use Rattle.report.specs.BenchLaws.{Full};
 ghost use Rattle.report.specs.Report.{routes};
 
@@ -36,11 +40,35 @@ pub fn routes(
 {
     let start = prepare(file, old, new, old_dist, new_dist, old_hops, new_hops);
     let answer = start.answer;
+    let contents = start.contents;
+    listed(
+        answer,
+        contents.n,
+        old_dist,
+        old_hops,
+        new_dist,
+        new_hops,
+        out,
+    )
+}
+
+// The refusal, or the pairs of all routers.
+fn listed(
+    answer: Verdict,
+    n: usize,
+    old_dist: &[u32],
+    old_hops: &[u32],
+    new_dist: &[u32],
+    new_hops: &[u32],
+    out: &mut [u8],
+) -> usize
+    requires { ⌜ (verdictNumber answer ≡ 0 → (n ≤ width) × Full (now «old_dist») (now «old_hops») (now «new_dist») (now «new_hops»)) ⌝ }
+    ensures { λ r. ⌜ Appended (now (out .entry)) 0 (pick (eqb (verdictNumber answer) 0) (routeLines (now («old_dist» .entry)) (now («old_hops» .entry)) (now («new_dist» .entry)) (now («new_hops» .entry)) n n) (refusedLine (verdictNumber answer))) (now (out .exit)) r ⌝ }
+{
     if !answer.is_accepted() {
         return line(out, 0, b"refused ", answer.number() as u32);
     }
-    let contents = start.contents;
-    rows(contents.n, old_dist, old_hops, new_dist, new_hops, out)
+    rows(n, old_dist, old_hops, new_dist, new_hops, out)
 }
 
 // The pairs of all routers, at the start of `out`.

@@ -1,4 +1,5 @@
 // The rehearsal: a line for each router, and one for each step.
+use crate::bench::Start;
 use crate::bench::prepare;
 use area::limits::STEP;
 use in_place::applied;
@@ -8,13 +9,17 @@ use text::append;
 use text::field;
 use text::line;
 ghost use mathlib.Core.Path.{_≡_};
-ghost use Prim.Native.Nat.{_≤_};
+ghost use Prim.Native.Nat.{ℕ, _≤_};
+ghost use mathlib.Core.List.{List};
 ghost use lib.ListN.{length};
 ghost use Rattle.area.specs.Limits.{width};
 ghost use Rattle.text.specs.Text.{Appended};
-ghost use Rattle.plan.specs.Plan.{tables};
+ghost use Rattle.area.specs.Refusals.{verdictNumber};
+ghost use Rattle.plan.specs.Plan.{Tables, tables};
 ghost use Rattle.steps.specs.Answers.{replyOf, refused};
 ghost use Rattle.steps.specs.Run.{replies, callsOf};
+ghost use Rattle.report.specs.Bench.{refusal, tablesOf};
+ghost use Rattle.report.specs.BenchLaws.{Prepared};
 ghost use Rattle.report.specs.Lines.{routerLine, routerLines, answerText, stepLine, stepLines};
 ghost use Rattle.report.specs.Report.{rehearsal};
 
@@ -32,6 +37,14 @@ pub fn rehearse(
     ensures { λ r. ⌜ Appended (now (out .entry)) 0 (rehearsal (now (file .entry)) (now (old .entry)) (tables (now (new .entry)) (now («old_dist» .entry)) (now («new_dist» .entry)) (now («old_hops» .entry)) (now («new_hops» .entry)))) (now (out .exit)) r ⌝ }
 {
     let start = prepare(file, old, new, old_dist, new_dist, old_hops, new_hops);
+    told(file, start, out)
+}
+
+// All that is printed, from what the file gives before its first step.
+fn told(file: &[u8], start: Start, out: &mut [u8]) -> usize
+    requires { ⌜ (verdictNumber (start .answer) ≡ 0 → Prepared (now file) (start .fresh) (start .contents) (tablesOf (now file))) ⌝ }
+    ensures { λ r. ⌜ ((m : List ℕ) (t : Tables) → verdictNumber (start .answer) ≡ refusal (now (file .entry)) m t → Appended (now (out .entry)) 0 (rehearsal (now (file .entry)) m t) (now (out .exit)) r) ⌝ }
+{
     let answer = start.answer;
     if !answer.is_accepted() {
         return line(out, 0, b"refused ", answer.number() as u32);

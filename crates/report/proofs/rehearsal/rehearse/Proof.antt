@@ -1,29 +1,19 @@
--- What is printed part by part is the whole.
-use native.Mathlib.Omega.{arith}
-use borrow.Author.Needs.{needs}
+-- What is printed is what the file gives.
 use denote.Ref.{now}
 use Rattle.plan.specs.Plan.{tables}
-use Rattle.report.specs.ReportLaws.{few-in-record, steps-end, steps-few, refused-printed, prepared, printed}
+use Rattle.report.specs.ReportLaws.{prepared-own}
+use borrow.Author.Needs.{needs}
 use Rattle.report.proofs.rehearsal.rehearse.Statement.{statement}
 use Rattle.report.proofs.rehearsal.rehearse.Tie as tie
 
 prepare-requires : tie.Need-prepare-requires
 prepare-requires c κs = search needs
 
-is-accepted-requires : tie.Need-is-accepted-requires
-is-accepted-requires c κs = search needs
-
-slice-aggregate-line : tie.Need-slice-aggregate-line
-slice-aggregate-line c = search needs
-
-number-requires : tie.Need-number-requires
-number-requires c κs = search needs
-
-cast-line : tie.Need-cast-line
-cast-line c = search needs
-
-line-requires : tie.Need-line-requires
-line-requires c κs = search needs
+told-requires : tie.Need-told-requires
+told-requires c κs =
+    let a = c .before .before .before .before .before .before .before .before .before .before .before .before .before .before .before .before .before .before .before .before .before .before .before .before .before .before .before .before .args in
+    let start = c .before .before .before .before .before .before .before .before .before .before .before .before .before .prepare in
+    prepared-own (now (a .file)) (now (a .old)) (tables (now (a .new)) (now (a .old-dist)) (now (a .new-dist)) (now (a .old-hops)) (now (a .new-hops))) (start .result .answer) (start .ensures .0) (start .result .fresh) (start .result .contents) _ (start .ensures .1)
 
 same-length : tie.Need-same-length
 same-length c = search needs
@@ -48,101 +38,15 @@ same-length-7 c = search needs
 
 returns : tie.Need-returns
 returns c =
-    let a = c .before .before .before .before .before .before .before .before .before .before .before .before .before .before .before .before .before .before .before .before .before .before .before .before .before .before .before .before .before .before .before .before .before .before .before .args in
-    let start = c .before .before .before .before .before .before .before .before .before .before .before .before .before .before .before .before .before .before .before .before .prepare in
-    let ok = c .before .before .before .before .before .before .before .is-accepted in
-    refused-printed (now (a .file)) (now (a .old)) (tables (now (a .new)) (now (a .old-dist)) (now (a .new-dist)) (now (a .old-hops)) (now (a .new-hops))) (start .result .answer) (start .ensures .0) (ok .result) (ok .ensures) (c .before .before .before .before .before .before .if1 .taken) _ (c .before .before .before .number .ensures) (c .before .before .line .ensures)
-
-mul-to : tie.Need-mul-to
-mul-to c =
-    let a = c .before .before .before .before .before .before .before .before .before .before .before .before .before .before .before .before .before .before .before .before .before .before .before .before .before .before .before .before .before .before .before .before .before .args in
-    let start = c .before .before .before .before .before .before .before .before .before .before .before .before .before .before .before .before .before .before .prepare in
-    let ok = c .before .before .before .before .before .is-accepted in
-    let ready = prepared (now (a .file)) (now (a .old)) (tables (now (a .new)) (now (a .old-dist)) (now (a .new-dist)) (now (a .old-hops)) (now (a .new-hops))) (start .result .answer) (start .ensures .0) (ok .result) (ok .ensures) (c .before .before .before .before .if1 .left) (start .result .fresh) (start .result .contents) _ (start .ensures .1) in
-    omega (arith, steps-end (now (a .file)) (start .result .fresh) (start .result .contents) _ ready)
-
-add-to : tie.Need-add-to
-add-to c =
-    let a = c .before .before .before .before .before .before .before .before .before .before .before .before .before .before .before .before .before .before .before .before .before .before .before .before .before .before .before .before .before .before .before .before .before .args in
-    let start = c .before .before .before .before .before .before .before .before .before .before .before .before .before .before .before .before .before .before .prepare in
-    let ok = c .before .before .before .before .before .is-accepted in
-    let ready = prepared (now (a .file)) (now (a .old)) (tables (now (a .new)) (now (a .old-dist)) (now (a .new-dist)) (now (a .old-hops)) (now (a .new-hops))) (start .result .answer) (start .ensures .0) (ok .result) (ok .ensures) (c .before .before .before .before .if1 .left) (start .result .fresh) (start .result .contents) _ (start .ensures .1) in
-    omega (arith, steps-end (now (a .file)) (start .result .fresh) (start .result .contents) _ ready)
-
-routers-requires : tie.Need-routers-requires
-routers-requires c κs =
-    let a = c .before .before .before .before .before .before .before .before .before .before .before .before .before .before .before .before .before .before .before .before .before .before .before .before .before .before .before .before .before .before .before .before .before .before .args in
-    let start = c .before .before .before .before .before .before .before .before .before .before .before .before .before .before .before .before .before .before .before .prepare in
-    let ok = c .before .before .before .before .before .before .is-accepted in
-    let ready = prepared (now (a .file)) (now (a .old)) (tables (now (a .new)) (now (a .old-dist)) (now (a .new-dist)) (now (a .old-hops)) (now (a .new-hops))) (start .result .answer) (start .ensures .0) (ok .result) (ok .ensures) (c .before .before .before .before .before .if1 .left) (start .result .fresh) (start .result .contents) _ (start .ensures .1) in
-    few-in-record (now (a .file)) (start .result .fresh) (start .result .contents) _ ready
-
-sub-steps : tie.Need-sub-steps
-sub-steps c = search needs
-
-part-steps-start : tie.Need-part-steps-start
-part-steps-start c = search needs
-
-part-steps-end : tie.Need-part-steps-end
-part-steps-end c =
-    let a = c .before .before .before .before .before .before .before .before .before .before .before .before .before .before .before .before .before .before .before .before .before .before .before .before .before .before .before .before .before .before .before .before .before .before .before .before .before .args in
-    let start = c .before .before .before .before .before .before .before .before .before .before .before .before .before .before .before .before .before .before .before .before .before .before .prepare in
-    let ok = c .before .before .before .before .before .before .before .before .before .is-accepted in
-    let ready = prepared (now (a .file)) (now (a .old)) (tables (now (a .new)) (now (a .old-dist)) (now (a .new-dist)) (now (a .old-hops)) (now (a .new-hops))) (start .result .answer) (start .ensures .0) (ok .result) (ok .ensures) (c .before .before .before .before .before .before .before .before .if1 .left) (start .result .fresh) (start .result .contents) _ (start .ensures .1) in
-    omega (arith, steps-end (now (a .file)) (start .result .fresh) (start .result .contents) _ ready)
-
-steps-requires : tie.Need-steps-requires
-steps-requires c κs =
-    let a = c .before .before .before .before .before .before .before .before .before .before .before .before .before .before .before .before .before .before .before .before .before .before .before .before .before .before .before .before .before .before .before .before .before .before .before .before .before .before .before .args in
-    let start = c .before .before .before .before .before .before .before .before .before .before .before .before .before .before .before .before .before .before .before .before .before .before .before .before .prepare in
-    let ok = c .before .before .before .before .before .before .before .before .before .before .before .is-accepted in
-    let ready = prepared (now (a .file)) (now (a .old)) (tables (now (a .new)) (now (a .old-dist)) (now (a .new-dist)) (now (a .old-hops)) (now (a .new-hops))) (start .result .answer) (start .ensures .0) (ok .result) (ok .ensures) (c .before .before .before .before .before .before .before .before .before .before .if1 .left) (start .result .fresh) (start .result .contents) _ (start .ensures .1) in
-    (steps-few (now (a .file)) (start .result .fresh) (start .result .contents) _ ready, c .before .before .before .before .routers .ensures .within)
-
-slice-aggregate-append : tie.Need-slice-aggregate-append
-slice-aggregate-append c = search needs
-
-append-requires : tie.Need-append-requires
-append-requires c κs = search needs
-
-same-length-8 : tie.Need-same-length-8
-same-length-8 c = search needs
-
-same-length-9 : tie.Need-same-length-9
-same-length-9 c = search needs
-
-same-length-10 : tie.Need-same-length-10
-same-length-10 c = search needs
-
-same-length-11 : tie.Need-same-length-11
-same-length-11 c = search needs
-
-same-length-12 : tie.Need-same-length-12
-same-length-12 c = search needs
-
-same-length-13 : tie.Need-same-length-13
-same-length-13 c = search needs
-
-same-length-14 : tie.Need-same-length-14
-same-length-14 c = search needs
-
-returns-2 : tie.Need-returns-2
-returns-2 c =
-    let a = c .before .before .before .before .before .before .before .before .before .before .before .before .before .before .before .before .before .before .before .before .before .before .before .before .before .before .before .before .before .before .before .before .before .before .before .before .before .before .before .before .before .before .before .before .before .before .before .args in
-    let start = c .before .before .before .before .before .before .before .before .before .before .before .before .before .before .before .before .before .before .before .before .before .before .before .before .before .before .before .before .before .before .before .before .prepare in
-    let ok = c .before .before .before .before .before .before .before .before .before .before .before .before .before .before .before .before .before .before .before .is-accepted in
-    printed (now (a .file)) (now (a .old)) (tables (now (a .new)) (now (a .old-dist)) (now (a .new-dist)) (now (a .old-hops)) (now (a .new-hops))) (start .result .answer) (start .ensures .0) (ok .result) (ok .ensures) (c .before .before .before .before .before .before .before .before .before .before .before .before .before .before .before .before .before .before .if1 .left) (start .result .fresh) (start .result .contents) _ (start .ensures .1) (c .before .before .before .before .before .before .before .before .before .before .before .before .routers .ensures) (c .before .before .before .before .before .before .before .steps .ensures) (c .before .before .append .ensures)
+    let a = c .before .before .before .before .before .before .before .before .before .before .before .before .before .before .before .before .before .before .before .before .before .before .before .before .before .before .before .before .before .before .before .args in
+    c .before .before .told .ensures (now (a .old)) (tables (now (a .new)) (now (a .old-dist)) (now (a .new-dist)) (now (a .old-hops)) (now (a .new-hops))) (c .before .before .before .before .before .before .before .before .before .before .before .before .before .before .before .before .prepare .ensures .0)
 
 pub rehearse-spec : {M : Type 1} → statement M
 rehearse-spec =
     tie.close
     (tie.spec
     prepare-requires
-    is-accepted-requires
-    slice-aggregate-line
-    number-requires
-    cast-line
-    line-requires
+    told-requires
     same-length
     same-length-2
     same-length-3
@@ -150,21 +54,4 @@ rehearse-spec =
     same-length-5
     same-length-6
     same-length-7
-    returns
-    mul-to
-    add-to
-    routers-requires
-    sub-steps
-    part-steps-start
-    part-steps-end
-    steps-requires
-    slice-aggregate-append
-    append-requires
-    same-length-8
-    same-length-9
-    same-length-10
-    same-length-11
-    same-length-12
-    same-length-13
-    same-length-14
-    returns-2)
+    returns)
