@@ -1,6 +1,6 @@
 -- Laws of tests.
 --     look             a test holds or fails
---     both-true, and-true, and-false, and-one, and-self        a test and another
+--     both-true, and-true, and-false, and-one      a test and another
 --     or-cases, or-left, or-right, or-false, or-none       a test or another
 --     same-test        two tests that hold together are equal
 --     all-at, all-true, all-false      a test of all numbers below n
@@ -36,10 +36,6 @@ and-false false b e = refl
 pub and-one : (b : Bool) → (b && true) ≡ b
 and-one true = refl
 and-one false = refl
-
-pub and-self : (b : Bool) → (b && b) ≡ b
-and-self true = refl
-and-self false = refl
 
 pub or-cases : (a b : Bool) → (a || b) ≡ true → (a ≡ true) ⊎ (b ≡ true)
 or-cases true b e = inl refl

@@ -40,7 +40,7 @@ dueOf r a = getD (r .due) a 0
 abbrev pub writtenOf : Record → ℕ → ℕ
 writtenOf r a = getD (r .written) a 0
 
--- ---- the record with one entry of router a replaced
+-- ---- the record with other tables, and with one entry of router a replaced
 -- the record with another n and other tables: all that a call reads
 abbrev pub over : Record → ℕ → (waiting telling due states written : List ℕ) → Record
 over r n waiting telling due states written =

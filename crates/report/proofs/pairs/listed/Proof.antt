@@ -1,6 +1,6 @@
 -- One law for each return.
-use Rattle.report.specs.ReportLaws.{accepted, refused-listed, lines-listed}
 use borrow.Author.Needs.{needs}
+use Rattle.report.specs.ReportLaws.{accepted, refused-listed, lines-listed}
 use Rattle.report.proofs.pairs.listed.Statement.{statement}
 use Rattle.report.proofs.pairs.listed.Tie as tie
 

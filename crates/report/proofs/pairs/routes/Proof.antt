@@ -1,9 +1,9 @@
 -- What is printed is the refusal, or the lines of all pairs.
 use mathlib.Core.Path.{refl}
+use borrow.Author.Needs.{needs}
 use denote.Ref.{now}
 use Rattle.plan.specs.Plan.{tables}
 use Rattle.report.specs.ReportLaws.{listed-tables, routes-printed}
-use borrow.Author.Needs.{needs}
 use Rattle.report.proofs.pairs.routes.Statement.{statement}
 use Rattle.report.proofs.pairs.routes.Tie as tie
 

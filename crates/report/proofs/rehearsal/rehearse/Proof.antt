@@ -1,8 +1,8 @@
 -- What is printed is what the file gives.
+use borrow.Author.Needs.{needs}
 use denote.Ref.{now}
 use Rattle.plan.specs.Plan.{tables}
 use Rattle.report.specs.ReportLaws.{prepared-own}
-use borrow.Author.Needs.{needs}
 use Rattle.report.proofs.rehearsal.rehearse.Statement.{statement}
 use Rattle.report.proofs.rehearsal.rehearse.Tie as tie
 

@@ -1,14 +1,11 @@
 -- What is printed part by part is the whole.
 use mathlib.Core.Path.{_∙_}
-use mathlib.Core.List.{List}
-use Prim.Native.Nat.{ℕ}
 use native.Mathlib.Omega.{arith}
+use borrow.Author.Needs.{needs}
 use denote.Ref.{now}
-use Rattle.plan.specs.Plan.{Tables}
 use Rattle.report.specs.Bench.{tablesOf}
 use Rattle.report.specs.BenchLaws.{Prepared}
 use Rattle.report.specs.ReportLaws.{few-in-record, steps-end, steps-few, refused-printed, printed, accepted}
-use borrow.Author.Needs.{needs}
 use Rattle.report.proofs.rehearsal.told.Statement.{statement}
 use Rattle.report.proofs.rehearsal.told.Tie as tie
 
