@@ -265,32 +265,37 @@ pub fn run(r: &mut Record, steps: &[u8]) {
 
 /// Puts the text of a rehearsal at the start of `out`, as far as that has room; the number of bytes put there.
 pub fn rehearse(file: &[u8], t: &mut Tables, out: &mut [u8]) -> usize {
-    unsafe {
-        c::ofib_rehearse(
-            file.as_ptr(),
-            file.len(),
-            t.old.as_mut_ptr(),
-            t.old.len(),
-            t.new.as_mut_ptr(),
-            t.new.len(),
-            t.old_dist.as_mut_ptr(),
-            t.old_dist.len(),
-            t.new_dist.as_mut_ptr(),
-            t.new_dist.len(),
-            t.old_hops.as_mut_ptr(),
-            t.old_hops.len(),
-            t.new_hops.as_mut_ptr(),
-            t.new_hops.len(),
-            out.as_mut_ptr(),
-            out.len(),
-        )
-    }
+    text(c::ofib_rehearse, file, t, out)
 }
 
 /// The text of the routes, likewise.
 pub fn routes(file: &[u8], t: &mut Tables, out: &mut [u8]) -> usize {
+    text(c::ofib_routes, file, t, out)
+}
+
+/// A call that takes a file, the six tables and room for a text.
+type TextCall = unsafe extern "C" fn(
+    *const u8,
+    usize,
+    *mut u32,
+    usize,
+    *mut u32,
+    usize,
+    *mut u32,
+    usize,
+    *mut u32,
+    usize,
+    *mut u32,
+    usize,
+    *mut u32,
+    usize,
+    *mut u8,
+    usize,
+) -> usize;
+
+fn text(call: TextCall, file: &[u8], t: &mut Tables, out: &mut [u8]) -> usize {
     unsafe {
-        c::ofib_routes(
+        call(
             file.as_ptr(),
             file.len(),
             t.old.as_mut_ptr(),
