@@ -1,6 +1,10 @@
 # For scripts that set `top` to the repository's top: proves and builds the static library and the program `rehearse`, where that is not done yet, and sets `target` to the folder they are in.
 # OFIB_TARGET names another such folder, in which both are already.
 target=${OFIB_TARGET:-$top/target}
+# Where rustup puts rustc, which not every shell has on its PATH.
+if ! command -v rustc >/dev/null; then
+    PATH=$PATH:${CARGO_HOME:-$(eval echo "~$(id -un)")/.cargo}/bin
+fi
 if [ -z "${OFIB_TARGET-}" ]; then
     mkdir -p "$target"
     if ! (cd "$top" && rt staticlib exports && rt check rehearse) >"$target/build.log" 2>&1; then
