@@ -20,11 +20,11 @@ use Rattle.paths.specs.NextHops.{isNext, nextHops}
 use Rattle.paths.specs.Pigeonhole.{Distinct}
 use Rattle.paths.specs.Paths.{isMetric, areMetrics}
 use Rattle.plan.specs.declared.Record.{Record}
-use Rattle.plan.specs.Changes.{changeRefusal, isRise, isFall}
-use Rattle.plan.specs.Root.{isCommon, root}
+use Rattle.changes.specs.Changes.{changeRefusal, isRise, isFall}
+use Rattle.changes.specs.Root.{isCommon, root}
 use Rattle.plan.specs.NewMetrics.{newCell, newMetrics}
 use Rattle.plan.specs.Waiting.{oldHops, newHops, waiting, telling, due}
-use Rattle.plan.specs.Rank.{greatest, above, longest, rank}
+use Rattle.order.specs.Rank.{greatest, above, longest, rank}
 use Rattle.plan.specs.Plan.{Tables, tables, areTables, changesRefusal, planRefusal, isPlanned, fresh, recordOf}
 use Rattle.convergence.specs.Pointers.{pointers, Along}
 use Rattle.steps.specs.Answers.{ok, ignored, refused}

@@ -18,8 +18,8 @@ use Rattle.paths.specs.Topology.{topology}
 use Rattle.paths.specs.TopologyLaws.{topology-graph}
 use Rattle.paths.specs.NextHops.{Next}
 use Rattle.plan.specs.declared.Record.{Record}
-use Rattle.plan.specs.Changes.{isRise}
-use Rattle.plan.specs.Root.{root}
+use Rattle.changes.specs.Changes.{isRise}
+use Rattle.changes.specs.Root.{root}
 use Rattle.plan.specs.NewMetrics.{newMetrics}
 use Rattle.plan.specs.Waiting.{oldHops, newHops, waiting}
 use Rattle.plan.specs.Plan.{Tables, areTables, planRefusal, fresh, recordOf}

@@ -1,6 +1,4 @@
 -- What several functions' proofs share, or what would make one too long.
 pub mod Applying
-pub mod Converse
-pub mod Rounds
 pub mod Recording
 pub mod Filling

@@ -1,30 +1,29 @@
--- The record of a plan, put together from what the functions on next-hop tables give.
-use Prim.Native.Nat.{ℕ, _≤_, _<_}
+-- The record of a plan, put together from the order that the next-hop tables give.
+use Prim.Native.Nat.{ℕ, _*_, _≤_, _<_}
 use mathlib.Core.Path.{_≡_, refl, ap, ap₂, _∙_}
 use mathlib.Core.Bool.{Bool, not}
 use mathlib.Core.List.{List}
 use native.Mathlib.Omega.{arith}
 use lib.Dec.{eqb}
-use lib.ListN.{getD}
+use lib.ListN.{length}
 use Rattle.area.specs.Limits.{width}
 use Rattle.area.specs.Tests.{pick}
-use Rattle.area.specs.Sets.{bit, setOf}
+use Rattle.area.specs.Sets.{bit}
 use Rattle.area.specs.SetLaws.{setOf-same}
 use Rattle.area.specs.Tables.{cell, tabulate, perRouter}
-use Rattle.area.specs.TableLaws.{cell-tabulate}
-use Rattle.area.specs.PerRouterLaws.{per-at, per-same}
+use Rattle.area.specs.TableLaws.{length-tabulate, cell-tabulate}
+use Rattle.area.specs.PerRouterLaws.{per-same}
 use Rattle.paths.specs.Paths.{hopCell}
 use Rattle.paths.specs.PathsLaws.{hops-in}
-use Rattle.plan.specs.Changes.{isRise}
-use Rattle.plan.specs.Root.{root}
+use Rattle.order.specs.Order.{waitingBy, tellingBy, dueBy, orderOf}
+use Rattle.order.specs.OrderLaws.{telling-same, ranks-same, order-waiting, order-telling, order-ranks, order-due}
+use Rattle.changes.specs.Changes.{isRise}
+use Rattle.changes.specs.Root.{root}
 use Rattle.plan.specs.NewMetrics.{newMetrics}
 use Rattle.plan.specs.Waiting.{oldHops, newHops, waiting, telling, due}
-use Rattle.plan.specs.Rank.{rank}
-use Rattle.plan.specs.RankLaws.{rank-same}
 use Rattle.plan.specs.Plan.{zeros, fresh}
-use Rattle.plan.proofs.Converse.{converse-of}
 
-module _ (n : ℕ) (m l : List ℕ) (most : n ≤ width) (old new : List ℕ) (was : old ≡ tabulate width (hopCell n m)) (is : new ≡ tabulate width (hopCell n (newMetrics n m l))) where
+module _ (n : ℕ) (m l : List ℕ) (most : n ≤ width) (c : root l < n) (old new : List ℕ) (was : old ≡ tabulate width (hopCell n m)) (is : new ≡ tabulate width (hopCell n (newMetrics n m l))) where
   old-cell : (i j : ℕ) → i < n → j < n → cell width old i j ≡ oldHops n m i j
   unfolding oldHops
   old-cell i j a b = ap (λ (t : List ℕ). cell width t i j) was ∙ cell-tabulate width (hopCell n m) i j (omega arith) (omega arith) ∙ hops-in n m i j a b
@@ -34,43 +33,41 @@ module _ (n : ℕ) (m l : List ℕ) (most : n ≤ width) (old new : List ℕ) (w
   new-cell i j a b =
       ap (λ (t : List ℕ). cell width t i j) is ∙ cell-tabulate width (hopCell n (newMetrics n m l)) i j (omega arith) (omega arith) ∙ hops-in n (newMetrics n m l) i j a b
 
-  due-of : perRouter width n (λ r. setOf n (λ d. not (eqb (cell width old r d) (cell width new r d)))) ≡ perRouter width n (due n m l)
+  due-of : perRouter width n (dueBy n (cell width old) (cell width new)) ≡ perRouter width n (due n m l)
   unfolding due
   due-of =
-      per-same width n (λ r. setOf n (λ d. not (eqb (cell width old r d) (cell width new r d)))) (due n m l) most
+      per-same width n (dueBy n (cell width old) (cell width new)) (due n m l) most
       (λ r a. setOf-same n (λ d. not (eqb (cell width old r d) (cell width new r d))) (λ d. not (eqb (oldHops n m r d) (newHops n m l r d)))
       (λ d b. ap₂ (λ (x y : ℕ). not (eqb x y)) (old-cell r d a b) (new-cell r d a b)))
 
-  module _ (c : root l < n) where
-    waiting-at : (r : ℕ) → r < n → pick (isRise m l) (setOf n (λ s. bit (cell width old s (root l)) r)) (cell width new r (root l)) ≡ waiting n m l r
-    unfolding waiting
-    waiting-at r a =
-        ap₂ (λ (x y : ℕ). pick (isRise m l) x y)
-        (setOf-same n (λ s. bit (cell width old s (root l)) r) (λ s. bit (oldHops n m s (root l)) r) (λ s b. ap (λ (x : ℕ). bit x r) (old-cell s (root l) b c)))
-        (new-cell r (root l) a c)
+  -- whom the tables say that a router waits for
+  abbrev waitsFor : ℕ → ℕ
+  waitsFor = waitingBy n (root l) (isRise m l) (cell width old) (cell width new)
 
-    waiting-of : (k : ℕ) (rising : Bool) → k ≡ root l → rising ≡ isRise m l → perRouter width n (λ r. pick rising (setOf n (λ s. bit (cell width old s k) r)) (cell width new r k)) ≡ perRouter width n (waiting n m l)
-    waiting-of k rising p q =
-        ap₂ (λ (i : ℕ) (b : Bool). perRouter width n (λ r. pick b (setOf n (λ s. bit (cell width old s i) r)) (cell width new r i))) p q
-        ∙ per-same width n (λ r. pick (isRise m l) (setOf n (λ s. bit (cell width old s (root l)) r)) (cell width new r (root l))) (waiting n m l) most waiting-at
+  waiting-at : (r : ℕ) → r < n → waitsFor r ≡ waiting n m l r
+  unfolding waiting
+  waiting-at r a =
+      ap₂ (λ (x y : ℕ). pick (isRise m l) x y)
+      (setOf-same n (λ s. bit (cell width old s (root l)) r) (λ s. bit (oldHops n m s (root l)) r) (λ s b. ap (λ (x : ℕ). bit x r) (old-cell s (root l) b c)))
+      (new-cell r (root l) a c)
 
-  telling-of : (w : List ℕ) → w ≡ perRouter width n (waiting n m l) → perRouter width n (λ r. setOf n (λ s. bit (getD w s 0) r)) ≡ perRouter width n (telling n m l)
+  telling-of : perRouter width n (tellingBy n waitsFor) ≡ perRouter width n (telling n m l)
   unfolding telling
-  telling-of w e = converse-of width n (waiting n m l) w most e
+  telling-of = telling-same width n waitsFor (waiting n m l) most waiting-at
 
-  ranks-of : (w : List ℕ) → w ≡ perRouter width n (waiting n m l) → perRouter width n (rank n (λ r. getD w r 0)) ≡ perRouter width n (rank n (waiting n m l))
-  ranks-of w e =
-      per-same width n (rank n (λ r. getD w r 0)) (rank n (waiting n m l)) most
-      (rank-same n (λ r. getD w r 0) (waiting n m l) (λ r a. ap (λ (t : List ℕ). getD t r 0) e ∙ per-at width n (waiting n m l) r a most))
+  -- the tables have their size, so that the order is taken from them
+  old-size : length old ≡ width * width
+  old-size = ap length was ∙ length-tabulate width (hopCell n m)
+
+  new-size : length new ≡ width * width
+  new-size = ap length is ∙ length-tabulate width (hopCell n (newMetrics n m l))
 
   -- What the record is made of is what each of its fields is to be.
-  module _ (k : ℕ) (at : k ≡ root l) (rising : Bool) (moved : rising ≡ isRise m l) (ranks ws ts ds : List ℕ) (waits : ws ≡ perRouter width n (λ r. pick rising (setOf n (λ s. bit (cell width old s k) r)) (cell width new r k))) (tells : ts ≡ perRouter width n (λ r. setOf n (λ s. bit (getD ws s 0) r))) (ranked : ranks ≡ perRouter width n (rank n (λ r. getD ws r 0))) (dues : ds ≡ perRouter width n (λ r. setOf n (λ d. not (eqb (cell width old r d) (cell width new r d))))) (c : root l < n) where
-    pub fresh-is : (d : ℕ) → d ≡ pick rising 1 2 → record { n = n; root = k; direction = d; ranks = ranks; waiting = ws; telling = ts; due = ds; states = zeros; written = zeros } ≡ fresh n m l
-    unfolding fresh
-    fresh-is d e =
-        let w = waits ∙ waiting-of c k rising at moved in
-        let t = tells ∙ telling-of ws w in
-        let r = ranked ∙ ranks-of ws w in
-        let u = dues ∙ due-of in
-        let f = e ∙ ap (λ (b : Bool). pick b 1 2) moved in
-        rw (at, w, t, r, u, f) refl
+  pub fresh-is : (k : ℕ) (rising : Bool) → k ≡ root l → rising ≡ isRise m l → record { n = n; root = k; direction = pick rising 1 2; ranks = orderOf n k rising old new .ranks; waiting = orderOf n k rising old new .waiting; telling = orderOf n k rising old new .telling; due = orderOf n k rising old new .due; states = zeros; written = zeros } ≡ fresh n m l
+  unfolding fresh
+  fresh-is k rising at moved =
+      let w = order-waiting n (root l) old new (isRise m l) most (omega arith) old-size new-size ∙ per-same width n waitsFor (waiting n m l) most waiting-at in
+      let t = order-telling n (root l) old new (isRise m l) most (omega arith) old-size new-size ∙ telling-of in
+      let r = order-ranks n (root l) old new (isRise m l) most (omega arith) old-size new-size ∙ ranks-same width n waitsFor (waiting n m l) most waiting-at in
+      let d = order-due n (root l) old new (isRise m l) most (omega arith) old-size new-size ∙ due-of in
+      rw (at, moved, w, t, r, d) refl

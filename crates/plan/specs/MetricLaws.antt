@@ -13,11 +13,11 @@ use native.Mathlib.Decide.{ℕ-discrete}
 use native.Mathlib.Omega.{arith}
 use lib.Dec.{ltb, eqb}
 use lib.ListN.{length, getD}
-use borrow.Author.Tests.{ltb-true, lt-ltb, le-ltb, eq-eqb, ne-eqb}
+use borrow.Author.Tests.{lt-ltb, le-ltb, eq-eqb, ne-eqb}
 use Rattle.area.specs.Limits.{width, unused}
 use Rattle.area.specs.Tests.{pick}
 use Rattle.area.specs.Tables.{cell}
-use Rattle.area.specs.TestLaws.{and-false, all-at}
+use Rattle.area.specs.TestLaws.{and-false}
 use Rattle.area.specs.TableLaws.{length-tabulate, cell-tabulate}
 use Rattle.area.specs.Entries.{count, from, to, metric, isOf, listed}
 use Rattle.area.specs.EntryLaws.{of-pair, given-start, given-more, given-kept, given-cases}
@@ -25,11 +25,11 @@ use Rattle.paths.specs.Paths.{isMetric}
 use Rattle.paths.specs.Topology.{topology}
 use Rattle.paths.specs.TopologyLaws.{topology-le, topology-same}
 use Rattle.paths.specs.PathsLaws.{Ready, metric-own, metric-good, metrics-at, metrics-true}
-use Rattle.plan.specs.Changes.{before, isRise, isFall}
-use Rattle.plan.specs.Root.{isCommon}
+use Rattle.changes.specs.Changes.{isRise, isFall}
+use Rattle.changes.specs.Root.{isCommon}
 use Rattle.plan.specs.NewMetrics.{newCell, newMetrics}
-use Rattle.plan.specs.ChangeLaws.{Sound}
-use Rattle.plan.specs.RootLaws.{common-at}
+use Rattle.changes.specs.ChangeLaws.{Sound, rise-at, fall-at}
+use Rattle.changes.specs.RootLaws.{common-at}
 
 -- ---- the cells of the new table, k changes made
 module _ (n : ℕ) (m l : List ℕ) (k i j : ℕ) where
@@ -105,15 +105,6 @@ module _ (n : ℕ) (m l : List ℕ) where
       good i j a b (no f) = let v = range i j a b f in metric-good (newMetrics n m l) i j (v .0) (v .1)
 
 -- ---- the old table and the new one
-module _ (m l : List ℕ) (e : ℕ) (b : e < count l) where
-  pub rise-at : isRise m l ≡ true → before m l e < metric l e
-  unfolding isRise
-  rise-at r = ltb-true (before m l e) (metric l e) (all-at (count l) (λ e. ltb (before m l e) (metric l e)) r e b)
-
-  pub fall-at : isFall m l ≡ true → metric l e < before m l e
-  unfolding isFall
-  fall-at r = ltb-true (metric l e) (before m l e) (all-at (count l) (λ e. ltb (metric l e) (before m l e)) r e b)
-
 module _ (n : ℕ) (m l : List ℕ) (most : n ≤ width) where
   -- a pair of routers whose metric differs has a common router as an end
   module _ (c : ℕ) (common : isCommon l c ≡ true) where

@@ -1,22 +1,22 @@
 -- Plan (01, "The plan"): its answer, the record that it hands back, and what its tables hold when it returns, on every input.
 -- n is the number of routers, m the old metric table, l the change list. `Record` is the struct of src/lib.rt, each array as a list.
-use Prim.Native.Nat.{ℕ, _%_}
-use mathlib.Core.Bool.{Bool, not, _&&_, _||_}
+use Prim.Native.Nat.{ℕ}
+use mathlib.Core.Bool.{Bool, not, _&&_}
 use mathlib.Core.List.{List}
-use lib.Dec.{ltb, eqb}
-use lib.ListN.{length, replicate}
-use Rattle.area.specs.Limits.{width, mostChanges}
+use lib.Dec.{eqb}
+use lib.ListN.{replicate}
+use Rattle.area.specs.Limits.{width}
 use Rattle.area.specs.Tests.{pick}
 use Rattle.area.specs.Tables.{tabulate, perRouter}
-use Rattle.area.specs.Entries.{count}
 use Rattle.area.specs.Sizes.{isCount, isTable}
 use Rattle.paths.specs.Paths.{areMetrics, distanceCell, hopCell}
 use Rattle.plan.specs.declared.Record.{Record}
-use Rattle.plan.specs.Changes.{firstRefusal, isRise, isFall}
-use Rattle.plan.specs.Root.{isCommon, root}
+use Rattle.changes.specs.Changes.{isRise}
+use Rattle.changes.specs.Root.{root}
+use Rattle.changes.specs.Judging.{listRefusal}
 use Rattle.plan.specs.NewMetrics.{newMetrics}
 use Rattle.plan.specs.Waiting.{waiting, telling, due}
-use Rattle.plan.specs.Rank.{rank}
+use Rattle.order.specs.Rank.{rank}
 
 -- the tables that Plan is lent and fills
 pub record Tables : Type 0 where
@@ -33,24 +33,13 @@ tables a b c d e = record { metrics = a; oldDistances = b; newDistances = c; old
 unfoldable pub areTables : List ℕ → Tables → Bool
 areTables m t = isTable m && (isTable (t .metrics) && (isTable (t .oldDistances) && (isTable (t .newDistances) && (isTable (t .oldHops) && isTable (t .newHops)))))
 
--- The number of the refusal of the changes: that of the first faulty one, then 12, then 13; 0 where they have none.
-unfoldable pub changesRefusal : ℕ → List ℕ → List ℕ → ℕ
-changesRefusal n m l =
-    pick (not (eqb (firstRefusal n m l (count l)) 0)) (firstRefusal n m l (count l))
-    (pick (not (isRise m l || isFall m l)) 12
-    (pick (not (isCommon l (root l))) 13
-    0))
-
--- The number of the first refusal that applies, in the order 3, 8, 6, 1, 9, 10 and then those of the changes; 0 where the input is planned. `sized` says that the tables have the right size.
+-- The number of the first refusal that applies, in the order 3, 8, 6 and then those of the change list; 0 where the input is planned. `sized` says that the tables have the right size.
 unfoldable pub planRefusal : ℕ → List ℕ → List ℕ → Bool → ℕ
 planRefusal n m l sized =
     pick (not (isCount n)) 3
     (pick (not sized) 8
     (pick (not (areMetrics n m)) 6
-    (pick (not (eqb (length l % 5) 0)) 1
-    (pick (ltb mostChanges (count l)) 9
-    (pick (eqb (count l) 0) 10
-    (changesRefusal n m l))))))
+    (listRefusal n m l)))
 
 -- the input is planned, that is, none of the refusals is given
 unfoldable pub isPlanned : ℕ → List ℕ → List ℕ → Tables → Bool

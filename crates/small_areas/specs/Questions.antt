@@ -13,11 +13,11 @@ use Rattle.paths.specs.Distance.{sums, least}
 use Rattle.paths.specs.NextHops.{isNext, nextHops}
 use Rattle.paths.specs.Paths.{isMetric, areMetrics, refusalOf, distanceCell, hopCell, distancesOf, hopsOf}
 use Rattle.plan.specs.declared.Record.{Record}
-use Rattle.plan.specs.Changes.{changeRefusal, isRise, isFall}
-use Rattle.plan.specs.Root.{isCommon}
+use Rattle.changes.specs.Changes.{changeRefusal, isRise, isFall}
+use Rattle.changes.specs.Root.{isCommon}
 use Rattle.plan.specs.NewMetrics.{newCell, newMetrics}
 use Rattle.plan.specs.Waiting.{oldHops, newHops, waiting, telling, due}
-use Rattle.plan.specs.Rank.{greatest, above, longest, rank}
+use Rattle.order.specs.Rank.{greatest, above, longest, rank}
 use Rattle.plan.specs.Plan.{Tables, tables, areTables, changesRefusal, planRefusal, isPlanned, fresh, blank, filled, recordOf, tablesOf}
 use Rattle.steps.specs.Answers.{Reply, refused}
 use Rattle.steps.specs.Machine.{learn, release, ready, write, finish, listens, deliver, isSound, isKind, readsB, areRouters, callOf, stepOf}
@@ -95,7 +95,7 @@ unfoldable pub answer : List ℕ → (q : Question) → Value q
 unfolding readRefusal fileRefusal mostLinks linkRefusal restRefusal contentsOf contents nothing metricsOf linked
     all first bit setOf added removed subset isCount isTable build tabulate perRouter count entryOf isFree entryRefusal listedRefusal listed
     isLink topology sums least Rattle.paths.specs.Distance.distance isNext nextHops isMetric areMetrics refusalOf distanceCell hopCell distancesOf hopsOf
-    changeRefusal isRise isFall isCommon Rattle.plan.specs.Root.root newCell newMetrics oldHops newHops waiting telling due greatest above longest rank
+    changeRefusal isRise isFall isCommon Rattle.changes.specs.Root.root newCell newMetrics oldHops newHops waiting telling due greatest above longest rank
     areTables changesRefusal planRefusal isPlanned fresh blank filled recordOf tablesOf
     learn release ready write finish listens deliver isSound isKind readsB areRouters callOf stepOf callsOf replies
     digits decimal field line Rattle.report.specs.Bench.refusal refusedLine routerLine routerLines answerText stepLine stepLines rehearsal

@@ -22,8 +22,12 @@ module _ (n : ℕ) (m l : List ℕ) (t : Tables) (sized : Bool) (told : sized �
   refused : not ok ≡ true → isPlanned n m l t ≡ false
   refused h = planned-false n m l t (λ z. eqb-false (verdictNumber v) 0 (sym is ∙ not-true ok h) (answered ∙ z))
 
-  planned : not ok ≡ false → isPlanned n m l t ≡ true
-  planned h = planned-true n m l t (sym answered ∙ eqb-true (verdictNumber v) 0 (sym is ∙ not-false ok h))
+  module _ (h : not ok ≡ false) where
+    none : planRefusal n m l sized ≡ 0
+    none = sym judged ∙ eqb-true (verdictNumber v) 0 (sym is ∙ not-false ok h)
+
+    planned : isPlanned n m l t ≡ true
+    planned = planned-true n m l t (ap (planRefusal n m l) (sym told) ∙ none)
 
 -- the tables that were lent
 abbrev lent : tie.Start → Tables
@@ -63,8 +67,8 @@ returns c =
     let m = now (start .args .old) in
     let l = now (start .args .list) in
     let t = lent start in
-    let no = refused n m l t (c .before .before .before .before .are-tables .result) (c .before .before .before .before .are-tables .ensures) (c .before .before .before .input .result) (c .before .before .before .input .ensures) (c .before .before .is-accepted .result) (c .before .before .is-accepted .ensures) (c .before .if1 .taken) in
-    (answered n m l t (c .before .before .before .before .are-tables .result) (c .before .before .before .before .are-tables .ensures) (c .before .before .before .input .result) (c .before .before .before .input .ensures) (c .before .before .is-accepted .result) (c .before .before .is-accepted .ensures), (c .blank .ensures ∙ sym (record-refused n m l t no), sym (tables-refused n m l t no)))
+    let no = refused n m l t (c .before .before .before .before .are-tables .result) (c .before .before .before .before .are-tables .ensures) (c .before .before .before .input .result .answer) (c .before .before .before .input .ensures .0) (c .before .before .is-accepted .result) (c .before .before .is-accepted .ensures) (c .before .if1 .taken) in
+    (answered n m l t (c .before .before .before .before .are-tables .result) (c .before .before .before .before .are-tables .ensures) (c .before .before .before .input .result .answer) (c .before .before .before .input .ensures .0) (c .before .before .is-accepted .result) (c .before .before .is-accepted .ensures), (c .blank .ensures ∙ sym (record-refused n m l t no), sym (tables-refused n m l t no)))
 
 fill-requires : tie.Need-fill-requires
 fill-requires c κs =
@@ -73,8 +77,8 @@ fill-requires c κs =
     let m = now (start .args .old) in
     let l = now (start .args .list) in
     let t = lent start in
-    let known = planned-is n m l t .0 (planned n m l t (c .before .before .before .before .before .before .before .before .are-tables .result) (c .before .before .before .before .before .before .before .before .are-tables .ensures) (c .before .before .before .before .before .before .before .input .result) (c .before .before .before .before .before .before .before .input .ensures) (c .before .before .before .before .before .before .is-accepted .result) (c .before .before .before .before .before .before .is-accepted .ensures) (c .before .before .before .before .before .if1 .left)) in
-    (known .1, sized-of m t (known .0))
+    let known = planned-is n m l t .0 (planned n m l t (c .before .before .before .before .before .before .before .before .are-tables .result) (c .before .before .before .before .before .before .before .before .are-tables .ensures) (c .before .before .before .before .before .before .before .input .result .answer) (c .before .before .before .before .before .before .before .input .ensures .0) (c .before .before .before .before .before .before .is-accepted .result) (c .before .before .before .before .before .before .is-accepted .ensures) (c .before .before .before .before .before .if1 .left)) in
+    (known .1, (c .before .before .before .before .before .before .before .input .ensures .1 (none n m l t (c .before .before .before .before .before .before .before .before .are-tables .result) (c .before .before .before .before .before .before .before .before .are-tables .ensures) (c .before .before .before .before .before .before .before .input .result .answer) (c .before .before .before .before .before .before .before .input .ensures .0) (c .before .before .before .before .before .before .is-accepted .result) (c .before .before .before .before .before .before .is-accepted .ensures) (c .before .before .before .before .before .if1 .left)), sized-of m t (known .0)))
 
 same-length-6 : tie.Need-same-length-6
 same-length-6 c = search needs
@@ -98,9 +102,9 @@ returns-2 c =
     let m = now (start .args .old) in
     let l = now (start .args .list) in
     let t = lent start in
-    let yes = planned n m l t (c .before .before .before .before .before .before .before .before .before .before .before .before .before .before .before .before .before .before .before .are-tables .result) (c .before .before .before .before .before .before .before .before .before .before .before .before .before .before .before .before .before .before .before .are-tables .ensures) (c .before .before .before .before .before .before .before .before .before .before .before .before .before .before .before .before .before .before .input .result) (c .before .before .before .before .before .before .before .before .before .before .before .before .before .before .before .before .before .before .input .ensures) (c .before .before .before .before .before .before .before .before .before .before .before .before .before .before .before .before .before .is-accepted .result) (c .before .before .before .before .before .before .before .before .before .before .before .before .before .before .before .before .before .is-accepted .ensures) (c .before .before .before .before .before .before .before .before .before .before .before .before .before .before .before .before .if1 .left) in
+    let yes = planned n m l t (c .before .before .before .before .before .before .before .before .before .before .before .before .before .before .before .before .before .before .before .are-tables .result) (c .before .before .before .before .before .before .before .before .before .before .before .before .before .before .before .before .before .before .before .are-tables .ensures) (c .before .before .before .before .before .before .before .before .before .before .before .before .before .before .before .before .before .before .input .result .answer) (c .before .before .before .before .before .before .before .before .before .before .before .before .before .before .before .before .before .before .input .ensures .0) (c .before .before .before .before .before .before .before .before .before .before .before .before .before .before .before .before .before .is-accepted .result) (c .before .before .before .before .before .before .before .before .before .before .before .before .before .before .before .before .before .is-accepted .ensures) (c .before .before .before .before .before .before .before .before .before .before .before .before .before .before .before .before .if1 .left) in
     let made = c .before .before .before .before .before .before .before .before .before .before .fill .ensures in
-    (answered n m l t (c .before .before .before .before .before .before .before .before .before .before .before .before .before .before .before .before .before .before .before .are-tables .result) (c .before .before .before .before .before .before .before .before .before .before .before .before .before .before .before .before .before .before .before .are-tables .ensures) (c .before .before .before .before .before .before .before .before .before .before .before .before .before .before .before .before .before .before .input .result) (c .before .before .before .before .before .before .before .before .before .before .before .before .before .before .before .before .before .before .input .ensures) (c .before .before .before .before .before .before .before .before .before .before .before .before .before .before .before .before .before .is-accepted .result) (c .before .before .before .before .before .before .before .before .before .before .before .before .before .before .before .before .before .is-accepted .ensures), (made .0 ∙ sym (record-planned n m l t yes), made .1 ∙ sym (tables-planned n m l t yes)))
+    (answered n m l t (c .before .before .before .before .before .before .before .before .before .before .before .before .before .before .before .before .before .before .before .are-tables .result) (c .before .before .before .before .before .before .before .before .before .before .before .before .before .before .before .before .before .before .before .are-tables .ensures) (c .before .before .before .before .before .before .before .before .before .before .before .before .before .before .before .before .before .before .input .result .answer) (c .before .before .before .before .before .before .before .before .before .before .before .before .before .before .before .before .before .before .input .ensures .0) (c .before .before .before .before .before .before .before .before .before .before .before .before .before .before .before .before .before .is-accepted .result) (c .before .before .before .before .before .before .before .before .before .before .before .before .before .before .before .before .before .is-accepted .ensures), (made .0 ∙ sym (record-planned n m l t yes), made .1 ∙ sym (tables-planned n m l t yes)))
 
 pub plan-spec : {M : Type 1} → statement M
 plan-spec =

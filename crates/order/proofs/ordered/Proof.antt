@@ -1,0 +1,40 @@
+-- Telling sets and ranks are found from the table of waiting sets.
+use mathlib.Core.Path.{_≡_, refl, _∙_}
+use mathlib.Core.Bool.{Bool}
+use mathlib.Core.List.{List}
+use Prim.Native.Nat.{ℕ, _≤_}
+use borrow.Author.Needs.{needs}
+use lib.ListN.{getD}
+use Rattle.area.specs.Limits.{width}
+use Rattle.area.specs.Tables.{cell, perRouter}
+use Rattle.order.specs.Rank.{rank}
+use Rattle.order.specs.Order.{waitingBy, tellingBy, dueBy, ordered}
+use Rattle.order.proofs.Converse.{converse-of, ranks-of}
+use Rattle.order.proofs.ordered.Statement.{statement}
+use Rattle.order.proofs.ordered.Tie as tie
+
+put-together : (n c : ℕ) (rising : Bool) (old new ws ts rs ds : List ℕ) → n ≤ width → ws ≡ perRouter width n (waitingBy n c rising (cell width old) (cell width new)) → ts ≡ perRouter width n (tellingBy n (λ s. getD ws s 0)) → rs ≡ perRouter width n (rank n (λ r. getD ws r 0)) → ds ≡ perRouter width n (dueBy n (cell width old) (cell width new)) → record { waiting = ws; telling = ts; ranks = rs; due = ds } ≡ ordered n c rising old new
+unfolding ordered
+put-together n c rising old new ws ts rs ds most w t r d =
+    let t-is = t ∙ converse-of width n (waitingBy n c rising (cell width old) (cell width new)) ws most w in
+    let r-is = r ∙ ranks-of width n (waitingBy n c rising (cell width old) (cell width new)) ws most w in
+    rw (w, t-is, r-is, d) refl
+
+waiting-requires : tie.Need-waiting-requires
+waiting-requires c κs = search needs
+
+converse-requires : tie.Need-converse-requires
+converse-requires c κs = search needs
+
+ranks-requires : tie.Need-ranks-requires
+ranks-requires c κs = search needs
+
+due-requires : tie.Need-due-requires
+due-requires c κs = search needs
+
+returns : tie.Need-returns
+returns c = search put-together
+
+pub ordered-spec : {M : Type 1} → statement M
+ordered-spec =
+    tie.close (tie.spec waiting-requires converse-requires ranks-requires due-requires returns)

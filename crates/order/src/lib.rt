@@ -1,0 +1,75 @@
+// Who waits for whom, who tells whom, ranks, and what is due, from the next hops before a change and after it.
+mod due;
+mod rank;
+mod waiting;
+
+use area::limits::CELLS;
+use area::limits::WIDTH;
+ghost use mathlib.Core.Path.{_≡_};
+ghost use Prim.Native.Nat.{_≤_, _<_, _*_};
+ghost use lib.ListN.{length};
+ghost use Rattle.area.specs.Limits.{width};
+ghost use Rattle.order.specs.Order.{isOrdered, ordered, nothing, orderOf};
+
+// Entry r of each table belongs to router r, and is 0 from n on.
+pub struct Order {
+    pub waiting: [u32; WIDTH],
+    pub telling: [u32; WIDTH],
+    pub ranks: [u8; WIDTH],
+    pub due: [u32; WIDTH],
+}
+
+// The order of a change: `old` and `new` are the next-hop tables of the two topologies. All is 0 where n, the root or a table is not one of an area.
+pub fn order_of(n: usize, root: usize, rising: bool, old: &[u32], new: &[u32]) -> Order
+    ensures { λ r. ⌜ r ≡ orderOf n root rising (now (old .entry)) (now (new .entry)) ⌝ }
+{
+    if !is_ordered(n, root, old, new) {
+        return nothing();
+    }
+    ordered(n, root, rising, old, new)
+}
+
+// Are there at most WIDTH routers, is the root below WIDTH, and has each table its size?
+fn is_ordered(n: usize, root: usize, old: &[u32], new: &[u32]) -> bool
+    ensures { λ r. ⌜ r ≡ isOrdered n root (now (old .entry)) (now (new .entry)) ⌝ }
+{
+    if WIDTH < n {
+        return false;
+    }
+    if WIDTH <= root {
+        return false;
+    }
+    if old.len() != CELLS {
+        return false;
+    }
+    new.len() == CELLS
+}
+
+// No router waits, tells or has anything due.
+fn nothing() -> Order
+    ensures { λ r. ⌜ r ≡ nothing ⌝ }
+{
+    Order {
+        waiting: [0; WIDTH],
+        telling: [0; WIDTH],
+        ranks: [0; WIDTH],
+        due: [0; WIDTH],
+    }
+}
+
+fn ordered(n: usize, root: usize, rising: bool, old: &[u32], new: &[u32]) -> Order
+    requires { ⌜ (n ≤ width) × (root < width) ⌝ }
+    requires { ⌜ (length (now old) ≡ width * width) × (length (now new) ≡ width * width) ⌝ }
+    ensures { λ r. ⌜ r ≡ ordered n root rising (now (old .entry)) (now (new .entry)) ⌝ }
+{
+    let waiting = waiting::waiting(n, root, rising, old, new);
+    let telling = waiting::converse(n, waiting);
+    let ranks = rank::ranks(n, waiting);
+    let due = due::due(n, old, new);
+    Order {
+        waiting,
+        telling,
+        ranks,
+        due,
+    }
+}

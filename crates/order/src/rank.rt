@@ -1,0 +1,69 @@
+// Ranks, round by round. A table per router has WIDTH entries, 0 from n on.
+use area::limits::WIDTH;
+use area::sets::member;
+ghost use mathlib.Core.Path.{_≡_};
+ghost use Prim.Native.Nat.{ℕ, _≤_, _<_};
+ghost use lib.Dec.{eqb};
+ghost use lib.ListN.{getD};
+ghost use Rattle.area.specs.Limits.{width};
+ghost use Rattle.area.specs.Tests.{all};
+ghost use Rattle.area.specs.Tables.{perRouter};
+ghost use Rattle.order.specs.Rank.{above, rank};
+
+// The ranks: each round allows chains of one link more, and a chain has fewer links than there are routers. After a round that changes nothing no round changes anything.
+pub(crate) fn ranks(n: usize, waiting: [u32; WIDTH]) -> [u8; WIDTH]
+    requires { ⌜ n ≤ width ⌝ }
+    ensures { λ t. ⌜ t ≡ perRouter width n (rank n (λ r. getD waiting r 0)) ⌝ }
+{
+    let mut ranks = [0u8; WIDTH];
+    for h in 1..n {
+        let next = longer(n, waiting, ranks);
+        if agree(n, ranks, next) {
+            return ranks;
+        }
+        ranks = next;
+    }
+    ranks
+}
+
+// Have two tables the same rank for every router?
+fn agree(n: usize, a: [u8; WIDTH], b: [u8; WIDTH]) -> bool
+    requires { ⌜ n ≤ width ⌝ }
+    ensures { λ r. ⌜ r ≡ all n (λ s. eqb (getD a s 0) (getD b s 0)) ⌝ }
+{
+    for s in 0..n {
+        if a[s] != b[s] {
+            return false;
+        }
+    }
+    true
+}
+
+// One round: for each router one more than the largest rank of those that it waits for.
+fn longer(n: usize, waiting: [u32; WIDTH], ranks: [u8; WIDTH]) -> [u8; WIDTH]
+    requires { ⌜ (n ≤ width) × ((s : ℕ) → s < n → getD ranks s 0 < 255) ⌝ }
+    ensures { λ t. ⌜ t ≡ perRouter width n (λ r. above n (getD waiting r 0) (λ s. getD ranks s 0)) ⌝ }
+{
+    let mut out = [0u8; WIDTH];
+    for r in 0..n {
+        out[r] = after(n, waiting[r], ranks);
+    }
+    out
+}
+
+// One more than the largest rank in a set, 0 for the empty set.
+fn after(n: usize, set: u32, ranks: [u8; WIDTH]) -> u8
+    requires { ⌜ (n ≤ width) × ((s : ℕ) → s < n → getD ranks s 0 < 255) ⌝ }
+    ensures { λ k. ⌜ k ≡ above n set (λ s. getD ranks s 0) ⌝ }
+{
+    let mut most = 0u8;
+    for s in 0..n {
+        if member(set, s) {
+            let rank = ranks[s];
+            if most <= rank {
+                most = rank + 1;
+            }
+        }
+    }
+    most
+}
