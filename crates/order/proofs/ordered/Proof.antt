@@ -3,8 +3,10 @@ use mathlib.Core.Path.{_≡_, refl, _∙_}
 use mathlib.Core.Bool.{Bool}
 use mathlib.Core.List.{List}
 use Prim.Native.Nat.{ℕ, _≤_}
+use native.Mathlib.Omega.{arith}
 use borrow.Author.Needs.{needs}
 use lib.ListN.{getD}
+use denote.Ref.{now}
 use Rattle.area.specs.Limits.{width}
 use Rattle.area.specs.Tables.{cell, perRouter}
 use Rattle.order.specs.Rank.{rank}
@@ -33,7 +35,12 @@ due-requires : tie.Need-due-requires
 due-requires c κs = search needs
 
 returns : tie.Need-returns
-returns c = search put-together
+returns c =
+    let a = c .before .before .before .before .before .before .args in
+    let ws = c .before .before .before .waiting in
+    let ts = c .before .before .converse in
+    let rs = c .before .ranks in
+    put-together (a .n) (a .root) (a .rising) (now (a .old)) (now (a .new)) (ws .result) (ts .result) (rs .result) (c .due .result) (omega arith) (ws .ensures) (ts .ensures) (rs .ensures) (c .due .ensures)
 
 pub ordered-spec : {M : Type 1} → statement M
 ordered-spec =
