@@ -19,13 +19,14 @@ use Rattle.paths.specs.Distance.{sums, least, distance}
 use Rattle.paths.specs.NextHops.{isNext, nextHops}
 use Rattle.paths.specs.Pigeonhole.{Distinct}
 use Rattle.paths.specs.Paths.{isMetric, areMetrics}
-use Rattle.plan.specs.declared.Record.{Record}
+use Rattle.order.specs.Rank.{greatest, above, longest, rank}
 use Rattle.changes.specs.Changes.{changeRefusal, isRise, isFall}
 use Rattle.changes.specs.Root.{isCommon, root}
+use Rattle.changes.specs.Judging.{faultRefusal, commonRefusal, listRefusal}
+use Rattle.plan.specs.declared.Record.{Record}
 use Rattle.plan.specs.NewMetrics.{newCell, newMetrics}
 use Rattle.plan.specs.Waiting.{oldHops, newHops, waiting, telling, due}
-use Rattle.order.specs.Rank.{greatest, above, longest, rank}
-use Rattle.plan.specs.Plan.{Tables, tables, areTables, changesRefusal, planRefusal, isPlanned, fresh, recordOf}
+use Rattle.plan.specs.Plan.{Tables, tables, areTables, planRefusal, isPlanned, fresh, recordOf}
 use Rattle.convergence.specs.Pointers.{pointers, Along}
 use Rattle.steps.specs.Answers.{ok, ignored, refused}
 use Rattle.steps.specs.Machine.{learn, release, ready, write, finish, listens, deliver, isSound, isKind, readsB, areRouters, callOf, stepOf}
@@ -75,7 +76,7 @@ record Accepts (m l : List ℕ) (r : Record) : Type 0 where
 planned : Accepts metricsUp goesDown beforeRise × Accepts metricsDown comesUp beforeFall
 unfolding metricsDown metricsUp goesDown comesUp lent beforeRise beforeFall recordOf isPlanned fresh perRouter build rank longest above greatest
     waiting telling due oldHops newHops nextHops isNext bit setOf distance sums least topology isLink newMetrics tabulate newCell listed planRefusal
-    areTables isTable isCount areMetrics isMetric all changesRefusal changeRefusal first listedRefusal entryRefusal isFree isRise isFall isCommon root count entryOf
+    areTables isTable isCount areMetrics isMetric all faultRefusal commonRefusal listRefusal changeRefusal first listedRefusal entryRefusal isFree isRise isFall isCommon root count entryOf
 planned = (record { accepted = refl; given = refl }, record { accepted = refl; given = refl })
 
 -- ---- calls in order

@@ -17,9 +17,9 @@ use Rattle.area.specs.SetLaws.{same-members, member-some}
 use Rattle.paths.specs.Topology.{topology}
 use Rattle.paths.specs.TopologyLaws.{topology-graph}
 use Rattle.paths.specs.NextHops.{Next}
-use Rattle.plan.specs.declared.Record.{Record}
 use Rattle.changes.specs.Changes.{isRise}
 use Rattle.changes.specs.Root.{root}
+use Rattle.plan.specs.declared.Record.{Record}
 use Rattle.plan.specs.NewMetrics.{newMetrics}
 use Rattle.plan.specs.Waiting.{oldHops, newHops, waiting}
 use Rattle.plan.specs.Plan.{Tables, areTables, planRefusal, fresh, recordOf}
@@ -30,8 +30,8 @@ use Rattle.convergence.specs.Change.{Change, Part, Sets, Ordered, WaitsRise, Wa
 use Rattle.convergence.specs.Convergence.{Safe, rise, fall}
 use Rattle.steps.specs.Machine.{done, stateOf, waitingOf, dueOf, writtenOf}
 use Rattle.steps.specs.Run.{Call, run, hasWritten}
-use Rattle.loop_free.specs.LoopFree.{pointsTo, LoopFree}
 use Rattle.steps.specs.RunLaws.{Kept, run-kept, run-bit, run-written, fresh-start}
+use Rattle.loop_free.specs.LoopFree.{pointsTo, LoopFree}
 
 -- ---- sets that hold exactly the next hops toward d
 abbrev Exact : ℕ → ℕ → (ℕ → ℕ → ℕ) → (ℕ → ℕ) → Type 0

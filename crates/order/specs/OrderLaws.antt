@@ -5,7 +5,7 @@
 --     ordered-many, ordered-root, ordered-old, ordered-last, ordered-sizes     the tests of `isOrdered`, one after another, and what is known where all hold
 use Prim.Native.Nat.{ℕ, _*_, _≤_, _<_}
 use mathlib.Core.Path.{_≡_, refl, ap}
-use mathlib.Core.Bool.{Bool, true, false, _&&_}
+use mathlib.Core.Bool.{Bool, true, false}
 use mathlib.Core.Logic.{_≢_}
 use mathlib.Core.List.{List}
 use lib.Dec.{ltb, leb, eqb}

@@ -14,8 +14,8 @@ use Rattle.area.specs.TestLaws.{look}
 use Rattle.area.specs.TableLaws.{length-tabulate, cell-tabulate, is-tabulate}
 use Rattle.area.specs.Entries.{count, entryOf, from, to, metric, isOf}
 use Rattle.area.specs.EntryLaws.{cell-entered}
-use Rattle.plan.specs.NewMetrics.{newCell, newMetrics}
 use Rattle.changes.specs.ChangeLaws.{Change}
+use Rattle.plan.specs.NewMetrics.{newCell, newMetrics}
 use Rattle.plan.specs.MetricLaws.{cell-start, cell-more, cell-kept}
 
 pub record Applied (n : ℕ) (m l : List ℕ) (k : ℕ) (t : List ℕ) : Type 0 where

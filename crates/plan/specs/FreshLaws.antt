@@ -15,14 +15,14 @@ use Rattle.area.specs.TestLaws.{look}
 use Rattle.area.specs.Tables.{cell}
 use Rattle.area.specs.PerRouterLaws.{per-at, per-beyond, zeros-at}
 use Rattle.paths.specs.Topology.{topology}
+use Rattle.order.specs.Rank.{rank}
 use Rattle.changes.specs.Changes.{isRise, isFall}
 use Rattle.changes.specs.Root.{root}
-use Rattle.plan.specs.NewMetrics.{newMetrics}
-use Rattle.plan.specs.Waiting.{waiting, telling, due}
-use Rattle.order.specs.Rank.{rank}
-use Rattle.plan.specs.Plan.{fresh}
 use Rattle.changes.specs.ChangeLaws.{rise-at, fall-at}
 use Rattle.changes.specs.RootLaws.{root-in}
+use Rattle.plan.specs.NewMetrics.{newMetrics}
+use Rattle.plan.specs.Waiting.{waiting, telling, due}
+use Rattle.plan.specs.Plan.{fresh}
 use Rattle.plan.specs.MetricLaws.{differs-common, differs-rise, differs-fall, topology-elsewhere, topology-rise, topology-fall}
 use Rattle.plan.specs.PlanLaws.{Plan}
 

@@ -27,9 +27,9 @@ use Rattle.paths.specs.TopologyLaws.{topology-le, topology-same}
 use Rattle.paths.specs.PathsLaws.{Ready, metric-own, metric-good, metrics-at, metrics-true}
 use Rattle.changes.specs.Changes.{isRise, isFall}
 use Rattle.changes.specs.Root.{isCommon}
-use Rattle.plan.specs.NewMetrics.{newCell, newMetrics}
 use Rattle.changes.specs.ChangeLaws.{Sound, rise-at, fall-at}
 use Rattle.changes.specs.RootLaws.{common-at}
+use Rattle.plan.specs.NewMetrics.{newCell, newMetrics}
 
 -- ---- the cells of the new table, k changes made
 module _ (n : ℕ) (m l : List ℕ) (k i j : ℕ) where

@@ -10,13 +10,13 @@ use Rattle.area.specs.Tests.{pick}
 use Rattle.area.specs.Tables.{tabulate, perRouter}
 use Rattle.area.specs.Sizes.{isCount, isTable}
 use Rattle.paths.specs.Paths.{areMetrics, distanceCell, hopCell}
-use Rattle.plan.specs.declared.Record.{Record}
+use Rattle.order.specs.Rank.{rank}
 use Rattle.changes.specs.Changes.{isRise}
 use Rattle.changes.specs.Root.{root}
 use Rattle.changes.specs.Judging.{listRefusal}
+use Rattle.plan.specs.declared.Record.{Record}
 use Rattle.plan.specs.NewMetrics.{newMetrics}
 use Rattle.plan.specs.Waiting.{waiting, telling, due}
-use Rattle.order.specs.Rank.{rank}
 
 -- the tables that Plan is lent and fills
 pub record Tables : Type 0 where

@@ -20,12 +20,12 @@ use Rattle.area.specs.SizeLaws.{count-true, table-true, table-size}
 use Rattle.paths.specs.Paths.{areMetrics, distanceCell, hopCell}
 use Rattle.paths.specs.PathsLaws.{Ready, area-ready, area-metrics}
 use Rattle.changes.specs.Changes.{isRise, isFall}
-use Rattle.plan.specs.NewMetrics.{newCell, newMetrics}
 use Rattle.changes.specs.Root.{isCommon, root}
-use Rattle.plan.specs.Plan.{Tables, areTables, planRefusal, isPlanned, fresh, blank, filled, recordOf, tablesOf}
 use Rattle.changes.specs.ChangeLaws.{Sound}
 use Rattle.changes.specs.Judging.{listRefusal, judgedRefusal}
 use Rattle.changes.specs.JudgingLaws.{accepted-of, of-accepted, judged-area, judged-not}
+use Rattle.plan.specs.NewMetrics.{newCell, newMetrics}
+use Rattle.plan.specs.Plan.{Tables, areTables, planRefusal, isPlanned, fresh, blank, filled, recordOf, tablesOf}
 
 -- ---- the refusals of the input
 module _ (n : ℕ) (m l : List ℕ) (sized : Bool) where

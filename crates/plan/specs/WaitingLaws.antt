@@ -24,12 +24,12 @@ use Rattle.paths.specs.DistanceLaws.{distance-top}
 use Rattle.paths.specs.NextHops.{nextHops, Next}
 use Rattle.paths.specs.NextHopLaws.{bit-next, next-set, next-nearer}
 use Rattle.paths.specs.Pigeonhole.{Distinct}
+use Rattle.order.specs.Rank.{Chain, routers, rank, IsRank}
+use Rattle.order.specs.RankLaws.{chain-distinct, rank-is, rank-less}
 use Rattle.changes.specs.Changes.{isRise}
 use Rattle.changes.specs.Root.{root}
 use Rattle.plan.specs.NewMetrics.{newMetrics}
 use Rattle.plan.specs.Waiting.{oldHops, newHops, waiting, telling, due}
-use Rattle.order.specs.Rank.{Chain, routers, rank, IsRank}
-use Rattle.order.specs.RankLaws.{chain-distinct, rank-is, rank-less}
 
 -- the members of a set, where the test holds of none beyond its width
 set-is : (w : ℕ) (p : ℕ → Bool) (k : ℕ) → (p k ≡ true → k < w) → (bit (setOf w p) k ≡ true) ↔ (p k ≡ true)

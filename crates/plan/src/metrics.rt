@@ -10,8 +10,8 @@ ghost use Prim.Native.Nat.{_≤_, _<_, _*_, _/_, _%_};
 ghost use lib.ListN.{length};
 ghost use Rattle.area.specs.Limits.{width};
 ghost use Rattle.area.specs.Tables.{tabulate};
-ghost use Rattle.plan.specs.NewMetrics.{newCell, newMetrics};
 ghost use Rattle.changes.specs.ChangeLaws.{Sound};
+ghost use Rattle.plan.specs.NewMetrics.{newCell, newMetrics};
 
 // The new metrics: the old ones, with every change put in.
 pub(crate) fn apply(n: usize, old: &[u32], list: &[u8], new: &mut [u32])

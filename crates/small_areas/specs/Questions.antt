@@ -12,21 +12,22 @@ use Rattle.paths.specs.Topology.{isLink, topology}
 use Rattle.paths.specs.Distance.{sums, least}
 use Rattle.paths.specs.NextHops.{isNext, nextHops}
 use Rattle.paths.specs.Paths.{isMetric, areMetrics, refusalOf, distanceCell, hopCell, distancesOf, hopsOf}
-use Rattle.plan.specs.declared.Record.{Record}
+use Rattle.order.specs.Rank.{greatest, above, longest, rank}
 use Rattle.changes.specs.Changes.{changeRefusal, isRise, isFall}
 use Rattle.changes.specs.Root.{isCommon}
+use Rattle.changes.specs.Judging.{faultRefusal, commonRefusal, listRefusal}
+use Rattle.plan.specs.declared.Record.{Record}
 use Rattle.plan.specs.NewMetrics.{newCell, newMetrics}
 use Rattle.plan.specs.Waiting.{oldHops, newHops, waiting, telling, due}
-use Rattle.order.specs.Rank.{greatest, above, longest, rank}
-use Rattle.plan.specs.Plan.{Tables, tables, areTables, changesRefusal, planRefusal, isPlanned, fresh, blank, filled, recordOf, tablesOf}
+use Rattle.plan.specs.Plan.{Tables, tables, areTables, planRefusal, isPlanned, fresh, blank, filled, recordOf, tablesOf}
 use Rattle.steps.specs.Answers.{Reply, refused}
 use Rattle.steps.specs.Machine.{learn, release, ready, write, finish, listens, deliver, isSound, isKind, readsB, areRouters, callOf, stepOf}
 use Rattle.steps.specs.Run.{callsOf, replies}
-use Rattle.text.specs.Text.{digits, decimal, field, line}
 use Rattle.bench_file.specs.Sections.{changes, steps}
+use Rattle.bench_file.specs.Read.{mostLinks, linkRefusal, restRefusal, fileRefusal, readRefusal, contents, nothing, contentsOf, linked, metricsOf}
+use Rattle.text.specs.Text.{digits, decimal, field, line}
 use Rattle.report.specs.Lines.{refusedLine, routerLine, routerLines, answerText, stepLine, stepLines}
 use Rattle.report.specs.Report.{rehearsal}
-use Rattle.bench_file.specs.Read.{mostLinks, linkRefusal, restRefusal, fileRefusal, readRefusal, contents, nothing, contentsOf, linked, metricsOf}
 
 pub data Question : Type 0 where
   -- the number with which Read refuses the file, or else Plan; 0 where the change is planned
@@ -96,7 +97,7 @@ unfolding readRefusal fileRefusal mostLinks linkRefusal restRefusal contentsOf c
     all first bit setOf added removed subset isCount isTable build tabulate perRouter count entryOf isFree entryRefusal listedRefusal listed
     isLink topology sums least Rattle.paths.specs.Distance.distance isNext nextHops isMetric areMetrics refusalOf distanceCell hopCell distancesOf hopsOf
     changeRefusal isRise isFall isCommon Rattle.changes.specs.Root.root newCell newMetrics oldHops newHops waiting telling due greatest above longest rank
-    areTables changesRefusal planRefusal isPlanned fresh blank filled recordOf tablesOf
+    areTables faultRefusal commonRefusal listRefusal planRefusal isPlanned fresh blank filled recordOf tablesOf
     learn release ready write finish listens deliver isSound isKind readsB areRouters callOf stepOf callsOf replies
     digits decimal field line Rattle.report.specs.Bench.refusal refusedLine routerLine routerLines answerText stepLine stepLines rehearsal
 answer f refusal = orThen (readRefusal f lent) (refusedBy f)

@@ -13,7 +13,6 @@ use Rattle.area.specs.declared.refusal.Refusal.{Refusal}
 use Rattle.area.specs.declared.refusal.Verdict.{Verdict}
 use Rattle.area.specs.Limits.{width}
 use Rattle.area.specs.Refusals.{verdictNumber}
-use Rattle.area.specs.TestLaws.{look}
 use Rattle.area.specs.SizeLaws.{count-true, count-low, count-high, table-true}
 use Rattle.changes.specs.declared.Judged.{Judged}
 use Rattle.changes.specs.Changes.{isRise}
