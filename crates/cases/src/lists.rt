@@ -2,16 +2,30 @@
 use crate::read::count;
 use crate::read::mark;
 use crate::read::number;
-ghost use Prim.Native.Nat.{_<_};
+use crate::read::value;
+ghost use Prim.Native.Nat.{_<_, _≤_};
 
-// Puts the changes of a line at the start of the list, and gives how many there are. c0>1=7 gives the link from router 0 to router 1 the metric 7, and
-// c0-1=7 first this link and then the other direction; H5=7 does so for all links of router 5; u61 takes back all but the first 61 changes.
-pub fn fill(list: &mut [u8; 320], line: &[u8]) -> usize {
+// Puts the changes of a line at the start of the list, and gives how many bytes they have, or what b9 says. c0>1=7 gives the link from router 0 to router 1
+// the metric 7, and c0-1=7 first this link and then the other direction; H5=7 does so for all links of router 5; u61 takes back all changes but 61.
+pub fn fill(list: &mut [u8; 320], line: &[u8]) -> usize
+    ensures { λ r. ⌜ r ≤ 320 ⌝ }
+{
     let mut e = 0;
     for k in 0..count(line) {
         e = word(list, e, line, k);
     }
-    e
+    bytes(line, e)
+}
+
+// How many bytes of the list are used, after e changes.
+fn bytes(line: &[u8], e: usize) -> usize
+    ensures { λ r. ⌜ r ≤ 320 ⌝ }
+{
+    if 64 < e {
+        return 320;
+    }
+    let most = value(line, b'b', 5 * e as u64);
+    if most < 320 { most as usize } else { 320 }
 }
 
 // The word whose first number is number k, after e changes. Gives how many there are then.

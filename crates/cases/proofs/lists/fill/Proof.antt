@@ -29,6 +29,9 @@ loop-less c = omega arith
 loop-again : tie.Need-loop-again Inv-loop μ-loop
 loop-again c = search needs
 
+bytes-requires : tie.Need-bytes-requires Inv-loop μ-loop
+bytes-requires c κs = omega arith
+
 returns : tie.Need-returns Inv-loop μ-loop
 returns c = search needs
 
@@ -44,4 +47,5 @@ fill-spec =
     add-k
     loop-less
     loop-again
+    bytes-requires
     returns)

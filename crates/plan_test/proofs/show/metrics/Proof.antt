@@ -1,10 +1,10 @@
--- `compare::metrics` is safe and ends. The loop has passed k of the 1024 cells and counted at most k of them.
+-- `show::metrics` is safe and ends. The loop has passed k of the 1024 cells and counted at most k of them.
 use mathlib.Core.Logic.{⊎-elim}
 use Prim.Native.Nat.{_-_, _≤_}
 use native.Mathlib.Omega.{arith}
 use borrow.Author.Needs.{needs}
-use Rattle.plan_test.proofs.compare.metrics.Statement.{statement}
-use Rattle.plan_test.proofs.compare.metrics.Tie as tie
+use Rattle.plan_test.proofs.show.metrics.Statement.{statement}
+use Rattle.plan_test.proofs.show.metrics.Tie as tie
 
 abbrev Inv-loop : tie.InvT-loop
 Inv-loop n table count₀ k₀ count k = (count ≤ k) × (k ≤ 1024)

@@ -1,15 +1,21 @@
--- `print::routers` is safe and ends. The loop has passed k of the 32 entries.
+-- `fresh::routers` is safe and ends. The loop has passed k of the 32 routers.
 use Prim.Native.Nat.{_-_, _≤_}
 use native.Mathlib.Omega.{arith}
 use borrow.Author.Needs.{needs}
-use Rattle.plan_test.proofs.print.routers.Statement.{statement}
-use Rattle.plan_test.proofs.print.routers.Tie as tie
+use Rattle.plan_test.proofs.fresh.routers.Statement.{statement}
+use Rattle.plan_test.proofs.fresh.routers.Tie as tie
 
 abbrev Inv-loop : tie.InvT-loop
 Inv-loop n r k₀ k = k ≤ 32
 
 abbrev μ-loop : tie.MeasureT-loop
 μ-loop n r k₀ k = 32 - k
+
+slice-aggregate-text : tie.Need-slice-aggregate-text Inv-loop μ-loop
+slice-aggregate-text c = omega arith
+
+text-requires : tie.Need-text-requires Inv-loop μ-loop
+text-requires c κs = omega arith
 
 loop-holds : tie.Need-loop-holds Inv-loop μ-loop
 loop-holds c = search needs
@@ -56,6 +62,8 @@ routers-spec =
     (tie.spec
     Inv-loop
     μ-loop
+    slice-aggregate-text
+    text-requires
     loop-holds
     element-copy-out-router
     mul-router

@@ -1,10 +1,28 @@
--- `run::sized` is safe and ends. The parts of the tables that are lent are as long as is asked, since the tables are not shorter.
+-- `call::plan` is safe and ends. The parts of the tables that are lent are as long as is asked, since the tables are not shorter.
 use mathlib.Core.Path.{sym}
+use lib.Seq.{length-take-le}
 use native.Mathlib.Omega.{arith}
 use borrow.Author.Needs.{needs}
-use lib.Seq.{length-take-le}
-use Rattle.plan_test.proofs.run.sized.Statement.{statement}
-use Rattle.plan_test.proofs.run.sized.Tie as tie
+use Rattle.plan_test.proofs.call.plan.Statement.{statement}
+use Rattle.plan_test.proofs.call.plan.Tie as tie
+
+value-requires : tie.Need-value-requires
+value-requires c κs = search needs
+
+size-requires : tie.Need-size-requires
+size-requires c κs = search needs
+
+size-requires-2 : tie.Need-size-requires-2
+size-requires-2 c κs = search needs
+
+size-requires-3 : tie.Need-size-requires-3
+size-requires-3 c κs = search needs
+
+size-requires-4 : tie.Need-size-requires-4
+size-requires-4 c κs = search needs
+
+size-requires-5 : tie.Need-size-requires-5
+size-requires-5 c κs = search needs
 
 array-borrow-prefix-new : tie.Need-array-borrow-prefix-new
 array-borrow-prefix-new c = search needs
@@ -39,28 +57,22 @@ slice-aggregate-plan-5 c = sym (length-take-le _ _ (omega arith))
 plan-requires : tie.Need-plan-requires
 plan-requires c κs = search needs
 
-heading-requires : tie.Need-heading-requires
-heading-requires c κs = search needs
-
-number-requires : tie.Need-number-requires
-number-requires c κs = search needs
-
-accepted-requires : tie.Need-accepted-requires
-accepted-requires c κs = search needs
-
-refused-requires : tie.Need-refused-requires
-refused-requires c κs = search needs
+planned-requires : tie.Need-planned-requires
+planned-requires c κs = search needs
 
 returns : tie.Need-returns
 returns c = search needs
 
-returns-2 : tie.Need-returns-2
-returns-2 c = search needs
-
-pub sized-spec : {M : Type 1} → statement M
-sized-spec =
+pub plan-spec : {M : Type 1} → statement M
+plan-spec =
     tie.close
     (tie.spec
+    value-requires
+    size-requires
+    size-requires-2
+    size-requires-3
+    size-requires-4
+    size-requires-5
     array-borrow-prefix-new
     slice-aggregate-plan
     array-borrow-prefix-old-dist
@@ -72,9 +84,5 @@ sized-spec =
     array-borrow-prefix-new-hops
     slice-aggregate-plan-5
     plan-requires
-    heading-requires
-    number-requires
-    accepted-requires
-    refused-requires
-    returns
-    returns-2)
+    planned-requires
+    returns)
