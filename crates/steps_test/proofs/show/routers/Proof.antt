@@ -1,9 +1,9 @@
--- `print::routers` is safe and ends. The loop has passed k of the 32 entries.
+-- `show::routers` is safe and ends. The loop has passed k of the 32 routers.
 use Prim.Native.Nat.{_-_, _≤_}
 use native.Mathlib.Omega.{arith}
 use borrow.Author.Needs.{needs}
-use Rattle.steps_test.proofs.print.routers.Statement.{statement}
-use Rattle.steps_test.proofs.print.routers.Tie as tie
+use Rattle.steps_test.proofs.show.routers.Statement.{statement}
+use Rattle.steps_test.proofs.show.routers.Tie as tie
 
 abbrev Inv-loop : tie.InvT-loop
 Inv-loop r n k₀ k = k ≤ 32
@@ -13,6 +13,9 @@ abbrev μ-loop : tie.MeasureT-loop
 
 cast-n : tie.Need-cast-n Inv-loop μ-loop
 cast-n c = omega arith
+
+byte-requires : tie.Need-byte-requires Inv-loop μ-loop
+byte-requires c κs = omega arith
 
 loop-holds : tie.Need-loop-holds Inv-loop μ-loop
 loop-holds c = search needs
@@ -60,6 +63,7 @@ routers-spec =
     Inv-loop
     μ-loop
     cast-n
+    byte-requires
     loop-holds
     element-copy-out-router
     mul-router
