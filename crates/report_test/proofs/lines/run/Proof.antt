@@ -1,11 +1,11 @@
--- `cases::run` is safe and ends. The loop has passed `at` bytes, and the line that it is in begins at `from`.
+-- `lines::run` is safe and ends. The loop has passed `at` bytes, and the line that it is in begins at `from`.
 use mathlib.Core.Logic.{⊎-elim}
 use Prim.Native.Nat.{_-_, _≤_}
 use lib.ListN.{length}
 use native.Mathlib.Omega.{arith}
 use borrow.Author.Needs.{needs}
-use Rattle.report_test.proofs.cases.run.Statement.{statement}
-use Rattle.report_test.proofs.cases.run.Tie as tie
+use Rattle.report_test.proofs.lines.run.Statement.{statement}
+use Rattle.report_test.proofs.lines.run.Tie as tie
 
 abbrev Inv-loop : tie.InvT-loop
 Inv-loop text from₀ at₀ at-end from at = (from ≤ at) × (at ≤ length text)

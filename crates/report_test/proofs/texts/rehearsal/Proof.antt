@@ -1,13 +1,29 @@
--- `sizes::sized` is safe and ends. The parts of the tables that are lent are as long as is asked, since the tables are not shorter.
+-- `texts::rehearsal` is safe and ends. The parts of the tables that are lent are as long as is asked, since the tables are not shorter.
 use mathlib.Core.Path.{sym}
+use lib.ListN.{length}
+use lib.Seq.{length-take-le}
 use native.Mathlib.Omega.{arith}
 use borrow.Author.Needs.{needs}
-use lib.Seq.{length-take-le}
-use Rattle.report_test.proofs.sizes.sized.Statement.{statement}
-use Rattle.report_test.proofs.sizes.sized.Tie as tie
+use Rattle.report_test.proofs.texts.rehearsal.Statement.{statement}
+use Rattle.report_test.proofs.texts.rehearsal.Tie as tie
 
-name-requires : tie.Need-name-requires
-name-requires c κs = search needs
+size-requires : tie.Need-size-requires
+size-requires c κs = search needs
+
+size-requires-2 : tie.Need-size-requires-2
+size-requires-2 c κs = search needs
+
+size-requires-3 : tie.Need-size-requires-3
+size-requires-3 c κs = search needs
+
+size-requires-4 : tie.Need-size-requires-4
+size-requires-4 c κs = search needs
+
+size-requires-5 : tie.Need-size-requires-5
+size-requires-5 c κs = search needs
+
+size-requires-6 : tie.Need-size-requires-6
+size-requires-6 c κs = search needs
 
 array-borrow-prefix-old : tie.Need-array-borrow-prefix-old
 array-borrow-prefix-old c = search needs
@@ -45,29 +61,25 @@ array-borrow-prefix-new-hops c = search needs
 slice-aggregate-rehearse-6 : tie.Need-slice-aggregate-rehearse-6
 slice-aggregate-rehearse-6 c = sym (length-take-le _ _ (omega arith))
 
-slice-aggregate-rehearse-7 : tie.Need-slice-aggregate-rehearse-7
-slice-aggregate-rehearse-7 c = search needs
-
 rehearse-requires : tie.Need-rehearse-requires
 rehearse-requires c κs = search needs
 
-array-share-prefix-out : tie.Need-array-share-prefix-out
-array-share-prefix-out c = search needs
-
-slice-aggregate-text : tie.Need-slice-aggregate-text
-slice-aggregate-text c = search needs
-
-text-requires : tie.Need-text-requires
-text-requires c κs = search needs
+same-length : tie.Need-same-length
+same-length c = search needs
 
 returns : tie.Need-returns
 returns c = search needs
 
-pub sized-spec : {M : Type 1} → statement M
-sized-spec =
+pub rehearsal-spec : {M : Type 1} → statement M
+rehearsal-spec =
     tie.close
     (tie.spec
-    name-requires
+    size-requires
+    size-requires-2
+    size-requires-3
+    size-requires-4
+    size-requires-5
+    size-requires-6
     array-borrow-prefix-old
     slice-aggregate-rehearse
     array-borrow-prefix-new
@@ -80,9 +92,6 @@ sized-spec =
     slice-aggregate-rehearse-5
     array-borrow-prefix-new-hops
     slice-aggregate-rehearse-6
-    slice-aggregate-rehearse-7
     rehearse-requires
-    array-share-prefix-out
-    slice-aggregate-text
-    text-requires
+    same-length
     returns)
