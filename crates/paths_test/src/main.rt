@@ -1,21 +1,12 @@
-// Runs Paths on small areas, on areas of 32 routers and on bad input, and prints what it answers.
-mod accepted;
-mod compare;
-mod print;
-mod refused;
-mod tables;
+// Runs Paths on the cases of standard input, and prints what it answers.
+mod call;
+mod lines;
+mod show;
+
+use libc::STDIN_FILENO;
 
 fn main() {
-    accepted::worked_examples();
-    accepted::limits_of_metrics();
-    accepted::equal_costs();
-    accepted::one_way_links();
-    accepted::full_areas();
-    accepted::cells_not_read();
-    accepted::cells_beyond();
-    refused::router_counts();
-    refused::table_sizes();
-    refused::metrics();
-    refused::order();
-    refused::areas();
+    let mut input = [0u8; 8192];
+    let length = io::read_full(STDIN_FILENO, &mut input);
+    lines::run(&input[..length]);
 }

@@ -1,8 +1,7 @@
-// Prints the rehearsals, and some routes, of the files that standard input has, and the rehearsal of the largest file.
-mod cases;
+// Prints the rehearsals, and some routes, of the files of the cases of standard input.
+mod file;
 mod largest;
-mod print;
-mod sizes;
+mod lines;
 mod summary;
 mod texts;
 
@@ -11,8 +10,5 @@ use libc::STDIN_FILENO;
 fn main() {
     let mut input = [0u8; 16384];
     let length = io::read_full(STDIN_FILENO, &mut input);
-    cases::run(&input[..length]);
-    sizes::planned();
-    sizes::refused();
-    largest::run();
+    lines::run(&input[..length]);
 }

@@ -1,12 +1,22 @@
-// A long text by its length, a checksum, its first lines and its last ones.
-use crate::print;
+// A text, and of a long one its length, a checksum, its first lines and its last ones.
+use cases::print;
 ghost use Prim.Native.Nat.{_≤_, _<_};
 ghost use lib.ListN.{length};
 
-// The text of 32 routers and 4,096 steps: 34 lines, and the last three of 4,129.
 pub fn print(text: &[u8]) {
-    print::line(b"length ", text.len() as u64);
-    print::line(b"checksum ", checksum(text));
+    if text.len() < 10000 {
+        print::text(text);
+    } else {
+        short(text);
+    }
+}
+
+// The text of 32 routers and 4,096 steps: 34 lines, and the last three of 4,129.
+fn short(text: &[u8]) {
+    print::form(
+        b"length #\nchecksum #\n",
+        &[text.len() as u64, checksum(text)],
+    );
     let first = lines(text, 34);
     let last = lines(text, 4126);
     print::text(&text[0..first]);

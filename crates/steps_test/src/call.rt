@@ -1,12 +1,17 @@
-// Steps, and what they answer.
-use plan::Record;
+// The steps of a case: a step is a letter and one or two numbers, as W0.2.
+use cases::read;
 use steps::Answer;
-use steps::Machine;
-use steps::Stepped;
+ghost use Prim.Native.Nat.{_<_, _≤_};
+
+// Is number k of the words the first of a step?
+pub fn is_step(words: &[u8], k: usize) -> bool {
+    let letter = read::mark(words, k);
+    b'A' <= letter && letter <= b'Z'
+}
 
 // The kind of a step by its letter.
-pub fn kind(letter: u8) -> u8 {
-    match letter {
+pub fn kind(words: &[u8], k: usize) -> u8 {
+    match read::mark(words, k) {
         b'L' => 1,
         b'R' => 2,
         b'W' => 3,
@@ -18,16 +23,19 @@ pub fn kind(letter: u8) -> u8 {
     }
 }
 
-// A step by the method of its kind. Kinds that have none are left to `step`.
-pub fn method(now: Record, kind: u8, a: u8, b: u8) -> Stepped {
-    let machine = Machine { now };
-    match kind {
-        1 => machine.learn(a),
-        2 => machine.release(a),
-        3 => machine.write(a, b),
-        4 => machine.finish(a),
-        5 => machine.deliver(a, b),
-        _ => machine.step(kind, a, b),
+// The first byte after the kind.
+pub fn a(words: &[u8], k: usize) -> u8 {
+    (read::number(words, k) % 256) as u8
+}
+
+// The second one, or 0 where the step has one number.
+pub fn b(words: &[u8], k: usize) -> u8
+    requires { ⌜ k < 1000 ⌝ }
+{
+    if read::mark(words, k + 1) == b'.' {
+        a(words, k + 1)
+    } else {
+        0
     }
 }
 
@@ -38,4 +46,32 @@ pub fn number(answer: Answer) -> u8 {
         Answer::Ignored => 255,
         Answer::Refused(why) => why.number(),
     }
+}
+
+// Puts the bytes of the steps at the start of `bytes`, as far as there is room for them and two bytes more. Gives how many they are.
+pub fn fill(bytes: &mut [u8; 194], words: &[u8]) -> usize
+    ensures { λ r. ⌜ r ≤ 192 ⌝ }
+{
+    let mut at = 0;
+    for k in 0..read::count(words) {
+        at = put(bytes, at, words, k);
+    }
+    at
+}
+
+// The step that begins with number k, if there is one.
+fn put(bytes: &mut [u8; 194], at: usize, words: &[u8], k: usize) -> usize
+    requires { ⌜ (at ≤ 192) × (k < 1000) ⌝ }
+    ensures { λ r. ⌜ r ≤ 192 ⌝ }
+{
+    if !is_step(words, k) {
+        return at;
+    }
+    if 189 < at {
+        return at;
+    }
+    bytes[at] = kind(words, k);
+    bytes[at + 1] = a(words, k);
+    bytes[at + 2] = b(words, k);
+    at + 3
 }

@@ -1,23 +1,16 @@
-// Takes Plan's records and records made by hand through steps, and prints the answers and the records.
-mod areas;
+// Takes the records of the cases of standard input, Plan's and others, through steps, and prints the answers and the records.
 mod call;
 mod compare;
-mod print;
-mod reader;
+mod lines;
+mod others;
 mod records;
-mod refused;
-mod script;
-mod unplanned;
-mod whole;
+mod run;
+mod show;
+
+use libc::STDIN_FILENO;
 
 fn main() {
-    whole::rehearsal();
-    whole::rises();
-    whole::falls();
-    whole::messages();
-    refused::records_and_kinds();
-    refused::routers_and_states();
-    refused::sets();
-    refused::order();
-    unplanned::records();
+    let mut input = [0u8; 16384];
+    let length = io::read_full(STDIN_FILENO, &mut input);
+    lines::run(&input[..length]);
 }

@@ -1,35 +1,40 @@
 // Records: Plan's, and those made by hand.
-use crate::areas::byte;
-use crate::areas::set;
-use crate::reader::Reader;
+use cases::lists;
+use cases::read;
+use cases::tables;
 use plan::Record;
+ghost use Prim.Native.Nat.{_<_, _≤_};
 
-// The record with what a word of the record says.
-pub fn with_word(
-    now: Record,
-    r: Reader,
-    old: &[u32; 1024],
-    list: &[u8; 40],
-    changes: usize,
-) -> Record {
-    let x = r.numbers[0];
-    let y = r.numbers[1];
-    let z = r.numbers[2];
-    if r.letter == b'p' {
-        return planned(x as usize, old, list, changes);
+// The record with what the words say.
+pub fn with_words(left: Record, words: &[u8]) -> Record {
+    let mut r = left;
+    for k in 0..read::count(words) {
+        r = with_word(r, words, k);
     }
-    if r.letter == b'n' {
-        return blank(byte(x), byte(y), byte(z));
-    }
-    with_entry(now, r.letter, x as usize, y)
+    r
 }
 
-// A record in which all tables are 0.
-pub fn blank(n: u8, root: u8, direction: u8) -> Record {
+// The word whose first number is number k.
+fn with_word(r: Record, words: &[u8], k: usize) -> Record
+    requires { ⌜ k < 1000 ⌝ }
+{
+    let letter = read::mark(words, k);
+    let x = read::number(words, k);
+    if letter == b'p' {
+        return planned(x as usize, words);
+    }
+    if letter == b'n' {
+        return blank(x, read::value(words, b'r', 0), read::value(words, b'q', 0));
+    }
+    with_entry(r, letter, x as usize, read::number(words, k + 1))
+}
+
+// A record in which all else is 0.
+pub fn blank(n: u64, root: u64, direction: u64) -> Record {
     Record {
-        n,
-        root,
-        direction,
+        n: byte(n),
+        root: byte(root),
+        direction: byte(direction),
         ranks: [0; 32],
         waiting: [0; 32],
         telling: [0; 32],
@@ -56,21 +61,37 @@ fn with_entry(mut r: Record, letter: u8, i: usize, x: u64) -> Record {
     r
 }
 
-// Plan's record for the first changes of the list: all 0 where it refuses.
-fn planned(n: usize, old: &[u32; 1024], list: &[u8], changes: usize) -> Record {
+fn byte(x: u64) -> u8 {
+    (x % 256) as u8
+}
+
+fn set(x: u64) -> u32 {
+    (x % 4294967296) as u32
+}
+
+// Plan's record for the links and the changes of the words: all 0 where it refuses.
+fn planned(n: usize, words: &[u8]) -> Record {
+    let mut old = [0; 1025];
+    let mut list = [0; 320];
+    tables::fill(&mut old, words);
+    let bytes = lists::fill(&mut list, words);
+    plan(n, &old, &list, bytes)
+}
+
+fn plan(n: usize, old: &[u32; 1025], list: &[u8; 320], bytes: usize) -> Record
+    requires { ⌜ bytes ≤ 320 ⌝ }
+{
     let mut new = [0; 1024];
     let mut old_dist = [0; 1024];
     let mut new_dist = [0; 1024];
     let mut old_hops = [0; 1024];
     let mut new_hops = [0; 1024];
-    if list.len() / 5 < changes {
-        return blank(0, 0, 0);
-    }
-    let end = 5 * changes;
+    let table = &old[..];
+    let changes = &list[..];
     let p = plan::plan(
         n,
-        old,
-        &list[0..end],
+        &table[0..1024],
+        &changes[0..bytes],
         &mut new,
         &mut old_dist,
         &mut new_dist,

@@ -1,0 +1,46 @@
+// Calls of Paths. The first number of a case is n, and its mark says what is shown of the call.
+use crate::show;
+use cases::print;
+use cases::read;
+use cases::tables;
+ghost use Prim.Native.Nat.{_≤_};
+
+// What the two tables hold before a call: numbers that no call writes.
+pub const OLD_DISTANCE: u32 = 777777777;
+
+pub const OLD_SET: u32 = 888888888;
+
+// Paths, or with the mark i the test of n and the metrics alone.
+pub fn run(case: &[u8]) {
+    let mut metric = [0; 1025];
+    tables::fill(&mut metric, case);
+    if read::mark(case, 0) == b'i' {
+        area(case, &metric);
+    } else {
+        paths(case, &metric);
+    }
+}
+
+fn area(case: &[u8], metric: &[u32; 1025]) {
+    let all = &metric[..];
+    let cells = read::size(case, 0);
+    if paths::is_area(read::number(case, 0) as usize, &all[0..cells]) {
+        print::text(b" area\n");
+    } else {
+        print::text(b" no area\n");
+    }
+}
+
+// A call with the first cells of longer tables, so that a table can be one cell too short or too long.
+fn paths(case: &[u8], metric: &[u32; 1025]) {
+    let mut dist = [OLD_DISTANCE; 1025];
+    let mut hops = [OLD_SET; 1025];
+    let all = &metric[..];
+    let n = read::number(case, 0) as usize;
+    let cells = read::size(case, 0);
+    let distances = read::size(case, 1);
+    let sets = read::size(case, 2);
+    let v = paths::paths(n, &all[0..cells], &mut dist[..distances], &mut hops[..sets]);
+    print::form(b": #", &[v.number() as u64]);
+    show::call(case, n, &dist, &hops);
+}

@@ -1,0 +1,141 @@
+// What is shown of a call.
+use crate::call::NEW;
+use crate::call::NEW_DISTANCE;
+use crate::call::NEW_SET;
+use crate::call::OLD_DISTANCE;
+use crate::call::OLD_SET;
+use crate::fresh;
+use cases::compare;
+use cases::print;
+use plan::Planned;
+
+// The verdict and the record, and what became of the tables.
+pub fn planned(
+    n: usize,
+    p: Planned,
+    new: &[u32; 1025],
+    old_dist: &[u32; 1025],
+    new_dist: &[u32; 1025],
+    old_hops: &[u32; 1025],
+    new_hops: &[u32; 1025],
+) {
+    if record(n, p) {
+        way(n, old_dist, new_dist, old_hops, new_hops);
+        checksums(n, new, old_dist, new_dist, old_hops, new_hops);
+    } else {
+        changed(new, old_dist, new_dist, old_hops, new_hops);
+    }
+}
+
+// The number of the verdict and what the record says of the whole area; then, where Plan accepts, its routers. Does Plan accept?
+fn record(n: usize, p: Planned) -> bool {
+    let v = p.answer;
+    let r = p.record;
+    let stray = fresh::stray(r);
+    print::form(
+        b": # routers # root # direction # stray #",
+        &[
+            v.number() as u64,
+            r.n as u64,
+            r.root as u64,
+            r.direction as u64,
+            stray,
+        ],
+    );
+    if v.number() != 0 {
+        return false;
+    }
+    fresh::routers(n, r);
+    true
+}
+
+// The distances and the next-hop sets from router 0 to the last router, the old before the new.
+fn way(
+    n: usize,
+    old_dist: &[u32; 1025],
+    new_dist: &[u32; 1025],
+    old_hops: &[u32; 1025],
+    new_hops: &[u32; 1025],
+) {
+    if n < 1 {
+        return;
+    }
+    if 32 < n {
+        return;
+    }
+    let k = n - 1;
+    pair(k, old_dist[k], new_dist[k], old_hops[k], new_hops[k]);
+}
+
+fn pair(k: usize, old_dist: u32, new_dist: u32, old_hops: u32, new_hops: u32) {
+    print::form(
+        b"from 0 to # distances # # hops # #\n",
+        &[
+            k as u64,
+            old_dist as u64,
+            new_dist as u64,
+            old_hops as u64,
+            new_hops as u64,
+        ],
+    );
+}
+
+// In how many cells outside the pairs a new metric stands, and a checksum of each table.
+fn checksums(
+    n: usize,
+    new: &[u32; 1025],
+    old_dist: &[u32; 1025],
+    new_dist: &[u32; 1025],
+    old_hops: &[u32; 1025],
+    new_hops: &[u32; 1025],
+) {
+    print::form(
+        b"metrics # tables # # # # #\n",
+        &[
+            metrics(n, new),
+            compare::checksum(new),
+            compare::checksum(old_dist),
+            compare::checksum(new_dist),
+            compare::checksum(old_hops),
+            compare::checksum(new_hops),
+        ],
+    );
+}
+
+// How many cells that belong to no pair of the n routers have a metric in them.
+fn metrics(n: usize, table: &[u32; 1025]) -> u64 {
+    let mut count = 0;
+    for k in 0..1024 {
+        if is_metric(n, k, table[k]) {
+            count += 1;
+        }
+    }
+    count
+}
+
+fn is_metric(n: usize, k: usize, m: u32) -> bool {
+    if k / 32 < n && k % 32 < n && k / 32 != k % 32 {
+        return false;
+    }
+    m != 16777215
+}
+
+// How many cells of each table changed.
+fn changed(
+    new: &[u32; 1025],
+    old_dist: &[u32; 1025],
+    new_dist: &[u32; 1025],
+    old_hops: &[u32; 1025],
+    new_hops: &[u32; 1025],
+) {
+    print::form(
+        b" changed # # # # #\n",
+        &[
+            compare::changed(new, NEW),
+            compare::changed(old_dist, OLD_DISTANCE),
+            compare::changed(new_dist, NEW_DISTANCE),
+            compare::changed(old_hops, OLD_SET),
+            compare::changed(new_hops, NEW_SET),
+        ],
+    );
+}

@@ -1,0 +1,35 @@
+// The file of a case.
+use crate::largest;
+use crate::texts;
+use area::limits::LARGEST;
+use cases::read;
+
+// With a word l17564 it is so many bytes of the largest file.
+pub fn run(words: &[u8], hexadecimal: &[u8]) {
+    let length = read::value(words, b'l', 0) as usize;
+    if 0 < length {
+        by_rule(words, length);
+    } else {
+        written(words, hexadecimal);
+    }
+}
+
+fn written(words: &[u8], hexadecimal: &[u8]) {
+    let mut file = [0u8; 8192];
+    let length = hex::unhex(hexadecimal, &mut file);
+    texts::print(words, &file[..length]);
+}
+
+fn by_rule(words: &[u8], length: usize) {
+    let mut file = [0u8; LARGEST + 1];
+    largest::fill(&mut file);
+    lend(words, &file, length);
+}
+
+fn lend(words: &[u8], file: &[u8; LARGEST + 1], length: usize) {
+    let all = &file[..];
+    if all.len() < length {
+        return;
+    }
+    texts::print(words, &all[0..length]);
+}

@@ -1,0 +1,60 @@
+// Runs the steps of a case.
+use crate::call;
+use crate::compare;
+use crate::others;
+use crate::show;
+use cases::print;
+use cases::read;
+use plan::Record;
+use steps::Machine;
+ghost use Prim.Native.Nat.{_<_};
+
+// Takes the steps one by one, and gives the last record.
+pub fn steps(first: Record, words: &[u8]) -> Record {
+    let mut now = first;
+    let mut differing = 0;
+    for k in 0..read::count(words) {
+        // No line is long enough for this sum to wrap.
+        differing = std::num::wrapping_add_u64(differing, others::differing(now, words, k));
+        now = step(now, words, k);
+    }
+    show::routers(now);
+    print::form(b"; methods # run", &[differing]);
+    whole(first, now, words);
+    now
+}
+
+// The step that begins with number k, if there is one.
+fn step(now: Record, words: &[u8], k: usize) -> Record
+    requires { ⌜ k < 1000 ⌝ }
+{
+    if !call::is_step(words, k) {
+        return now;
+    }
+    let stepped = Machine { now }.step(call::kind(words, k), call::a(words, k), call::b(words, k));
+    let next = stepped.next;
+    let answer = stepped.answer;
+    show::step(words, k);
+    show::answer(call::number(answer), compare::records(now, next));
+    next
+}
+
+// In how many entries the last record differs where the steps are taken from their bytes, and from these and one or two more, which would begin a learn of
+// router 1.
+fn whole(first: Record, last: Record, words: &[u8]) {
+    let mut bytes = [1; 194];
+    let end = call::fill(&mut bytes, words);
+    again(first, last, &bytes, end);
+    again(first, last, &bytes, end + 1);
+    again(first, last, &bytes, end + 2);
+    print::text(b"\n");
+}
+
+fn again(first: Record, last: Record, bytes: &[u8; 194], end: usize) {
+    let all = &bytes[..];
+    if all.len() < end {
+        return;
+    }
+    let now = steps::run(first, &all[0..end]);
+    print::form(b" #", &[compare::records(last, now)]);
+}
