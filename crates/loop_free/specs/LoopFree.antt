@@ -12,8 +12,8 @@ use Rattle.plan.specs.declared.Record.{Record}
 use Rattle.plan.specs.NewMetrics.{newMetrics}
 use Rattle.plan.specs.Waiting.{oldHops, newHops}
 use Rattle.convergence.specs.Pointers.{pointers, Along, Prolonged}
-use Rattle.steps.specs.Machine.{writtenOf}
-use Rattle.steps.specs.Run.{Call, run, hasWritten}
+use Rattle.machine.specs.Machine.{writtenOf}
+use Rattle.machine.specs.Run.{Call, run, hasWritten}
 
 -- Where each router points toward d after the calls: to its new next hops if it has written d, and to its old ones if not.
 abbrev pub pointsTo : ℕ → List ℕ → List ℕ → Record → List Call → ℕ → ℕ → ℕ

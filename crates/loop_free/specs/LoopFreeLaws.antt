@@ -28,10 +28,10 @@ use Rattle.plan.specs.PlanLaws.{Plan, plan-of, planned-true, record-planned}
 use Rattle.plan.specs.FreshLaws.{plan-elsewhere, plan-rises, plan-falls, fresh-count, fresh-waiting, fresh-due}
 use Rattle.convergence.specs.Change.{Change, Part, Sets, Ordered, WaitsRise, WaitsFall}
 use Rattle.convergence.specs.Convergence.{Safe, rise, fall}
-use Rattle.steps.specs.Machine.{done, stateOf, waitingOf, dueOf, writtenOf}
-use Rattle.steps.specs.Run.{Call, run, hasWritten}
+use Rattle.machine.specs.Machine.{done, stateOf, waitingOf, dueOf, writtenOf}
+use Rattle.machine.specs.Run.{Call, run, hasWritten}
 use Rattle.loop_free.specs.LoopFree.{pointsTo, LoopFree}
-use Rattle.steps.specs.RunLaws.{Kept, run-kept, run-bit, run-written, fresh-start}
+use Rattle.machine.specs.RunLaws.{Kept, run-kept, run-bit, run-written, fresh-start}
 
 -- ---- sets that hold exactly the next hops toward d
 abbrev Exact : ℕ → ℕ → (ℕ → ℕ → ℕ) → (ℕ → ℕ) → Type 0

@@ -5,7 +5,7 @@ use lib.Dec.{eqb}
 use Rattle.area.specs.Tests.{pick}
 use Rattle.text.specs.Text.{word}
 use Rattle.plan.specs.Plan.{Tables}
-use Rattle.steps.specs.Run.{replies, callsOf}
+use Rattle.machine.specs.Run.{replies, callsOf}
 use Rattle.bench_file.specs.Sections.{routers, steps}
 use Rattle.report.specs.Bench.{refusal, planned, tablesOf}
 use Rattle.report.specs.Lines.{refusedLine, routerLines, stepLines, routeLines}

@@ -25,7 +25,7 @@ use Rattle.plan.specs.declared.Record.{Record}
 use Rattle.plan.specs.Plan.{Tables}
 use Rattle.plan.specs.PlanLaws.{filled-size}
 use Rattle.plan.specs.FreshLaws.{fresh-count}
-use Rattle.steps.specs.Run.{replies, callsOf}
+use Rattle.machine.specs.Run.{replies, callsOf}
 use Rattle.bench_file.specs.declared.Contents.{Contents}
 use Rattle.bench_file.specs.Sections.{routers, changes, stepCount, stepsAt, steps, largest}
 use Rattle.bench_file.specs.Read.{readRefusal}

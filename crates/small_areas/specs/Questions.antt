@@ -19,9 +19,9 @@ use Rattle.plan.specs.NewMetrics.{newCell, newMetrics}
 use Rattle.plan.specs.Waiting.{oldHops, newHops, waiting, telling, due}
 use Rattle.plan.specs.Rank.{greatest, above, longest, rank}
 use Rattle.plan.specs.Plan.{Tables, tables, areTables, changesRefusal, planRefusal, isPlanned, fresh, blank, filled, recordOf, tablesOf}
-use Rattle.steps.specs.Answers.{Reply, refused}
-use Rattle.steps.specs.Machine.{learn, release, ready, write, finish, listens, deliver, isSound, isKind, readsB, areRouters, callOf, stepOf}
-use Rattle.steps.specs.Run.{callsOf, replies}
+use Rattle.machine.specs.Answers.{Reply, refused}
+use Rattle.machine.specs.Machine.{learn, release, ready, write, finish, listens, deliver, isSound, isKind, readsB, areRouters, callOf, stepOf}
+use Rattle.machine.specs.Run.{callsOf, replies}
 use Rattle.text.specs.Text.{digits, decimal, field, line}
 use Rattle.bench_file.specs.Sections.{changes, steps}
 use Rattle.report.specs.Lines.{refusedLine, routerLine, routerLines, answerText, stepLine, stepLines}

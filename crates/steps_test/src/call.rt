@@ -1,6 +1,6 @@
 // Steps, and what they answer.
+use machine::Answer;
 use plan::Record;
-use steps::Answer;
 use steps::Machine;
 use steps::Stepped;
 
