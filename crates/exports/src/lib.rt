@@ -4,7 +4,7 @@ use calls::step;
 use machine::Answer;
 use plan::Record;
 ghost use mathlib.Core.Path.{_≡_};
-ghost use Rattle.paths.specs.Paths.{refusalOf, distancesOf, hopsOf};
+ghost use Rattle.topology.specs.Paths.{refusalOf, distancesOf, hopsOf};
 ghost use Rattle.plan.specs.declared.Record.{Record};
 ghost use Rattle.plan.specs.Plan.{tables, areTables, planRefusal, recordOf, tablesOf};
 ghost use Rattle.machine.specs.Answers.{replyOf};

@@ -14,11 +14,11 @@ use Rattle.area.specs.Sets.{bit, setOf, added, removed, subset}
 use Rattle.area.specs.Tables.{build, tabulate, perRouter}
 use Rattle.area.specs.Entries.{count, entryOf, isFree, entryRefusal, listedRefusal, listed}
 use Rattle.area.specs.Sizes.{isCount, isTable}
-use Rattle.paths.specs.Topology.{isLink, topology}
-use Rattle.paths.specs.Distance.{sums, least, distance}
-use Rattle.paths.specs.NextHops.{isNext, nextHops}
-use Rattle.paths.specs.Pigeonhole.{Distinct}
-use Rattle.paths.specs.Paths.{isMetric, areMetrics}
+use Rattle.topology.specs.Topology.{isLink, topology}
+use Rattle.topology.specs.Distance.{sums, least, distance}
+use Rattle.topology.specs.NextHops.{isNext, nextHops}
+use Rattle.topology.specs.Pigeonhole.{Distinct}
+use Rattle.topology.specs.Paths.{isMetric, areMetrics}
 use Rattle.plan.specs.declared.Record.{Record}
 use Rattle.plan.specs.Changes.{changeRefusal, isRise, isFall}
 use Rattle.plan.specs.Root.{isCommon, root}

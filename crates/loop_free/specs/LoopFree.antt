@@ -5,9 +5,9 @@ use mathlib.Core.Path.{_≡_}
 use mathlib.Core.List.{List, _∷_}
 use Rattle.area.specs.Limits.{unreached}
 use Rattle.area.specs.Sets.{setOf}
-use Rattle.paths.specs.Topology.{topology}
-use Rattle.paths.specs.Distance.{distance}
-use Rattle.paths.specs.Pigeonhole.{Distinct}
+use Rattle.topology.specs.Topology.{topology}
+use Rattle.topology.specs.Distance.{distance}
+use Rattle.topology.specs.Pigeonhole.{Distinct}
 use Rattle.plan.specs.declared.Record.{Record}
 use Rattle.plan.specs.NewMetrics.{newMetrics}
 use Rattle.plan.specs.Waiting.{oldHops, newHops}

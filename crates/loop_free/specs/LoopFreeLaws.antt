@@ -14,9 +14,9 @@ use Rattle.area.specs.Limits.{width, unused}
 use Rattle.area.specs.TestLaws.{look, same-test}
 use Rattle.area.specs.Sets.{bit, setOf}
 use Rattle.area.specs.SetLaws.{same-members, member-some}
-use Rattle.paths.specs.Topology.{topology}
-use Rattle.paths.specs.TopologyLaws.{topology-graph}
-use Rattle.paths.specs.NextHops.{Next}
+use Rattle.topology.specs.Topology.{topology}
+use Rattle.topology.specs.TopologyLaws.{topology-graph}
+use Rattle.topology.specs.NextHops.{Next}
 use Rattle.plan.specs.declared.Record.{Record}
 use Rattle.plan.specs.Changes.{isRise}
 use Rattle.plan.specs.Root.{root}

@@ -13,8 +13,8 @@ use Rattle.area.specs.SetLaws.{setOf-same}
 use Rattle.area.specs.Tables.{cell, tabulate, perRouter}
 use Rattle.area.specs.TableLaws.{cell-tabulate}
 use Rattle.area.specs.PerRouterLaws.{per-at, per-same}
-use Rattle.paths.specs.Paths.{hopCell}
-use Rattle.paths.specs.PathsLaws.{hops-in}
+use Rattle.topology.specs.Paths.{hopCell}
+use Rattle.topology.specs.PathsLaws.{hops-in}
 use Rattle.plan.specs.Changes.{isRise}
 use Rattle.plan.specs.Root.{root}
 use Rattle.plan.specs.NewMetrics.{newMetrics}

@@ -10,7 +10,7 @@ use Rattle.area.specs.Tests.{pick}
 use Rattle.area.specs.Tables.{tabulate, perRouter}
 use Rattle.area.specs.Entries.{count}
 use Rattle.area.specs.Sizes.{isCount, isTable}
-use Rattle.paths.specs.Paths.{areMetrics, distanceCell, hopCell}
+use Rattle.topology.specs.Paths.{areMetrics, distanceCell, hopCell}
 use Rattle.plan.specs.declared.Record.{Record}
 use Rattle.plan.specs.Changes.{firstRefusal, isRise, isFall}
 use Rattle.plan.specs.Root.{isCommon, root}

@@ -19,8 +19,8 @@ use Rattle.area.specs.TestLaws.{look, both-true, or-cases, or-left, or-right}
 use Rattle.area.specs.Entries.{count}
 use Rattle.area.specs.Sizes.{isCount, isTable}
 use Rattle.area.specs.SizeLaws.{count-true, table-true, table-size}
-use Rattle.paths.specs.Paths.{areMetrics, distanceCell, hopCell}
-use Rattle.paths.specs.PathsLaws.{Ready, area-ready, area-metrics}
+use Rattle.topology.specs.Paths.{areMetrics, distanceCell, hopCell}
+use Rattle.topology.specs.PathsLaws.{Ready, area-ready, area-metrics}
 use Rattle.plan.specs.Changes.{firstRefusal, isRise, isFall}
 use Rattle.plan.specs.NewMetrics.{newCell, newMetrics}
 use Rattle.plan.specs.Root.{isCommon, root}

@@ -6,8 +6,8 @@ use lib.Dec.{eqb}
 use Rattle.area.specs.Limits.{width}
 use Rattle.area.specs.Tests.{pick}
 use Rattle.area.specs.Sets.{bit, setOf}
-use Rattle.paths.specs.Topology.{topology}
-use Rattle.paths.specs.NextHops.{nextHops}
+use Rattle.topology.specs.Topology.{topology}
+use Rattle.topology.specs.NextHops.{nextHops}
 use Rattle.plan.specs.Changes.{isRise}
 use Rattle.plan.specs.Root.{root}
 use Rattle.plan.specs.NewMetrics.{newMetrics}

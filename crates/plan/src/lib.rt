@@ -14,7 +14,7 @@ ghost use Rattle.area.specs.Limits.{width};
 ghost use Rattle.area.specs.Refusals.{verdictNumber};
 ghost use Rattle.area.specs.Tables.{tabulate};
 ghost use Rattle.area.specs.Entries.{count};
-ghost use Rattle.paths.specs.Paths.{hopCell};
+ghost use Rattle.topology.specs.Paths.{hopCell};
 ghost use Rattle.plan.specs.NewMetrics.{newMetrics};
 ghost use Rattle.plan.specs.Plan.{tables, areTables, planRefusal, fresh, blank, filled, recordOf, tablesOf};
 ghost use Rattle.plan.specs.ChangeLaws.{Sound};

@@ -8,10 +8,10 @@ use Rattle.area.specs.Sets.{bit, setOf, added, removed, subset}
 use Rattle.area.specs.Sizes.{isCount, isTable}
 use Rattle.area.specs.Tables.{cell, build, tabulate, perRouter}
 use Rattle.area.specs.Entries.{count, entryOf, isFree, entryRefusal, listedRefusal, listed}
-use Rattle.paths.specs.Topology.{isLink, topology}
-use Rattle.paths.specs.Distance.{sums, least}
-use Rattle.paths.specs.NextHops.{isNext, nextHops}
-use Rattle.paths.specs.Paths.{isMetric, areMetrics, refusalOf, distanceCell, hopCell, distancesOf, hopsOf}
+use Rattle.topology.specs.Topology.{isLink, topology}
+use Rattle.topology.specs.Distance.{sums, least}
+use Rattle.topology.specs.NextHops.{isNext, nextHops}
+use Rattle.topology.specs.Paths.{isMetric, areMetrics, refusalOf, distanceCell, hopCell, distancesOf, hopsOf}
 use Rattle.plan.specs.declared.Record.{Record}
 use Rattle.plan.specs.Changes.{changeRefusal, isRise, isFall}
 use Rattle.plan.specs.Root.{isCommon}
@@ -94,7 +94,7 @@ replied f = replies (planned f) (callsOf (steps f))
 unfoldable pub answer : List ℕ → (q : Question) → Value q
 unfolding readRefusal fileRefusal mostLinks linkRefusal restRefusal contentsOf contents nothing metricsOf linked
     all first bit setOf added removed subset isCount isTable build tabulate perRouter count entryOf isFree entryRefusal listedRefusal listed
-    isLink topology sums least Rattle.paths.specs.Distance.distance isNext nextHops isMetric areMetrics refusalOf distanceCell hopCell distancesOf hopsOf
+    isLink topology sums least Rattle.topology.specs.Distance.distance isNext nextHops isMetric areMetrics refusalOf distanceCell hopCell distancesOf hopsOf
     changeRefusal isRise isFall isCommon Rattle.plan.specs.Root.root newCell newMetrics oldHops newHops waiting telling due greatest above longest rank
     areTables changesRefusal planRefusal isPlanned fresh blank filled recordOf tablesOf
     learn release ready write finish listens deliver isSound isKind readsB areRouters callOf stepOf callsOf replies

@@ -13,8 +13,8 @@ use Rattle.area.specs.Limits.{width, mostChanges}
 use Rattle.area.specs.Refusals.{verdictNumber}
 use Rattle.area.specs.Entries.{count}
 use Rattle.area.specs.SizeLaws.{count-true, count-low, count-high, table-true}
-use Rattle.paths.specs.Paths.{areMetrics, isArea}
-use Rattle.paths.specs.PathsLaws.{area-metrics}
+use Rattle.topology.specs.Paths.{areMetrics, isArea}
+use Rattle.topology.specs.PathsLaws.{area-metrics}
 use Rattle.plan.specs.Plan.{changesRefusal, planRefusal}
 use Rattle.plan.specs.PlanLaws.{plan-count, plan-tables, plan-metrics, plan-cut, plan-many, plan-none, plan-changes}
 use Rattle.plan.proofs.judge.input.Statement.{statement}
