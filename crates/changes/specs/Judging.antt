@@ -7,7 +7,7 @@ use lib.ListN.{length}
 use Rattle.area.specs.Limits.{mostChanges}
 use Rattle.area.specs.Tests.{pick, orThen}
 use Rattle.area.specs.Entries.{count}
-use Rattle.paths.specs.Paths.{isArea}
+use Rattle.topology.specs.Paths.{isArea}
 use Rattle.changes.specs.Changes.{firstRefusal, isRise, isFall}
 use Rattle.changes.specs.Root.{isCommon, root}
 

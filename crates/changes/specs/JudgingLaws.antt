@@ -18,7 +18,7 @@ use Rattle.area.specs.Limits.{mostChanges}
 use Rattle.area.specs.Tests.{pick}
 use Rattle.area.specs.TestLaws.{look, or-cases, or-left, or-right, then-some, then-none, then-both}
 use Rattle.area.specs.Entries.{count}
-use Rattle.paths.specs.Paths.{isArea}
+use Rattle.topology.specs.Paths.{isArea}
 use Rattle.changes.specs.Changes.{firstRefusal, isRise, isFall}
 use Rattle.changes.specs.Root.{isCommon, root}
 use Rattle.changes.specs.Judging.{faultRefusal, commonRefusal, listRefusal, judgedRefusal, judgedRoot, judgedRise}

@@ -10,12 +10,12 @@ use native.Mathlib.Omega.{arith}
 use lib.ListN.{length}
 use Rattle.area.specs.Limits.{unreached}
 use Rattle.area.specs.Sets.{bit}
-use Rattle.paths.specs.Walk.{Walk, stay, link}
-use Rattle.paths.specs.Distance.{distance}
-use Rattle.paths.specs.Pigeonhole.{pigeonhole}
-use Rattle.paths.specs.WalkLaws.{Graph}
-use Rattle.paths.specs.DistanceLaws.{distance-walk}
-use Rattle.paths.specs.NextHopLaws.{next-nearer, some-next}
+use Rattle.topology.specs.Walk.{Walk, stay, link}
+use Rattle.topology.specs.Distance.{distance}
+use Rattle.topology.specs.Pigeonhole.{pigeonhole}
+use Rattle.topology.specs.WalkLaws.{Graph}
+use Rattle.topology.specs.DistanceLaws.{distance-walk}
+use Rattle.topology.specs.NextHopLaws.{next-nearer, some-next}
 use Rattle.convergence.specs.Pointers.{Along, last, Prolonged}
 use Rattle.convergence.specs.Change.{Part}
 use Rattle.convergence.specs.PointerLaws.{along-join, along-below, last-join}

@@ -5,8 +5,8 @@ use mathlib.Core.Path.{_≡_}
 use mathlib.Core.Bool.{Bool, true}
 use mathlib.Core.Logic.{_≢_, _↔_}
 use Rattle.area.specs.Sets.{bit}
-use Rattle.paths.specs.NextHops.{Next}
-use Rattle.paths.specs.WalkLaws.{Graph}
+use Rattle.topology.specs.NextHops.{Next}
+use Rattle.topology.specs.WalkLaws.{Graph}
 
 -- No link has a smaller metric in hi than in lo, and those that differ have the root as an end.
 pub record Change (n c : ℕ) (lo hi : ℕ → ℕ → ℕ) : Type 0 where

@@ -8,8 +8,8 @@ use mathlib.Core.List.{List}
 use native.Mathlib.Decide.{ℕ-discrete}
 use Rattle.area.specs.Limits.{unreached}
 use Rattle.area.specs.TestLaws.{look}
-use Rattle.paths.specs.Distance.{distance}
-use Rattle.paths.specs.NextHops.{Next}
+use Rattle.topology.specs.Distance.{distance}
+use Rattle.topology.specs.NextHops.{Next}
 use Rattle.convergence.specs.Pointers.{pointers, Along, NoRouterTwice, Prolonged}
 use Rattle.convergence.specs.Change.{Change, Sets, Ordered, WaitsRise, WaitsFall}
 use Rattle.convergence.specs.Separation.{Moment}

@@ -8,8 +8,8 @@ use mathlib.Core.List.{List, [], _∷_}
 use native.Mathlib.Decide.{ℕ-discrete}
 use native.Mathlib.Omega.{arith}
 use Rattle.area.specs.Sets.{bit}
-use Rattle.paths.specs.Distance.{distance}
-use Rattle.paths.specs.NextHopLaws.{next-nearer}
+use Rattle.topology.specs.Distance.{distance}
+use Rattle.topology.specs.NextHopLaws.{next-nearer}
 use Rattle.convergence.specs.Pointers.{Along, last, NoRouterTwice}
 use Rattle.convergence.specs.PointerLaws.{no-return}
 use Rattle.convergence.specs.Separation.{Moment, LoFrom, hi-next, separation, lo-on, lo-nearer}

@@ -9,8 +9,8 @@ use mathlib.Core.Logic.{_≢_, inl, inr}
 use mathlib.Core.List.{List, [], _∷_, _++_}
 use native.Mathlib.Omega.{arith}
 use Rattle.area.specs.Sets.{bit}
-use Rattle.paths.specs.Members.{_∈_}
-use Rattle.paths.specs.Pigeonhole.{Below}
+use Rattle.topology.specs.Members.{_∈_}
+use Rattle.topology.specs.Pigeonhole.{Below}
 use Rattle.convergence.specs.Pointers.{Along, last, NoRouterTwice}
 
 module _ (p : ℕ → ℕ) where

@@ -6,7 +6,7 @@ use mathlib.Core.List.{List, [], _∷_, _++_}
 use lib.ListN.{length}
 use Rattle.area.specs.Tests.{pick}
 use Rattle.area.specs.Sets.{bit}
-use Rattle.paths.specs.Pigeonhole.{Distinct}
+use Rattle.topology.specs.Pigeonhole.{Distinct}
 
 -- A router points to its new set once it has written the destination, and to its old set before.
 abbrev pub pointers : (old new : ℕ → ℕ) → (wrote : ℕ → Bool) → ℕ → ℕ

@@ -10,9 +10,9 @@ use mathlib.Core.Logic.{_≢_, _⊎_, inl, inr, ⊎-elim}
 use mathlib.Core.List.{List, [], _∷_}
 use native.Mathlib.Decide.{ℕ-discrete}
 use Rattle.area.specs.Sets.{bit}
-use Rattle.paths.specs.Distance.{distance}
-use Rattle.paths.specs.NextHops.{Next}
-use Rattle.paths.specs.NextHopLaws.{next-nearer}
+use Rattle.topology.specs.Distance.{distance}
+use Rattle.topology.specs.NextHops.{Next}
+use Rattle.topology.specs.NextHopLaws.{next-nearer}
 use Rattle.convergence.specs.Pointers.{Along, last}
 use Rattle.convergence.specs.Change.{Change, Sets}
 use Rattle.convergence.specs.ThroughRoot.{Through, toward-root, same-next}

@@ -8,10 +8,10 @@ use mathlib.Core.Logic.{_↔_}
 use native.Mathlib.Decide.{decLt}
 use native.Mathlib.Omega.{arith}
 use Rattle.area.specs.Limits.{unused, unreached}
-use Rattle.paths.specs.Walk.{Walk, stay, link, sum}
-use Rattle.paths.specs.Distance.{distance}
-use Rattle.paths.specs.NextHops.{Next}
-use Rattle.paths.specs.DistanceLaws.{distance-le, distance-walk, distance-top, distance-self, distance-link, distance-through}
+use Rattle.topology.specs.Walk.{Walk, stay, link, sum}
+use Rattle.topology.specs.Distance.{distance}
+use Rattle.topology.specs.NextHops.{Next}
+use Rattle.topology.specs.DistanceLaws.{distance-le, distance-walk, distance-top, distance-self, distance-link, distance-through}
 use Rattle.convergence.specs.Change.{Change}
 
 -- From x to d the way through c is a shortest one. It may hold too where x does not reach d, and then x has no next hops.

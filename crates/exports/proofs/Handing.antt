@@ -5,10 +5,10 @@ use mathlib.Core.List.{List}
 use Rattle.area.specs.Refusals.{refusalNumber}
 use Rattle.area.specs.declared.refusal.Refusal.{Refusal}
 use Rattle.plan.specs.declared.Record.{Record}
-use Rattle.steps.specs.declared.Answer.{Answer}
-use Rattle.steps.specs.declared.Answer.the-variants.{Refused}
-use Rattle.steps.specs.Answers.{Outcome, replyOf}
-use Rattle.steps.specs.Run.{run, callsOf}
+use Rattle.machine.specs.declared.Answer.{Answer}
+use Rattle.machine.specs.declared.Answer.the-variants.{Refused}
+use Rattle.machine.specs.Answers.{Outcome, replyOf}
+use Rattle.machine.specs.Run.{run, callsOf}
 use Rattle.exports.specs.Exports.{replyNumber}
 
 pub refused-number : (why : Refusal) {x : Answer} {k : ℕ} → k ≡ refusalNumber why → x ≡ Refused why → k ≡ replyNumber (replyOf x)

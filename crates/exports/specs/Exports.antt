@@ -2,8 +2,8 @@
 use Prim.Native.Nat.{ℕ}
 use mathlib.Core.List.{List, [], _∷_}
 use Rattle.plan.specs.declared.Record.{Record}
+use Rattle.machine.specs.Answers.{Reply, ok, ignored, refused}
 use Rattle.bench_file.specs.declared.Contents.{Contents}
-use Rattle.steps.specs.Answers.{Reply, ok, ignored, refused}
 
 -- the record whose fields are these
 abbrev pub recordFrom : (n root direction : ℕ) (ranks waiting telling due states written : List ℕ) → Record

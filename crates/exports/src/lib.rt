@@ -1,15 +1,15 @@
 // The bench for programs in C or Rust: each call under a plain name, with numbers, slices and arrays in place of structs and enums. A verdict is its number, 0 where nothing is refused. A record is lent field by field.
 use area::limits::WIDTH;
+use calls::step;
+use machine::Answer;
 use plan::Record;
-use steps::Answer;
-use steps::calls::step;
 ghost use mathlib.Core.Path.{_≡_};
-ghost use Rattle.paths.specs.Paths.{refusalOf, distancesOf, hopsOf};
+ghost use Rattle.topology.specs.Paths.{refusalOf, distancesOf, hopsOf};
 ghost use Rattle.plan.specs.declared.Record.{Record};
 ghost use Rattle.plan.specs.Plan.{tables, areTables, planRefusal, recordOf, tablesOf};
-ghost use Rattle.steps.specs.Answers.{replyOf};
-ghost use Rattle.steps.specs.Machine.{over, stepOf};
-ghost use Rattle.steps.specs.Run.{run, callsOf};
+ghost use Rattle.machine.specs.Answers.{replyOf};
+ghost use Rattle.machine.specs.Machine.{over, stepOf};
+ghost use Rattle.machine.specs.Run.{run, callsOf};
 ghost use Rattle.bench_file.specs.Read.{readRefusal, contentsOf, metricsOf};
 ghost use Rattle.text.specs.Text.{Appended};
 ghost use Rattle.report.specs.Report.{rehearsal, routes};

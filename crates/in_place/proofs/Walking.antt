@@ -47,10 +47,10 @@ use denote.Triple.Walked.{Stays, stay-none, AllGo, goes-none, Walks, walk-meets}
 use Rattle.plan.specs.declared.Record.{Record}
 use Rattle.plan.proofs.Record as R
 use Rattle.plan.proofs.Record.Laws as R′
-use Rattle.steps.specs.Answers.{outcomeOf}
-use Rattle.steps.specs.Machine.{stepOf}
-use Rattle.steps.proofs.Answer as N
-use Rattle.steps.proofs.Answer.Laws as N′
+use Rattle.machine.specs.Machine.{stepOf}
+use Rattle.machine.proofs.Answer as N
+use Rattle.machine.proofs.Answer.Laws as N′
+use Rattle.steps.specs.Outcomes.{outcomeOf}
 use Rattle.steps.specs.declared.Stepped.{Stepped}
 use Rattle.steps.proofs.Stepped as S
 use Rattle.steps.proofs.Stepped.Laws as S′

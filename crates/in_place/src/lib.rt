@@ -1,11 +1,12 @@
 // The bench's single record: one call changes it in place, with the effect of the machine's step.
+use machine::Answer;
 use plan::Record;
-use steps::Answer;
 use steps::Machine;
 use steps::Stepped;
 ghost use mathlib.Core.Path.{_≡_};
-ghost use Rattle.steps.specs.Answers.{replyOf, gives, outcomeOf};
-ghost use Rattle.steps.specs.Machine.{stepOf};
+ghost use Rattle.machine.specs.Answers.{replyOf, gives};
+ghost use Rattle.machine.specs.Machine.{stepOf};
+ghost use Rattle.steps.specs.Outcomes.{outcomeOf};
 
 // Takes a step of the lent record, leaves in it the record that the machine hands back, and gives the answer.
 pub fn apply(bench: &mut Record, kind: u8, a: u8, b: u8) -> Answer

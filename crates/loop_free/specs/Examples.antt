@@ -14,11 +14,11 @@ use Rattle.area.specs.Sets.{bit, setOf, added, removed, subset}
 use Rattle.area.specs.Tables.{build, tabulate, perRouter}
 use Rattle.area.specs.Entries.{count, entryOf, isFree, entryRefusal, listedRefusal, listed}
 use Rattle.area.specs.Sizes.{isCount, isTable}
-use Rattle.paths.specs.Topology.{isLink, topology}
-use Rattle.paths.specs.Distance.{sums, least, distance}
-use Rattle.paths.specs.NextHops.{isNext, nextHops}
-use Rattle.paths.specs.Pigeonhole.{Distinct}
-use Rattle.paths.specs.Paths.{isMetric, areMetrics}
+use Rattle.topology.specs.Topology.{isLink, topology}
+use Rattle.topology.specs.Distance.{sums, least, distance}
+use Rattle.topology.specs.NextHops.{isNext, nextHops}
+use Rattle.topology.specs.Pigeonhole.{Distinct}
+use Rattle.topology.specs.Paths.{isMetric, areMetrics}
 use Rattle.order.specs.Rank.{greatest, above, longest, rank}
 use Rattle.changes.specs.Changes.{changeRefusal, isRise, isFall}
 use Rattle.changes.specs.Root.{isCommon, root}
@@ -28,9 +28,9 @@ use Rattle.plan.specs.NewMetrics.{newCell, newMetrics}
 use Rattle.plan.specs.Waiting.{oldHops, newHops, waiting, telling, due}
 use Rattle.plan.specs.Plan.{Tables, tables, areTables, planRefusal, isPlanned, fresh, recordOf}
 use Rattle.convergence.specs.Pointers.{pointers, Along}
-use Rattle.steps.specs.Answers.{ok, ignored, refused}
-use Rattle.steps.specs.Machine.{learn, release, ready, write, finish, listens, deliver, isSound, isKind, readsB, areRouters, callOf, stepOf}
-use Rattle.steps.specs.Run.{Call, call, replies, hasWritten}
+use Rattle.machine.specs.Answers.{ok, ignored, refused}
+use Rattle.machine.specs.Machine.{learn, release, ready, write, finish, listens, deliver, isSound, isKind, readsB, areRouters, callOf, stepOf}
+use Rattle.machine.specs.Run.{Call, call, replies, hasWritten}
 use Rattle.loop_free.specs.LoopFree.{LoopFree}
 use Rattle.loop_free.specs.LoopFreeLaws.{loop-free}
 

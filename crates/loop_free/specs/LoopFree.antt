@@ -5,15 +5,15 @@ use mathlib.Core.Path.{_≡_}
 use mathlib.Core.List.{List, _∷_}
 use Rattle.area.specs.Limits.{unreached}
 use Rattle.area.specs.Sets.{setOf}
-use Rattle.paths.specs.Topology.{topology}
-use Rattle.paths.specs.Distance.{distance}
-use Rattle.paths.specs.Pigeonhole.{Distinct}
+use Rattle.topology.specs.Topology.{topology}
+use Rattle.topology.specs.Distance.{distance}
+use Rattle.topology.specs.Pigeonhole.{Distinct}
 use Rattle.plan.specs.declared.Record.{Record}
 use Rattle.plan.specs.NewMetrics.{newMetrics}
 use Rattle.plan.specs.Waiting.{oldHops, newHops}
 use Rattle.convergence.specs.Pointers.{pointers, Along, Prolonged}
-use Rattle.steps.specs.Machine.{writtenOf}
-use Rattle.steps.specs.Run.{Call, run, hasWritten}
+use Rattle.machine.specs.Machine.{writtenOf}
+use Rattle.machine.specs.Run.{Call, run, hasWritten}
 
 -- Where each router points toward d after the calls: to its new next hops if it has written d, and to its old ones if not.
 abbrev pub pointsTo : ℕ → List ℕ → List ℕ → Record → List Call → ℕ → ℕ → ℕ

@@ -14,9 +14,9 @@ use Rattle.area.specs.Limits.{width, unused}
 use Rattle.area.specs.TestLaws.{look, same-test}
 use Rattle.area.specs.Sets.{bit, setOf}
 use Rattle.area.specs.SetLaws.{same-members, member-some}
-use Rattle.paths.specs.Topology.{topology}
-use Rattle.paths.specs.TopologyLaws.{topology-graph}
-use Rattle.paths.specs.NextHops.{Next}
+use Rattle.topology.specs.Topology.{topology}
+use Rattle.topology.specs.TopologyLaws.{topology-graph}
+use Rattle.topology.specs.NextHops.{Next}
 use Rattle.changes.specs.Changes.{isRise}
 use Rattle.changes.specs.Root.{root}
 use Rattle.plan.specs.declared.Record.{Record}
@@ -28,9 +28,9 @@ use Rattle.plan.specs.PlanLaws.{Plan, plan-of, planned-true, record-planned}
 use Rattle.plan.specs.FreshLaws.{plan-elsewhere, plan-rises, plan-falls, fresh-count, fresh-waiting, fresh-due}
 use Rattle.convergence.specs.Change.{Change, Part, Sets, Ordered, WaitsRise, WaitsFall}
 use Rattle.convergence.specs.Convergence.{Safe, rise, fall}
-use Rattle.steps.specs.Machine.{done, stateOf, waitingOf, dueOf, writtenOf}
-use Rattle.steps.specs.Run.{Call, run, hasWritten}
-use Rattle.steps.specs.RunLaws.{Kept, run-kept, run-bit, run-written, fresh-start}
+use Rattle.machine.specs.Machine.{done, stateOf, waitingOf, dueOf, writtenOf}
+use Rattle.machine.specs.Run.{Call, run, hasWritten}
+use Rattle.machine.specs.RunLaws.{Kept, run-kept, run-bit, run-written, fresh-start}
 use Rattle.loop_free.specs.LoopFree.{pointsTo, LoopFree}
 
 -- ---- sets that hold exactly the next hops toward d

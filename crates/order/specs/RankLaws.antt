@@ -20,8 +20,8 @@ use lib.ListN.{length}
 use Rattle.area.specs.Tests.{pick}
 use Rattle.area.specs.TestLaws.{look}
 use Rattle.area.specs.Sets.{bit}
-use Rattle.paths.specs.Members.{_∈_}
-use Rattle.paths.specs.Pigeonhole.{Distinct, Below, pigeonhole}
+use Rattle.topology.specs.Members.{_∈_}
+use Rattle.topology.specs.Pigeonhole.{Distinct, Below, pigeonhole}
 use Rattle.order.specs.Rank.{Chain, alone, waits, links, routers, greatest, above, longest, rank, IsRank}
 
 -- ---- the greatest of f 0 .. f (n - 1)

@@ -1,19 +1,18 @@
 // Distances and next hops of one topology, by the metrics of its links.
 mod metrics;
-mod search;
 
 use area::limits::CELLS;
 use area::limits::WIDTH;
 use area::refusal::Refusal;
 use area::refusal::Verdict;
+use search::search;
 ghost use mathlib.Core.Path.{_≡_};
-ghost use Prim.Native.Nat.{_*_};
+ghost use Prim.Native.Nat.{_*_, _≤_};
 ghost use lib.ListN.{length};
 ghost use Rattle.area.specs.Limits.{width};
 ghost use Rattle.area.specs.Refusals.{verdictNumber};
 ghost use Rattle.area.specs.Tables.{tabulate};
-ghost use Rattle.paths.specs.Paths.{isArea, refusalOf, distancesOf, hopsOf, distanceCell, hopCell};
-ghost use Rattle.paths.specs.PathsLaws.{Ready};
+ghost use Rattle.topology.specs.Paths.{isArea, refusalOf, distancesOf, hopsOf, distanceCell, hopCell};
 
 // Paths: the distance and the next-hop set of every ordered pair of the n routers, or a refusal that writes no cell.
 pub fn paths(n: usize, metric: &[u32], dist: &mut [u32], hops: &mut [u32]) -> Verdict
@@ -61,7 +60,7 @@ pub fn is_area(n: usize, metric: &[u32]) -> bool
 
 // Both tables, row by row: the search for a source is lent that source's rows.
 fn fill(n: usize, metric: &[u32], dist: &mut [u32], hops: &mut [u32])
-    requires { ⌜ Ready n (now metric) ⌝ }
+    requires { ⌜ (n ≤ width) × (length (now metric) ≡ width * width) ⌝ }
     requires { ⌜ (length (now dist) ≡ width * width) × (length (now hops) ≡ width * width) ⌝ }
     ensures { λ _. ⌜ now (dist .exit) ≡ tabulate width (distanceCell n (now (metric .entry))) ⌝ }
     ensures { λ _. ⌜ now (hops .exit) ≡ tabulate width (hopCell n (now (metric .entry))) ⌝ }
@@ -69,6 +68,6 @@ fn fill(n: usize, metric: &[u32], dist: &mut [u32], hops: &mut [u32])
     for i in 0..WIDTH {
         let a = WIDTH * i;
         let b = a + WIDTH;
-        search::search(n, metric, i, &mut dist[a..b], &mut hops[a..b]);
+        search(n, metric, i, &mut dist[a..b], &mut hops[a..b]);
     }
 }

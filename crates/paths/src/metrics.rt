@@ -8,7 +8,7 @@ ghost use lib.Dec.{eqb};
 ghost use lib.ListN.{length};
 ghost use Rattle.area.specs.Limits.{width};
 ghost use Rattle.area.specs.Tests.{all};
-ghost use Rattle.paths.specs.Paths.{isMetric, areMetrics};
+ghost use Rattle.topology.specs.Paths.{isMetric, areMetrics};
 
 // Is the metric of every ordered pair of different routers 1 to 16,777,215?
 pub(crate) fn are_valid(n: usize, metric: &[u32]) -> bool

@@ -6,8 +6,8 @@ use lib.ListN.{getD}
 use Rattle.area.specs.Limits.{width}
 use Rattle.area.specs.Tables.{tabulate}
 use Rattle.area.specs.EntryLaws.{metric-fits}
-use Rattle.paths.specs.Paths.{hopCell, refusalOf, distancesOf, hopsOf}
-use Rattle.paths.specs.PathsLaws.{ready-accepted, distances-filled, hops-filled}
+use Rattle.topology.specs.Paths.{hopCell, refusalOf, distancesOf, hopsOf}
+use Rattle.topology.specs.PathsLaws.{ready-accepted, distances-filled, hops-filled}
 use Rattle.plan.specs.NewMetrics.{newMetrics}
 use Rattle.plan.specs.Plan.{Tables, tables, filled}
 use Rattle.plan.specs.MetricLaws.{new-ready}

@@ -13,8 +13,8 @@ use Rattle.area.specs.SetLaws.{setOf-same}
 use Rattle.area.specs.Tables.{cell, tabulate, perRouter}
 use Rattle.area.specs.TableLaws.{length-tabulate, cell-tabulate}
 use Rattle.area.specs.PerRouterLaws.{per-same}
-use Rattle.paths.specs.Paths.{hopCell}
-use Rattle.paths.specs.PathsLaws.{hops-in}
+use Rattle.topology.specs.Paths.{hopCell}
+use Rattle.topology.specs.PathsLaws.{hops-in}
 use Rattle.order.specs.Order.{waitingBy, tellingBy, dueBy, orderOf}
 use Rattle.order.specs.OrderLaws.{telling-same, ranks-same, order-waiting, order-telling, order-ranks, order-due}
 use Rattle.changes.specs.Changes.{isRise}

@@ -14,7 +14,7 @@ use Rattle.area.specs.Limits.{width}
 use Rattle.area.specs.TestLaws.{look}
 use Rattle.area.specs.Tables.{cell}
 use Rattle.area.specs.PerRouterLaws.{per-at, per-beyond, zeros-at}
-use Rattle.paths.specs.Topology.{topology}
+use Rattle.topology.specs.Topology.{topology}
 use Rattle.order.specs.Rank.{rank}
 use Rattle.changes.specs.Changes.{isRise, isFall}
 use Rattle.changes.specs.Root.{root}

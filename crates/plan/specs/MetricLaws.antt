@@ -21,10 +21,10 @@ use Rattle.area.specs.TestLaws.{and-false}
 use Rattle.area.specs.TableLaws.{length-tabulate, cell-tabulate}
 use Rattle.area.specs.Entries.{count, from, to, metric, isOf, listed}
 use Rattle.area.specs.EntryLaws.{of-pair, given-start, given-more, given-kept, given-cases}
-use Rattle.paths.specs.Paths.{isMetric}
-use Rattle.paths.specs.Topology.{topology}
-use Rattle.paths.specs.TopologyLaws.{topology-le, topology-same}
-use Rattle.paths.specs.PathsLaws.{Ready, metric-own, metric-good, metrics-at, metrics-true}
+use Rattle.topology.specs.Paths.{isMetric}
+use Rattle.topology.specs.Topology.{topology}
+use Rattle.topology.specs.TopologyLaws.{topology-le, topology-same}
+use Rattle.topology.specs.PathsLaws.{Ready, metric-own, metric-good, metrics-at, metrics-true}
 use Rattle.changes.specs.Changes.{isRise, isFall}
 use Rattle.changes.specs.Root.{isCommon}
 use Rattle.changes.specs.ChangeLaws.{Sound, rise-at, fall-at}

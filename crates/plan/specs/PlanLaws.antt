@@ -17,8 +17,8 @@ use Rattle.area.specs.TestLaws.{look, both-true}
 use Rattle.area.specs.Entries.{count}
 use Rattle.area.specs.Sizes.{isCount, isTable}
 use Rattle.area.specs.SizeLaws.{count-true, table-true, table-size}
-use Rattle.paths.specs.Paths.{areMetrics, distanceCell, hopCell}
-use Rattle.paths.specs.PathsLaws.{Ready, area-ready, area-metrics}
+use Rattle.topology.specs.Paths.{areMetrics, distanceCell, hopCell}
+use Rattle.topology.specs.PathsLaws.{Ready, area-ready, area-metrics}
 use Rattle.changes.specs.Changes.{isRise, isFall}
 use Rattle.changes.specs.Root.{isCommon, root}
 use Rattle.changes.specs.ChangeLaws.{Sound}

@@ -2,8 +2,8 @@
 use Prim.Native.Nat.{ℕ}
 use mathlib.Core.List.{List}
 use Rattle.area.specs.Limits.{width}
-use Rattle.paths.specs.Topology.{topology}
-use Rattle.paths.specs.NextHops.{nextHops}
+use Rattle.topology.specs.Topology.{topology}
+use Rattle.topology.specs.NextHops.{nextHops}
 use Rattle.order.specs.Order.{waitingBy, tellingBy, dueBy}
 use Rattle.changes.specs.Changes.{isRise}
 use Rattle.changes.specs.Root.{root}

@@ -17,13 +17,13 @@ use Rattle.area.specs.Tests.{pick}
 use Rattle.area.specs.TestLaws.{look}
 use Rattle.area.specs.Sets.{bit, setOf}
 use Rattle.area.specs.SetLaws.{setOf-lt, bit-lt, bit-setOf}
-use Rattle.paths.specs.Topology.{topology}
-use Rattle.paths.specs.TopologyLaws.{topology-graph}
-use Rattle.paths.specs.Distance.{distance}
-use Rattle.paths.specs.DistanceLaws.{distance-top}
-use Rattle.paths.specs.NextHops.{nextHops, Next}
-use Rattle.paths.specs.NextHopLaws.{bit-next, next-set, next-nearer}
-use Rattle.paths.specs.Pigeonhole.{Distinct}
+use Rattle.topology.specs.Topology.{topology}
+use Rattle.topology.specs.TopologyLaws.{topology-graph}
+use Rattle.topology.specs.Distance.{distance}
+use Rattle.topology.specs.DistanceLaws.{distance-top}
+use Rattle.topology.specs.NextHops.{nextHops, Next}
+use Rattle.topology.specs.NextHopLaws.{bit-next, next-set, next-nearer}
+use Rattle.topology.specs.Pigeonhole.{Distinct}
 use Rattle.order.specs.Rank.{Chain, routers, rank, IsRank}
 use Rattle.order.specs.RankLaws.{chain-distinct, rank-is, rank-less}
 use Rattle.changes.specs.Changes.{isRise}

@@ -17,15 +17,15 @@ use borrow.Author.Tests.{eq-eqb, ne-eqb}
 use Rattle.area.specs.declared.refusal.Refusal.{Refusal}
 use Rattle.area.specs.Limits.{unreached}
 use Rattle.area.specs.Refusals.{refusalNumber}
+use Rattle.plan.specs.declared.Record.{Record}
+use Rattle.machine.specs.declared.Answer.{Answer}
+use Rattle.machine.specs.declared.Answer.the-variants.{Ok, Ignored, Refused}
+use Rattle.machine.specs.Answers.{Reply, refused, replyOf, Outcome}
+use Rattle.machine.specs.Machine.{stepOf}
+use Rattle.machine.specs.Run.{replies, callsOf}
+use Rattle.machine.specs.CallLaws.{replies-none, replies-next}
 use Rattle.text.specs.Text.{Appended, word, field, line}
 use Rattle.text.specs.TextLaws.{appended-none, appended-then, line-after}
-use Rattle.plan.specs.declared.Record.{Record}
-use Rattle.steps.specs.declared.Answer.{Answer}
-use Rattle.steps.specs.declared.Answer.the-variants.{Ok, Ignored, Refused}
-use Rattle.steps.specs.Answers.{Reply, refused, replyOf, Outcome}
-use Rattle.steps.specs.Machine.{stepOf}
-use Rattle.steps.specs.Run.{replies, callsOf}
-use Rattle.steps.specs.CallLaws.{replies-none, replies-next}
 use Rattle.report.specs.declared.pairs.Path.{Path}
 use Rattle.report.specs.Lines.{refusedLine, routerLine, routerLines, answerText, stepLine, stepLines, pathText, routeLine, isPrinted, pairText, path, rowLines, routeLines}
 

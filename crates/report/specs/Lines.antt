@@ -7,9 +7,9 @@ use lib.ListN.{getD}
 use Rattle.area.specs.Limits.{width, unreached}
 use Rattle.area.specs.Tests.{pick}
 use Rattle.area.specs.Tables.{cell}
-use Rattle.text.specs.Text.{word, field, line}
 use Rattle.plan.specs.declared.Record.{Record}
-use Rattle.steps.specs.Answers.{Reply, ok, ignored, refused}
+use Rattle.machine.specs.Answers.{Reply, ok, ignored, refused}
+use Rattle.text.specs.Text.{word, field, line}
 use Rattle.report.specs.declared.pairs.Path.{Path}
 
 -- a refusal by its number

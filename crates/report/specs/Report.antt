@@ -3,10 +3,10 @@ use Prim.Native.Nat.{ℕ}
 use mathlib.Core.List.{List, _++_}
 use lib.Dec.{eqb}
 use Rattle.area.specs.Tests.{pick}
-use Rattle.text.specs.Text.{word}
 use Rattle.plan.specs.Plan.{Tables}
-use Rattle.steps.specs.Run.{replies, callsOf}
+use Rattle.machine.specs.Run.{replies, callsOf}
 use Rattle.bench_file.specs.Sections.{routers, steps}
+use Rattle.text.specs.Text.{word}
 use Rattle.report.specs.Bench.{refusal, planned, tablesOf}
 use Rattle.report.specs.Lines.{refusedLine, routerLines, stepLines, routeLines}
 

@@ -19,18 +19,18 @@ use Rattle.area.specs.Refusals.{verdictNumber}
 use Rattle.area.specs.Tests.{pick}
 use Rattle.area.specs.TestLaws.{then-both}
 use Rattle.area.specs.SizeLaws.{count-most}
-use Rattle.text.specs.Text.{Appended, word, line}
-use Rattle.text.specs.TextLaws.{appended-then}
 use Rattle.plan.specs.declared.Record.{Record}
 use Rattle.plan.specs.Plan.{Tables}
 use Rattle.plan.specs.PlanLaws.{filled-size}
 use Rattle.plan.specs.FreshLaws.{fresh-count}
-use Rattle.steps.specs.Run.{replies, callsOf}
+use Rattle.machine.specs.Run.{replies, callsOf}
 use Rattle.bench_file.specs.declared.Contents.{Contents}
 use Rattle.bench_file.specs.Sections.{routers, changes, stepCount, stepsAt, steps, largest}
 use Rattle.bench_file.specs.Read.{readRefusal}
 use Rattle.bench_file.specs.ReadLaws.{Accepted}
 use Rattle.bench_file.specs.FileLaws.{file-accepted, contents-n, contents-steps, accepted-largest}
+use Rattle.text.specs.Text.{Appended, word, line}
+use Rattle.text.specs.TextLaws.{appended-then}
 use Rattle.report.specs.Bench.{metrics, refusal, planned, tablesOf}
 use Rattle.report.specs.Lines.{refusedLine, routerLines, stepLines, routeLines}
 use Rattle.report.specs.Report.{rehearsal, routes}

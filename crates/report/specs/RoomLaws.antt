@@ -10,14 +10,14 @@ use lib.ListN.{length, getD, drop, length-append, length-take}
 use Rattle.area.specs.Limits.{width, unreached}
 use Rattle.area.specs.TestLaws.{look}
 use Rattle.area.specs.SizeLaws.{count-most}
-use Rattle.text.specs.Text.{word}
-use Rattle.text.specs.TextLaws.{field-most, line-most}
 use Rattle.plan.specs.declared.Record.{Record}
 use Rattle.plan.specs.Plan.{Tables}
-use Rattle.steps.specs.Answers.{Reply, ok, ignored, refused}
-use Rattle.steps.specs.Run.{replies, callsOf}
-use Rattle.steps.specs.CallLaws.{replies-many}
+use Rattle.machine.specs.Answers.{Reply, ok, ignored, refused}
+use Rattle.machine.specs.Run.{replies, callsOf}
+use Rattle.machine.specs.CallLaws.{replies-many}
 use Rattle.bench_file.specs.Sections.{routers, stepCount, stepsAt, steps}
+use Rattle.text.specs.Text.{word}
+use Rattle.text.specs.TextLaws.{field-most, line-most}
 use Rattle.report.specs.declared.pairs.Path.{Path}
 use Rattle.report.specs.Bench.{refusal, planned, tablesOf}
 use Rattle.report.specs.Lines.{refusedLine, routerLine, routerLines, answerText, stepLine, stepLines, pathText, routeLine, isPrinted, pairText, path, rowLines, routeLines}

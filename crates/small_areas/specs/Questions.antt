@@ -8,10 +8,10 @@ use Rattle.area.specs.Sets.{bit, setOf, added, removed, subset}
 use Rattle.area.specs.Sizes.{isCount, isTable}
 use Rattle.area.specs.Tables.{cell, build, tabulate, perRouter}
 use Rattle.area.specs.Entries.{count, entryOf, isFree, entryRefusal, listedRefusal, listed}
-use Rattle.paths.specs.Topology.{isLink, topology}
-use Rattle.paths.specs.Distance.{sums, least}
-use Rattle.paths.specs.NextHops.{isNext, nextHops}
-use Rattle.paths.specs.Paths.{isMetric, areMetrics, refusalOf, distanceCell, hopCell, distancesOf, hopsOf}
+use Rattle.topology.specs.Topology.{isLink, topology}
+use Rattle.topology.specs.Distance.{sums, least}
+use Rattle.topology.specs.NextHops.{isNext, nextHops}
+use Rattle.topology.specs.Paths.{isMetric, areMetrics, refusalOf, distanceCell, hopCell, distancesOf, hopsOf}
 use Rattle.order.specs.Rank.{greatest, above, longest, rank}
 use Rattle.changes.specs.Changes.{changeRefusal, isRise, isFall}
 use Rattle.changes.specs.Root.{isCommon}
@@ -20,9 +20,9 @@ use Rattle.plan.specs.declared.Record.{Record}
 use Rattle.plan.specs.NewMetrics.{newCell, newMetrics}
 use Rattle.plan.specs.Waiting.{oldHops, newHops, waiting, telling, due}
 use Rattle.plan.specs.Plan.{Tables, tables, areTables, planRefusal, isPlanned, fresh, blank, filled, recordOf, tablesOf}
-use Rattle.steps.specs.Answers.{Reply, refused}
-use Rattle.steps.specs.Machine.{learn, release, ready, write, finish, listens, deliver, isSound, isKind, readsB, areRouters, callOf, stepOf}
-use Rattle.steps.specs.Run.{callsOf, replies}
+use Rattle.machine.specs.Answers.{Reply, refused}
+use Rattle.machine.specs.Machine.{learn, release, ready, write, finish, listens, deliver, isSound, isKind, readsB, areRouters, callOf, stepOf}
+use Rattle.machine.specs.Run.{callsOf, replies}
 use Rattle.bench_file.specs.Sections.{changes, steps}
 use Rattle.bench_file.specs.Read.{mostLinks, linkRefusal, restRefusal, fileRefusal, readRefusal, contents, nothing, contentsOf, linked, metricsOf}
 use Rattle.text.specs.Text.{digits, decimal, field, line}
@@ -95,7 +95,7 @@ replied f = replies (planned f) (callsOf (steps f))
 unfoldable pub answer : List ℕ → (q : Question) → Value q
 unfolding readRefusal fileRefusal mostLinks linkRefusal restRefusal contentsOf contents nothing metricsOf linked
     all first bit setOf added removed subset isCount isTable build tabulate perRouter count entryOf isFree entryRefusal listedRefusal listed
-    isLink topology sums least Rattle.paths.specs.Distance.distance isNext nextHops isMetric areMetrics refusalOf distanceCell hopCell distancesOf hopsOf
+    isLink topology sums least Rattle.topology.specs.Distance.distance isNext nextHops isMetric areMetrics refusalOf distanceCell hopCell distancesOf hopsOf
     changeRefusal isRise isFall isCommon Rattle.changes.specs.Root.root newCell newMetrics oldHops newHops waiting telling due greatest above longest rank
     areTables faultRefusal commonRefusal listRefusal planRefusal isPlanned fresh blank filled recordOf tablesOf
     learn release ready write finish listens deliver isSound isKind readsB areRouters callOf stepOf callsOf replies

@@ -3,8 +3,8 @@ use Prim.Native.Nat.{ℕ, _/_, _%_}
 use mathlib.Core.Path.{_≡_, refl}
 use mathlib.Core.List.{List, [], _∷_, _++_, map}
 use lib.ListN.{length}
+use Rattle.machine.specs.Answers.{ok, ignored, refused}
 use Rattle.text.specs.Text.{word}
-use Rattle.steps.specs.Answers.{ok, ignored, refused}
 use Rattle.small_areas.specs.Questions.{Question, refusal, root, ranks, waits, distance, set, oldSet, newSet, step, allSteps, printed, Value, answer}
 
 -- ---- bench files as bytes (01, "The bench file")

@@ -1,8 +1,2 @@
--- The steps, as 01 means them. First the definitions, in reading order; then the laws about them.
-pub mod Answers
-pub mod Machine
-pub mod Run
-pub mod StepLaws
-pub mod MoveLaws
-pub mod CallLaws
-pub mod RunLaws
+-- The steps of a record by value, as 01 means them.
+pub mod Outcomes

@@ -1,24 +1,15 @@
 // The steps of an ordered update: a machine over the record that a plan hands back.
-pub mod calls;
-
-use area::refusal::Refusal;
-use calls::DELIVER;
-use calls::FINISH;
-use calls::LEARN;
-use calls::RELEASE;
-use calls::WRITE;
+use machine::Answer;
+use machine::DELIVER;
+use machine::FINISH;
+use machine::LEARN;
+use machine::RELEASE;
+use machine::WRITE;
 use plan::Record;
 ghost use mathlib.Core.Path.{_≡_};
-ghost use Rattle.steps.specs.Answers.{outcomeOf};
-ghost use Rattle.steps.specs.Machine.{stepOf};
-ghost use Rattle.steps.specs.Run.{run, callsOf};
-
-pub enum Answer {
-    Ok,
-    // A message that nobody listens for.
-    Ignored,
-    Refused(Refusal),
-}
+ghost use Rattle.machine.specs.Machine.{stepOf};
+ghost use Rattle.machine.specs.Run.{run, callsOf};
+ghost use Rattle.steps.specs.Outcomes.{outcomeOf};
 
 // What a call hands back: the record, with the answer. A call that is refused or ignored leaves the record as it was.
 pub struct Stepped {

@@ -1,6 +1,6 @@
 // The steps of a case: a step is a letter and one or two numbers, as W0.2.
 use cases::read;
-use steps::Answer;
+use machine::Answer;
 ghost use Prim.Native.Nat.{_<_, _≤_};
 
 // Is number k of the words the first of a step?

@@ -15,8 +15,8 @@ use Rattle.area.specs.declared.refusal.Verdict.{Verdict}
 use Rattle.area.specs.Limits.{width}
 use Rattle.area.specs.Refusals.{verdictNumber}
 use Rattle.area.specs.Tests.{pick}
-use Rattle.paths.specs.Paths.{isArea}
-use Rattle.paths.specs.PathsLaws.{area-ready}
+use Rattle.topology.specs.Paths.{isArea}
+use Rattle.topology.specs.PathsLaws.{area-ready}
 use Rattle.changes.specs.declared.Judged.{Judged}
 use Rattle.changes.specs.Changes.{isRise}
 use Rattle.changes.specs.Root.{root}

@@ -34,7 +34,7 @@ use denote.Triple.Spec.{tripleOf}
 use denote.Triple.Walked.{says, Stays, stay-none, walkOf, goes-none, Walks, ends-at, walked}
 use denote.Exit.{yes}
 use Rattle.plan.specs.declared.Record.{Record}
-use Rattle.steps.specs.declared.Answer.{Answer}
+use Rattle.machine.specs.declared.Answer.{Answer}
 use Rattle.steps.specs.declared.Stepped.{Stepped}
 use Rattle.in_place.proofs.Walking.{the-record, the-answer, the-stepped, the-byte, Lies, typed, all-types, all-vals, all-tell, All-lie, stepped-lies, Done, told, known, had, had-all, gone, bytes, bytes-stay, bytes-go, walk-enters}
 use Rattle.in_place.proofs.apply as apply

@@ -2,9 +2,11 @@
 use mathlib.Core.Path.{_≡_, sym, _∙_}
 use Prim.Native.Nat.{_-_, _<_, _≤_}
 use native.Mathlib.Omega.{arith}
+use borrow.Author.Needs.{needs}
 use Rattle.area.specs.Limits.{width}
 use Rattle.area.specs.RowLaws.{lent-length, Rows, rows-none, rows-more, rows-all}
-use Rattle.paths.specs.Paths.{distanceCell, hopCell}
+use Rattle.topology.specs.Paths.{distanceCell, hopCell}
+use Rattle.search.specs.RowsLaws.{true-sizes, distances-row, hops-row}
 use Rattle.paths.proofs.fill.Statement.{statement}
 use Rattle.paths.proofs.fill.Tie as tie
 
@@ -50,11 +52,7 @@ part-search-end-2 : tie.Need-part-search-end-2 Inv-loop μ-loop
 part-search-end-2 c = omega arith
 
 search-requires : tie.Need-search-requires Inv-loop μ-loop
-search-requires c κs =
-    let at-loop = c .before .before .before .loop in
-    let a = c .before .before .before .before .before .before .before in
-    let l : at-loop .i < width = omega arith in
-    (a .pre .0, (lent-length width _ (at-loop .inv .1 .size) (at-loop .i) l, lent-length width _ (at-loop .inv .2 .size) (at-loop .i) l))
+search-requires c κs = search needs
 
 add-i : tie.Need-add-i Inv-loop μ-loop
 add-i c = omega arith
@@ -65,11 +63,13 @@ loop-less c = omega arith
 loop-again : tie.Need-loop-again Inv-loop μ-loop
 loop-again c =
     let at-loop = c .before .before .before .before .before .before .before .before .loop in
+    let start = c .before .before .before .before .before .before .before .before .before .before .before .before in
     let turn = c .before .before .before .before .search in
-    let l : at-loop .i < width = omega arith in (
+    let l : at-loop .i < width = omega arith in
+    let sizes = true-sizes _ _ _ _ (start .pre .0 .0) (start .pre .0 .1) (lent-length width _ (at-loop .inv .1 .size) (at-loop .i) l) (lent-length width _ (at-loop .inv .2 .size) (at-loop .i) l) in (
       omega arith,
-      rows-more width _ (at-loop .i) _ (at-loop .inv .1) l (turn .last .1 .1 .1 .0) (turn .kept .1 .1 .1 .0) (turn .ensures .0),
-      rows-more width _ (at-loop .i) _ (at-loop .inv .2) l (turn .last .1 .1 .1 .1 .0) (turn .kept .1 .1 .1 .1 .0) (turn .ensures .1),
+      rows-more width _ (at-loop .i) _ (at-loop .inv .1) l (turn .last .1 .1 .1 .0) (turn .kept .1 .1 .1 .0) (turn .ensures .0 ∙ distances-row _ _ _ _ _ sizes),
+      rows-more width _ (at-loop .i) _ (at-loop .inv .2) l (turn .last .1 .1 .1 .1 .0) (turn .kept .1 .1 .1 .1 .0) (turn .ensures .1 ∙ hops-row _ _ _ _ _ sizes),
     )
 
 same-length : tie.Need-same-length Inv-loop μ-loop

@@ -4,7 +4,7 @@ use native.Mathlib.Omega.{arith}
 use borrow.Author.Needs.{needs}
 use denote.Ref.{now}
 use Rattle.area.specs.SizeLaws.{count-true, count-low, count-high, table-true, table-false}
-use Rattle.paths.specs.PathsLaws.{area-uncounted, area-unsized, area-metrics}
+use Rattle.topology.specs.PathsLaws.{area-uncounted, area-unsized, area-metrics}
 use Rattle.paths.proofs.is_area.Statement.{statement}
 use Rattle.paths.proofs.is_area.Tie as tie
 

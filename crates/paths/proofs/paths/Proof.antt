@@ -14,8 +14,8 @@ use Rattle.area.specs.Tables.{tabulate}
 use Rattle.area.specs.TestLaws.{and-false}
 use Rattle.area.specs.Sizes.{isCount, isTable}
 use Rattle.area.specs.SizeLaws.{count-true, count-low, count-high, table-true, table-false}
-use Rattle.paths.specs.Paths.{areMetrics, refusalOf, distanceCell, hopCell, distancesOf, hopsOf}
-use Rattle.paths.specs.PathsLaws.{areTables, refused-count, refused-tables, refused-metrics, accepted, distances-kept, hops-kept, distances-filled, hops-filled}
+use Rattle.topology.specs.Paths.{areMetrics, refusalOf, distanceCell, hopCell, distancesOf, hopsOf}
+use Rattle.topology.specs.PathsLaws.{areTables, refused-count, refused-tables, refused-metrics, accepted, distances-kept, hops-kept, distances-filled, hops-filled}
 use Rattle.paths.proofs.paths.Statement.{statement}
 use Rattle.paths.proofs.paths.Tie as tie
 
@@ -89,9 +89,7 @@ valid : (e : tie.Else6) → areMetrics (e .before .before .before .before .befor
 valid e = sym (e .before .are-valid .ensures) ∙ not-false _ (e .if6 .left)
 
 fill-requires : tie.Need-fill-requires
-fill-requires c κs =
-    let e = c .before .before in
-    (record { some = omega arith; most = omega arith; size = omega arith; metrics = valid e }, (omega arith, omega arith))
+fill-requires c κs = ((omega arith, omega arith), (omega arith, omega arith))
 
 same-length : tie.Need-same-length
 same-length c = search needs

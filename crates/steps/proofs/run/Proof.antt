@@ -6,10 +6,10 @@ use native.Mathlib.Omega.{arith}
 use borrow.Author.Needs.{needs}
 use lib.ListN.{length, getD, drop}
 use Rattle.plan.specs.declared.Record.{Record}
-use Rattle.steps.specs.Answers.{Outcome}
-use Rattle.steps.specs.Machine.{withTables, stepOf}
-use Rattle.steps.specs.Run.{run, callsOf}
-use Rattle.steps.specs.CallLaws.{no-call, next-call}
+use Rattle.machine.specs.Answers.{Outcome}
+use Rattle.machine.specs.Machine.{withTables, stepOf}
+use Rattle.machine.specs.Run.{run, callsOf}
+use Rattle.machine.specs.CallLaws.{run-none, run-next}
 use Rattle.steps.proofs.run.Statement.{statement}
 use Rattle.steps.proofs.run.Tie as tie
 
@@ -19,12 +19,10 @@ module _ (first : Record) (l : List ℕ) where
   Left r i = run first (callsOf l) ≡ run r (callsOf (drop i l))
 
   left-more : (r : Record) (i : ℕ) (o : Outcome) → Left r i → i + 2 < length l → o ≡ stepOf r (getD l i 0) (getD l (i + 1) 0) (getD l (i + 2) 0) → Left (o .next) (i + 3)
-  unfolding run
-  left-more r i o e h s = e ∙ rw (next-call l i h, s) refl
+  left-more r i o e h s = e ∙ run-next l i r o s h
 
   left-none : (r : Record) (i : ℕ) → Left r i → length l ≤ i + 2 → r ≡ run first (callsOf l)
-  unfolding run
-  left-none r i e h = sym (e ∙ rw (no-call l i h) refl)
+  left-none r i e h = sym (e ∙ run-none l i r h)
 
 abbrev Inv-loop : tie.InvT-loop
 Inv-loop first bytes n waiting₀ telling due states₀ written₀ at₀ waiting states written at = (at ≤ length bytes) × Left first bytes (withTables first waiting states written) at

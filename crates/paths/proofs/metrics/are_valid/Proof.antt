@@ -10,7 +10,7 @@ use lib.Dec.{eqb}
 use denote.Ref.{now}
 use Rattle.area.specs.Tests.{all}
 use Rattle.area.specs.TestLaws.{all-true, all-false}
-use Rattle.paths.specs.Paths.{isMetric, areMetrics}
+use Rattle.topology.specs.Paths.{isMetric, areMetrics}
 use Rattle.paths.proofs.metrics.are_valid.Statement.{statement}
 use Rattle.paths.proofs.metrics.are_valid.Tie as tie
 

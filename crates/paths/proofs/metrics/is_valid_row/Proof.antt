@@ -8,8 +8,8 @@ use borrow.Author.Count.{below-none, below-more}
 use lib.Dec.{eqb}
 use denote.Ref.{now}
 use Rattle.area.specs.TestLaws.{all-true, all-false}
-use Rattle.paths.specs.Paths.{isMetric}
-use Rattle.paths.specs.PathsLaws.{metric-own, metric-good, metric-low, metric-high}
+use Rattle.topology.specs.Paths.{isMetric}
+use Rattle.topology.specs.PathsLaws.{metric-own, metric-good, metric-low, metric-high}
 use Rattle.paths.proofs.metrics.is_valid_row.Statement.{statement}
 use Rattle.paths.proofs.metrics.is_valid_row.Tie as tie
 

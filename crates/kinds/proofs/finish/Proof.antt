@@ -1,0 +1,89 @@
+-- One law for each return.
+use Prim.Native.Nat.{ℕ, _<_}
+use mathlib.Core.Path.{_≡_, sym, _∙_}
+use mathlib.Core.Bool.{Bool, true, false, not}
+use mathlib.Core.Logic.{_≢_}
+use mathlib.Core.List.{List}
+use borrow.Author.Tests.{not-true, not-false}
+use borrow.Author.Needs.{needs}
+use denote.Ref.{now}
+use lib.ListN.{set}
+use Rattle.area.specs.Limits.{width}
+use Rattle.area.specs.Sets.{subset}
+use Rattle.plan.specs.declared.Record.{Record}
+use Rattle.machine.specs.Answers.{ok, refused, gives}
+use Rattle.machine.specs.Machine.{ongoing, done, stateOf, waitingOf, dueOf, writtenOf, over, withTables, finish}
+use Rattle.machine.specs.StepLaws.{finish-state, finish-waiting, finish-unwritten, finish-ok}
+use Rattle.kinds.specs.Within.{within}
+use Rattle.kinds.specs.WithinLaws.{within-in, within-out}
+use Rattle.kinds.proofs.finish.Statement.{statement}
+use Rattle.kinds.proofs.finish.Tie as tie
+
+module _ (r : Record) (a s : ℕ) (h : a < width) (is : s ≡ stateOf r a) where
+  not-ongoing : s ≢ ongoing → gives r (refused 23) ≡ within r a (finish r a)
+  not-ongoing f = sym (within-in r a _ h ∙ finish-state r a (λ e. f (is ∙ e)))
+
+  module _ (at : s ≡ ongoing) (w : ℕ) (waits : w ≡ waitingOf r a) where
+    waiting : w ≢ 0 → gives r (refused 24) ≡ within r a (finish r a)
+    waiting f = sym (within-in r a _ h ∙ finish-waiting r a (sym is ∙ at) (λ e. f (waits ∙ e)))
+
+    module _ (free : w ≡ 0) (whole : Bool) (d : ℕ) (is-due : d ≡ dueOf r a) (t : ℕ) (is-written : t ≡ writtenOf r a) (is-whole : whole ≡ subset width d t) where
+      is-subset : whole ≡ subset width (dueOf r a) (writtenOf r a)
+      is-subset = rw (sym is-due, sym is-written) is-whole
+
+      unwritten : not whole ≡ true → gives r (refused 26) ≡ within r a (finish r a)
+      unwritten f = sym (within-in r a _ h ∙ finish-unwritten r a (sym is ∙ at) (sym waits ∙ free) (sym is-subset ∙ not-true whole f))
+
+      finishes : (states : List ℕ) → not whole ≡ false → states ≡ set (r .states) a done → gives (withTables r (r .waiting) states (r .written)) ok ≡ within r a (finish r a)
+      finishes states u e = rw e (sym (within-in r a _ h ∙ finish-ok r a (sym is ∙ at) (sym waits ∙ free) (sym is-subset ∙ not-false whole u)))
+
+returns : tie.Need-returns
+returns c = λ (x : Record). sym (search within-out)
+
+state-requires : tie.Need-state-requires
+state-requires c κs = search needs
+
+returns-2 : tie.Need-returns-2
+returns-2 c = λ (x : Record). search not-ongoing
+
+entry-requires : tie.Need-entry-requires
+entry-requires c κs = search needs
+
+returns-3 : tie.Need-returns-3
+returns-3 c = λ (x : Record). search waiting
+
+entry-requires-2 : tie.Need-entry-requires-2
+entry-requires-2 c κs = search needs
+
+entry-requires-3 : tie.Need-entry-requires-3
+entry-requires-3 c κs = search needs
+
+is-subset-requires : tie.Need-is-subset-requires
+is-subset-requires c κs = search needs
+
+returns-4 : tie.Need-returns-4
+returns-4 c = λ (x : Record). search unwritten
+
+set-state-requires : tie.Need-set-state-requires
+set-state-requires c κs = search needs
+
+returns-5 : tie.Need-returns-5
+returns-5 c =
+    let a = c .before .before .before .before .before .before .before .before .before .before .before .before .args in
+    λ (x : Record). search (finishes (over x (x .n) (now (a .waiting)) (x .telling) (now (a .due)) (now (a .states)) (now (a .written))) (a .i))
+
+pub finish-spec : {M : Type 1} → statement M
+finish-spec =
+    tie.close
+    (tie.spec
+    returns
+    state-requires
+    returns-2
+    entry-requires
+    returns-3
+    entry-requires-2
+    entry-requires-3
+    is-subset-requires
+    returns-4
+    set-state-requires
+    returns-5)

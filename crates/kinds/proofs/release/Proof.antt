@@ -1,0 +1,44 @@
+-- One law for each return.
+use Prim.Native.Nat.{ℕ, _<_}
+use mathlib.Core.Path.{_≡_, sym, _∙_}
+use mathlib.Core.Logic.{_≢_}
+use mathlib.Core.List.{List}
+use borrow.Author.Needs.{needs}
+use denote.Ref.{now}
+use lib.ListN.{set}
+use Rattle.area.specs.Limits.{width}
+use Rattle.plan.specs.declared.Record.{Record}
+use Rattle.machine.specs.Answers.{ok, refused, gives}
+use Rattle.machine.specs.Machine.{holding, ongoing, stateOf, over, withTables, release}
+use Rattle.machine.specs.StepLaws.{release-state, release-ok}
+use Rattle.kinds.specs.Within.{within}
+use Rattle.kinds.specs.WithinLaws.{within-in, within-out}
+use Rattle.kinds.proofs.release.Statement.{statement}
+use Rattle.kinds.proofs.release.Tie as tie
+
+module _ (r : Record) (a s : ℕ) (h : a < width) (is : s ≡ stateOf r a) where
+  not-holding : s ≢ holding → gives r (refused 23) ≡ within r a (release r a)
+  not-holding f = sym (within-in r a _ h ∙ release-state r a (λ e. f (is ∙ e)))
+
+  releases : (states : List ℕ) → s ≡ holding → states ≡ set (r .states) a ongoing → gives (withTables r (r .waiting) states (r .written)) ok ≡ within r a (release r a)
+  releases states e t = rw t (sym (within-in r a _ h ∙ release-ok r a (sym is ∙ e)))
+
+returns : tie.Need-returns
+returns c = λ (x : Record). sym (search within-out)
+
+state-requires : tie.Need-state-requires
+state-requires c κs = search needs
+
+returns-2 : tie.Need-returns-2
+returns-2 c = λ (x : Record). search not-holding
+
+set-state-requires : tie.Need-set-state-requires
+set-state-requires c κs = search needs
+
+returns-3 : tie.Need-returns-3
+returns-3 c =
+    let a = c .before .before .before .before .before .before .args in
+    λ (x : Record). search (releases (over x (x .n) (x .waiting) (x .telling) (x .due) (now (a .states)) (x .written)) (a .i))
+
+pub release-spec : {M : Type 1} → statement M
+release-spec = tie.close (tie.spec returns state-requires returns-2 set-state-requires returns-3)

@@ -1,0 +1,104 @@
+-- One law for each return.
+use Prim.Native.Nat.{ℕ, _<_}
+use mathlib.Core.Path.{_≡_, sym, _∙_}
+use mathlib.Core.Bool.{Bool, true, false, not}
+use mathlib.Core.Logic.{_≢_}
+use mathlib.Core.List.{List}
+use borrow.Author.Tests.{not-true, not-false}
+use borrow.Author.Needs.{needs}
+use denote.Ref.{now}
+use lib.ListN.{set}
+use Rattle.area.specs.Limits.{width}
+use Rattle.area.specs.Sets.{bit, added}
+use Rattle.plan.specs.declared.Record.{Record}
+use Rattle.machine.specs.Answers.{ok, refused, gives}
+use Rattle.machine.specs.Machine.{ongoing, stateOf, waitingOf, dueOf, writtenOf, over, withTables, write}
+use Rattle.machine.specs.StepLaws.{write-state, write-waiting, write-not-due, write-again, write-ok}
+use Rattle.kinds.specs.Within.{within}
+use Rattle.kinds.specs.WithinLaws.{within-in, within-out}
+use Rattle.kinds.proofs.write.Statement.{statement}
+use Rattle.kinds.proofs.write.Tie as tie
+
+module _ (r : Record) (a b s : ℕ) (h : a < width) (is : s ≡ stateOf r a) where
+  not-ongoing : s ≢ ongoing → gives r (refused 23) ≡ within r a (write r a b)
+  not-ongoing f = sym (within-in r a _ h ∙ write-state r a b (λ e. f (is ∙ e)))
+
+  module _ (at : s ≡ ongoing) (w : ℕ) (waits : w ≡ waitingOf r a) where
+    waiting : w ≢ 0 → gives r (refused 24) ≡ within r a (write r a b)
+    waiting f = sym (within-in r a _ h ∙ write-waiting r a b (sym is ∙ at) (λ e. f (waits ∙ e)))
+
+    module _ (free : w ≡ 0) (due : Bool) (d : ℕ) (is-set : d ≡ dueOf r a) (is-due : due ≡ bit d b) where
+      not-due : not due ≡ true → gives r (refused 25) ≡ within r a (write r a b)
+      not-due f = sym (within-in r a _ h ∙ write-not-due r a b (sym is ∙ at) (sym waits ∙ free) (rw is-set at (sym is-due ∙ not-true due f)))
+
+      module _ (t : not due ≡ false) (again : Bool) (before : ℕ) (is-before : before ≡ writtenOf r a) (is-again : again ≡ bit before b) where
+        already : again ≡ true → gives r (refused 25) ≡ within r a (write r a b)
+        already u = sym (within-in r a _ h ∙ write-again r a b (sym is ∙ at) (sym waits ∙ free) (rw is-set at (sym is-due ∙ not-false due t)) (rw is-before at (sym is-again ∙ u)))
+
+        writes : (after : ℕ) (written : List ℕ) → again ≡ false → after ≡ added width before b → written ≡ set (r .written) a after → gives (withTables r (r .waiting) (r .states) written) ok ≡ within r a (write r a b)
+        writes after written u e k = rw (k, e, is-before) (sym (within-in r a _ h ∙ write-ok r a b (sym is ∙ at) (sym waits ∙ free) (rw is-set at (sym is-due ∙ not-false due t)) (rw is-before at (sym is-again ∙ u))))
+
+returns : tie.Need-returns
+returns c = λ (x : Record). sym (search within-out)
+
+state-requires : tie.Need-state-requires
+state-requires c κs = search needs
+
+returns-2 : tie.Need-returns-2
+returns-2 c = λ (x : Record). search not-ongoing
+
+entry-requires : tie.Need-entry-requires
+entry-requires c κs = search needs
+
+returns-3 : tie.Need-returns-3
+returns-3 c = λ (x : Record). search waiting
+
+entry-requires-2 : tie.Need-entry-requires-2
+entry-requires-2 c κs = search needs
+
+member-requires : tie.Need-member-requires
+member-requires c κs = search needs
+
+returns-4 : tie.Need-returns-4
+returns-4 c = λ (x : Record). search not-due
+
+entry-requires-3 : tie.Need-entry-requires-3
+entry-requires-3 c κs = search needs
+
+member-requires-2 : tie.Need-member-requires-2
+member-requires-2 c κs = search needs
+
+returns-5 : tie.Need-returns-5
+returns-5 c =
+    let a = c .before .before .before .before .before .before .before .before .before .before .before .before .args in
+    λ (x : Record). search (already (over x (x .n) (now (a .waiting)) (x .telling) (now (a .due)) (now (a .states)) (now (a .written))) (a .i) (a .d))
+
+add-requires : tie.Need-add-requires
+add-requires c κs = search needs
+
+set-entry-requires : tie.Need-set-entry-requires
+set-entry-requires c κs = search needs
+
+returns-6 : tie.Need-returns-6
+returns-6 c =
+    let a = c .before .before .before .before .before .before .before .before .before .before .before .before .before .before .before .args in
+    λ (x : Record). search (writes (over x (x .n) (now (a .waiting)) (x .telling) (now (a .due)) (now (a .states)) (now (a .written))) (a .i) (a .d))
+
+pub write-spec : {M : Type 1} → statement M
+write-spec =
+    tie.close
+    (tie.spec
+    returns
+    state-requires
+    returns-2
+    entry-requires
+    returns-3
+    entry-requires-2
+    member-requires
+    returns-4
+    entry-requires-3
+    member-requires-2
+    returns-5
+    add-requires
+    set-entry-requires
+    returns-6)

@@ -1,0 +1,113 @@
+-- The routers below j were offered the way by q.
+use mathlib.Core.Path.{_≡_, refl, sym}
+use mathlib.Core.Logic.{_⊎_, inl, inr, ⊎-elim}
+use mathlib.Core.List.{List}
+use Prim.Native.Nat.{ℕ, _+_, _-_, _<_, _≤_}
+use native.Mathlib.Omega.{arith}
+use native.Mathlib.Decide.{decLt}
+use denote.Ref.{now}
+use Rattle.area.specs.Limits.{width, unused}
+use Rattle.area.specs.Tables.{cell}
+use Rattle.topology.specs.Topology.{topology}
+use Rattle.topology.specs.PathsLaws.{Ready, metrics-at}
+use Rattle.topology.specs.TopologyLaws.{Link, link-metric, metric-link}
+use Rattle.search.specs.Search.{Offered, Relaxed, no-link, linked, firstHop}
+use Rattle.search.proofs.Sweep.{Swept, swept-none, swept-more, swept-same}
+use Rattle.search.proofs.relax.Statement.{statement}
+use Rattle.search.proofs.relax.Tie as tie
+
+abbrev Inv-loop : tie.InvT-loop
+Inv-loop n metric source q dist₀ hops₀ base via j₀ dist hops j = (j ≤ n) × Swept (Relaxed (topology n metric) source q base via) dist₀ hops₀ dist hops j
+
+abbrev μ-loop : tie.MeasureT-loop
+μ-loop n metric source q dist₀ hops₀ base via j₀ dist hops j = n - j
+
+mul-base : tie.Need-mul-base Inv-loop μ-loop
+mul-base c = omega arith
+
+slice-read-base : tie.Need-slice-read-base Inv-loop μ-loop
+slice-read-base c = omega arith
+
+mul-via : tie.Need-mul-via Inv-loop μ-loop
+mul-via c = omega arith
+
+slice-read-via : tie.Need-slice-read-via Inv-loop μ-loop
+slice-read-via c = omega arith
+
+loop-holds : tie.Need-loop-holds Inv-loop μ-loop
+loop-holds c = (omega arith, swept-none _ _ _)
+
+link-requires : tie.Need-link-requires Inv-loop μ-loop
+link-requires c κs = omega arith
+
+first-hop-requires : tie.Need-first-hop-requires Inv-loop μ-loop
+first-hop-requires c κs = omega arith
+
+add-offer : tie.Need-add-offer Inv-loop μ-loop
+add-offer c = omega arith
+
+offer-requires : tie.Need-offer-requires Inv-loop μ-loop
+offer-requires c κs = omega arith
+
+add-j : tie.Need-add-j Inv-loop μ-loop
+add-j c = omega arith
+
+loop-less : tie.Need-loop-less Inv-loop μ-loop
+loop-less c = omega arith
+
+loop-again : tie.Need-loop-again Inv-loop μ-loop
+loop-again c =
+    let at-loop = c .before .before .before in
+    let start = at-loop .before .before .before .before .before .before in
+    let s = at-loop .loop .inv .1 in
+    let j = at-loop .loop .j in
+    let is-link = c .before .link .ensures in (
+      omega arith,
+      ⊎-elim
+          (λ w.
+          let o = w .4 in
+          let l = o .last .1 .1 .1 in
+          rw (w .9, w .10) (swept-more _ _ _ (at-loop .loop .dist) (at-loop .loop .hops) (l .0) (l .1 .0) j s (o .kept .1 .1 .1 .0) (o .kept .1 .1 .1 .1 .0) (linked (omega (arith, is-link, w .0 .taken)) (rw (is-link, w .1 .ensures) at (o .ensures .0))) (o .ensures .1)))
+          (λ w. rw (w .1, w .2) (swept-same _ _ _ _ _ _ s (no-link (λ u. omega (arith, is-link, w .0 .left)) refl refl)))
+          (c .if1 .came),
+    )
+
+same-length : tie.Need-same-length Inv-loop μ-loop
+same-length c = omega arith
+
+same-length-2 : tie.Need-same-length-2 Inv-loop μ-loop
+same-length-2 c = omega arith
+
+returns : tie.Need-returns Inv-loop μ-loop
+returns c =
+    let start = c .before .before .before .before .before .before .before in
+    let s = c .before .loop .inv .1 in
+    λ j l. elim (decLt j (start .args .n)) [
+      | yes b ↦ s .done j (omega arith)
+      | no f ↦
+          let g : start .args .n ≤ j = omega arith in
+          let e = s .rest j (omega arith) in
+          no-link (λ u. let x = metric-link (start .args .n) (now (start .args .metric)) (start .args .q) j u .to in omega arith) (e .0) (e .1)
+    ]
+
+pub relax-spec : {M : Type 1} → statement M
+relax-spec =
+    tie.close
+    (tie.spec
+    Inv-loop
+    μ-loop
+    mul-base
+    slice-read-base
+    mul-via
+    slice-read-via
+    loop-holds
+    link-requires
+    first-hop-requires
+    add-offer
+    offer-requires
+    add-j
+    loop-less
+    loop-again
+    same-length
+    same-length-2
+    returns)

@@ -1,0 +1,164 @@
+// The search for one source: Dijkstra's, with all next hops of equal cost.
+use area::limits::CELLS;
+use area::limits::UNREACHED;
+use area::limits::UNUSED;
+use area::limits::WIDTH;
+use area::sets;
+ghost use mathlib.Core.Path.{_≡_};
+ghost use Prim.Native.Nat.{ℕ, _+_, _*_, _<_, _≤_};
+ghost use lib.ListN.{length, getD};
+ghost use Rattle.area.specs.Limits.{width, unused, unreached};
+ghost use Rattle.area.specs.Tables.{build};
+ghost use Rattle.topology.specs.Topology.{topology};
+ghost use Rattle.topology.specs.Paths.{distanceCell, hopCell};
+ghost use Rattle.search.specs.Rows.{areSizes, distanceRow, hopRow};
+ghost use Rattle.search.specs.Search.{Nearest, Offered, Relaxed, firstHop};
+
+// The source's rows of distances and of next hops, or none where a size is wrong.
+pub fn search(n: usize, metric: &[u32], source: usize, dist: &mut [u32], hops: &mut [u32])
+    ensures { λ _. ⌜ now (dist .exit) ≡ distanceRow n (now (metric .entry)) source (now (dist .entry)) (now (hops .entry)) ⌝ }
+    ensures { λ _. ⌜ now (hops .exit) ≡ hopRow n (now (metric .entry)) source (now (dist .entry)) (now (hops .entry)) ⌝ }
+{
+    if are_sizes(n, metric.len(), dist.len(), hops.len()) {
+        rows(n, metric, source, dist, hops);
+    }
+}
+
+// Are these the sizes that a search needs?
+fn are_sizes(n: usize, cells: usize, distances: usize, sets: usize) -> bool
+    ensures { λ r. ⌜ r ≡ areSizes n cells distances sets ⌝ }
+{
+    if WIDTH < n {
+        return false;
+    }
+    if cells != CELLS {
+        return false;
+    }
+    if distances != WIDTH {
+        return false;
+    }
+    sets == WIDTH
+}
+
+// The source's rows. Those of a router from n on are blank.
+fn rows(n: usize, metric: &[u32], source: usize, dist: &mut [u32], hops: &mut [u32])
+    requires { ⌜ (n ≤ width) × (length (now metric) ≡ width * width) ⌝ }
+    requires { ⌜ (length (now dist) ≡ width) × (length (now hops) ≡ width) ⌝ }
+    ensures { λ _. ⌜ now (dist .exit) ≡ build width (distanceCell n (now (metric .entry)) source) ⌝ }
+    ensures { λ _. ⌜ now (hops .exit) ≡ build width (hopCell n (now (metric .entry)) source) ⌝ }
+{
+    blank(dist, hops);
+    if source < n {
+        settle(n, metric, source, dist, hops);
+    }
+}
+
+// No router is reached, and none has a next hop.
+fn blank(dist: &mut [u32], hops: &mut [u32])
+    requires { ⌜ (length (now dist) ≡ width) × (length (now hops) ≡ width) ⌝ }
+    ensures { λ _. ⌜ ((j : ℕ) → j < width → getD (now (dist .exit)) j 0 ≡ unreached) ⌝ }
+    ensures { λ _. ⌜ ((j : ℕ) → j < width → getD (now (hops .exit)) j 0 ≡ 0) ⌝ }
+{
+    for j in 0..WIDTH {
+        dist[j] = UNREACHED;
+        hops[j] = 0;
+    }
+}
+
+// Settles the routers that can be reached, the nearest first: a router's distance is final when it is taken, not when it is first reached.
+fn settle(n: usize, metric: &[u32], source: usize, dist: &mut [u32], hops: &mut [u32])
+    requires { ⌜ (n ≤ width) × (length (now metric) ≡ width * width) ⌝ }
+    requires { ⌜ (source < n) × (length (now dist) ≡ width) × (length (now hops) ≡ width) ⌝ }
+    requires { ⌜ ((j : ℕ) → j < width → getD (now dist) j 0 ≡ unreached) ⌝ }
+    requires { ⌜ ((j : ℕ) → j < width → getD (now hops) j 0 ≡ 0) ⌝ }
+    ensures { λ _. ⌜ now (dist .exit) ≡ build width (distanceCell n (now (metric .entry)) source) ⌝ }
+    ensures { λ _. ⌜ now (hops .exit) ≡ build width (hopCell n (now (metric .entry)) source) ⌝ }
+{
+    let mut settled: u32 = 0;
+    dist[source] = 0;
+    loop {
+        let q = nearest(n, dist, settled);
+        if q == n {
+            return;
+        }
+        settled = sets::add(settled, q);
+        relax(n, metric, source, q, dist, hops);
+    }
+}
+
+// The nearest reached router that is not settled; n where there is none.
+fn nearest(n: usize, dist: &[u32], settled: u32) -> usize
+    requires { ⌜ (n ≤ width) × (length (now dist) ≡ width) ⌝ }
+    ensures { λ r. ⌜ Nearest n (now (dist .entry)) settled r ⌝ }
+{
+    let mut best = n;
+    let mut low = UNREACHED;
+    for k in 0..n {
+        let d = dist[k];
+        if d < low {
+            if !sets::member(settled, k) {
+                low = d;
+                best = k;
+            }
+        }
+    }
+    best
+}
+
+// Every router that has a link from the settled router q is offered the way by q.
+fn relax(n: usize, metric: &[u32], source: usize, q: usize, dist: &mut [u32], hops: &mut [u32])
+    requires { ⌜ (n ≤ width) × (length (now metric) ≡ width * width) ⌝ }
+    requires { ⌜ (q < n) × (length (now dist) ≡ width) × (length (now hops) ≡ width) × (getD (now dist) q 0 + unused ≤ unreached) ⌝ }
+    ensures { λ _. ⌜ ((j : ℕ) → j < width → Relaxed (topology n (now (metric .entry))) source q (getD (now (dist .entry)) q 0) (getD (now (hops .entry)) q 0) j (getD (now (dist .entry)) j 0) (getD (now (hops .entry)) j 0) (getD (now (dist .exit)) j 0) (getD (now (hops .exit)) j 0)) ⌝ }
+{
+    let base = dist[q];
+    let via = hops[q];
+    for j in 0..n {
+        let m = link(n, metric, q, j);
+        if m < UNUSED {
+            let by = first_hop(source, q, via, j);
+            offer(base + m, by, j, dist, hops);
+        }
+    }
+}
+
+// The metric of the link from q to j, and UNUSED where there is no used one.
+fn link(n: usize, metric: &[u32], q: usize, j: usize) -> u32
+    requires { ⌜ (n ≤ width) × (length (now metric) ≡ width * width) ⌝ }
+    requires { ⌜ (q < n) × (j < n) ⌝ }
+    ensures { λ r. ⌜ r ≡ topology n (now (metric .entry)) q j ⌝ }
+{
+    if q == j {
+        return UNUSED;
+    }
+    let m = metric[WIDTH * q + j];
+    if m < 1 {
+        return UNUSED;
+    }
+    if UNUSED < m {
+        return UNUSED;
+    }
+    m
+}
+
+// The next hops from the source to j by way of q: j itself from the source, and from any other router those to q.
+fn first_hop(source: usize, q: usize, via: u32, j: usize) -> u32
+    ensures { λ r. ⌜ r ≡ firstHop source q via j ⌝ }
+{
+    if q == source { sets::add(0, j) } else { via }
+}
+
+// Router j can be had at the distance `sum` by the next hops `by`: they take the place of those of a larger distance, and join those of an equal one.
+fn offer(sum: u32, by: u32, j: usize, dist: &mut [u32], hops: &mut [u32])
+    requires { ⌜ (j < length (now dist)) × (j < length (now hops)) ⌝ }
+    ensures { λ _. ⌜ Offered sum by (getD (now (dist .entry)) j 0) (getD (now (hops .entry)) j 0) (getD (now (dist .exit)) j 0) (getD (now (hops .exit)) j 0) ⌝ }
+    ensures { λ _. ⌜ ((k : ℕ) → (k ≡ j → ⊥) → (getD (now (dist .exit)) k 0 ≡ getD (now (dist .entry)) k 0) × (getD (now (hops .exit)) k 0 ≡ getD (now (hops .entry)) k 0)) ⌝ }
+{
+    let old = dist[j];
+    if sum < old {
+        dist[j] = sum;
+        hops[j] = by;
+    } else if sum == old {
+        hops[j] = sets::join(hops[j], by);
+    }
+}

@@ -1,0 +1,1 @@
+// This crate has no code: its specs/ define distances, next hops and what Paths gives, with their laws.
