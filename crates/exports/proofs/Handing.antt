@@ -1,20 +1,13 @@
--- Answers as numbers, and records from their fields.
-use mathlib.Core.Path.{_≡_, sym, ap, _∙_}
+-- What is handed on, apart.
+use mathlib.Core.Path.{_≡_, ap, _∙_}
 use Prim.Native.Nat.{ℕ}
 use mathlib.Core.List.{List}
-use Rattle.area.specs.Refusals.{refusalNumber}
-use Rattle.area.specs.declared.refusal.Refusal.{Refusal}
 use Rattle.plan.specs.declared.Record.{Record}
-use Rattle.steps.specs.declared.Answer.{Answer}
-use Rattle.steps.specs.declared.Answer.the-variants.{Refused}
-use Rattle.steps.specs.Answers.{Outcome, replyOf}
+use Rattle.steps.specs.Answers.{Outcome}
 use Rattle.steps.specs.Run.{run, callsOf}
-use Rattle.exports.specs.Exports.{replyNumber}
+use Rattle.fields.specs.Fields.{replyNumber}
 
-pub refused-number : (why : Refusal) {x : Answer} {k : ℕ} → k ≡ refusalNumber why → x ≡ Refused why → k ≡ replyNumber (replyOf x)
-refused-number why e f = e ∙ ap (λ (y : Answer). replyNumber (replyOf y)) (sym f)
-
--- what a step answers and hands back, apart
+-- what a step answers and hands back
 module _ {o p : Outcome} (e : o ≡ p) where
   pub same-next : o .next ≡ p .next
   same-next = ap (λ (q : Outcome). q .next) e
@@ -22,5 +15,6 @@ module _ {o p : Outcome} (e : o ≡ p) where
   pub same-number : {k : ℕ} → k ≡ replyNumber (o .reply) → k ≡ replyNumber (p .reply)
   same-number f = f ∙ ap (λ (q : Outcome). replyNumber (q .reply)) e
 
-pub last-record : (bytes : List ℕ) {lent made last handed : Record} → made ≡ lent → last ≡ run made (callsOf bytes) → handed ≡ last → handed ≡ run lent (callsOf bytes)
-last-record bytes e f g = g ∙ f ∙ ap (λ (r : Record). run r (callsOf bytes)) e
+-- the last record of a run
+pub last-record : (bytes : List ℕ) {lent made last : Record} → made ≡ lent → last ≡ run made (callsOf bytes) → last ≡ run lent (callsOf bytes)
+last-record bytes e f = f ∙ ap (λ (r : Record). run r (callsOf bytes)) e

@@ -1,19 +1,22 @@
 // The bench for programs in C or Rust: each call under a plain name, with numbers, slices and arrays in place of structs and enums. A verdict is its number, 0 where nothing is refused. A record is lent field by field.
 use area::limits::WIDTH;
+use fields::gathered;
+use fields::hand_back;
+use fields::number;
 use plan::Record;
-use steps::Answer;
 use steps::calls::step;
+use steps::run;
 ghost use mathlib.Core.Path.{_≡_};
 ghost use Rattle.paths.specs.Paths.{refusalOf, distancesOf, hopsOf};
 ghost use Rattle.plan.specs.declared.Record.{Record};
 ghost use Rattle.plan.specs.Plan.{tables, areTables, planRefusal, recordOf, tablesOf};
-ghost use Rattle.steps.specs.Answers.{replyOf};
 ghost use Rattle.steps.specs.Machine.{over, stepOf};
 ghost use Rattle.steps.specs.Run.{run, callsOf};
 ghost use Rattle.bench_file.specs.Read.{readRefusal, contentsOf, metricsOf};
 ghost use Rattle.text.specs.Text.{Appended};
 ghost use Rattle.report.specs.Report.{rehearsal, routes};
-ghost use Rattle.exports.specs.Exports.{recordFrom, numbers, replyNumber};
+ghost use Rattle.fields.specs.Fields.{recordFrom, replyNumber};
+ghost use Rattle.exports.specs.Exports.{numbers};
 
 // Read. `contents` gets n, the number of links, the number of changes and where they begin, the number of steps and where they begin.
 #[no_mangle]
@@ -23,16 +26,13 @@ pub extern "C" fn ofib_read(file: &[u8], table: &mut [u32], contents: &mut [usiz
     ensures metrics { λ _. ⌜ now (table .exit) ≡ metricsOf (now (file .entry)) (now (table .entry)) ⌝ }
 {
     let found = bench_file::read(file, table);
-    let said = found.contents;
-    let changes = said.changes;
-    let steps = said.steps;
     *contents = [
-        said.n,
-        said.links,
-        changes.count,
-        changes.at,
-        steps.count,
-        steps.at,
+        found.contents.n,
+        found.contents.links,
+        found.contents.changes.count,
+        found.contents.changes.at,
+        found.contents.steps.count,
+        found.contents.steps.at,
     ];
     let answer = found.answer;
     answer.number()
@@ -75,9 +75,8 @@ pub extern "C" fn ofib_plan(
     ensures tables { λ _. ⌜ tables (now (new .exit)) (now («old_dist» .exit)) (now («new_dist» .exit)) (now («old_hops» .exit)) (now («new_hops» .exit)) ≡ tablesOf n (now (old .entry)) (now (list .entry)) (tables (now (new .entry)) (now («old_dist» .entry)) (now («new_dist» .entry)) (now («old_hops» .entry)) (now («new_hops» .entry))) ⌝ }
 {
     let planned = plan::plan(n, old, list, new, old_dist, new_dist, old_hops, new_hops);
-    let record = planned.record;
     hand_back(
-        record,
+        planned.record,
         routers,
         root,
         direction,
@@ -128,7 +127,7 @@ pub extern "C" fn ofib_run(
 )
     ensures { λ _. ⌜ recordFrom (now (routers .exit)) (now (root .exit)) (now (direction .exit)) (now (ranks .exit)) (now (waiting .exit)) (now (telling .exit)) (now (due .exit)) (now (states .exit)) (now (written .exit)) ≡ run (recordFrom (now (routers .entry)) (now (root .entry)) (now (direction .entry)) (now (ranks .entry)) (now (waiting .entry)) (now (telling .entry)) (now (due .entry)) (now (states .entry)) (now (written .entry))) (callsOf (now (bytes .entry))) ⌝ }
 {
-    let record = lent(
+    let last = ran(
         *routers,
         *root,
         *direction,
@@ -138,10 +137,10 @@ pub extern "C" fn ofib_run(
         due,
         states,
         written,
+        bytes,
     );
-    let next = steps::run(record, bytes);
     hand_back(
-        next,
+        last,
         routers,
         root,
         direction,
@@ -188,18 +187,8 @@ pub extern "C" fn ofib_routes(
     report::routes(file, old, new, old_dist, new_dist, old_hops, new_hops, out)
 }
 
-fn number(answer: Answer) -> u8
-    ensures { λ r. ⌜ r ≡ replyNumber (replyOf answer) ⌝ }
-{
-    match answer {
-        Answer::Ok => 0,
-        Answer::Ignored => 255,
-        Answer::Refused(why) => why.number(),
-    }
-}
-
-// The record whose fields are these.
-fn lent(
+// The last record of a run that begins with the record of these fields.
+fn ran(
     n: u8,
     root: u8,
     direction: u8,
@@ -209,56 +198,12 @@ fn lent(
     due: &[u32; WIDTH],
     states: &[u8; WIDTH],
     written: &[u32; WIDTH],
+    bytes: &[u8],
 ) -> Record
-    ensures { λ r. ⌜ r ≡ recordFrom n root direction (now (ranks .entry)) (now (waiting .entry)) (now (telling .entry)) (now (due .entry)) (now (states .entry)) (now (written .entry)) ⌝ }
+    ensures { λ r. ⌜ r ≡ run (recordFrom n root direction (now (ranks .entry)) (now (waiting .entry)) (now (telling .entry)) (now (due .entry)) (now (states .entry)) (now (written .entry))) (callsOf (now (bytes .entry))) ⌝ }
 {
-    let ranks = *ranks;
-    let waiting = *waiting;
-    let telling = *telling;
-    let due = *due;
-    let states = *states;
-    let written = *written;
-    Record {
-        n,
-        root,
-        direction,
-        ranks,
-        waiting,
-        telling,
-        due,
-        states,
-        written,
-    }
-}
-
-// Puts each field of a record into its place.
-fn hand_back(
-    last: Record,
-    routers: &mut u8,
-    root: &mut u8,
-    direction: &mut u8,
-    ranks: &mut [u8; WIDTH],
-    waiting: &mut [u32; WIDTH],
-    telling: &mut [u32; WIDTH],
-    due: &mut [u32; WIDTH],
-    states: &mut [u8; WIDTH],
-    written: &mut [u32; WIDTH],
-)
-    ensures { λ _. ⌜ recordFrom (now (routers .exit)) (now (root .exit)) (now (direction .exit)) (now (ranks .exit)) (now (waiting .exit)) (now (telling .exit)) (now (due .exit)) (now (states .exit)) (now (written .exit)) ≡ last ⌝ }
-{
-    *routers = last.n;
-    *root = last.root;
-    *direction = last.direction;
-    let of_ranks = last.ranks;
-    *ranks = of_ranks;
-    let of_waiting = last.waiting;
-    *waiting = of_waiting;
-    let of_telling = last.telling;
-    *telling = of_telling;
-    let of_due = last.due;
-    *due = of_due;
-    let of_states = last.states;
-    *states = of_states;
-    let of_written = last.written;
-    *written = of_written;
+    let first = gathered(
+        n, root, direction, ranks, waiting, telling, due, states, written,
+    );
+    run(first, bytes)
 }

@@ -1,7 +1,7 @@
 use borrow.Author.Needs.{needs}
-use Rattle.exports.proofs.Handing.{refused-number}
-use Rattle.exports.proofs.number.Statement.{statement}
-use Rattle.exports.proofs.number.Tie as tie
+use Rattle.fields.proofs.Numbers.{refused-number}
+use Rattle.fields.proofs.number.Statement.{statement}
+use Rattle.fields.proofs.number.Tie as tie
 
 enum-told : tie.Need-enum-told
 enum-told c = search needs
