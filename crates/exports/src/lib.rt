@@ -1,11 +1,8 @@
 // The bench for programs in C or Rust: each call under a plain name, with numbers, slices and arrays in place of structs and enums. A verdict is its number, 0 where nothing is refused. A record is lent field by field.
 use area::limits::WIDTH;
-use fields::gathered;
 use fields::hand_back;
-use fields::number;
-use plan::Record;
-use steps::calls::step;
-use steps::run;
+use fields::ran;
+use fields::step;
 ghost use mathlib.Core.Path.{_≡_};
 ghost use Rattle.paths.specs.Paths.{refusalOf, distancesOf, hopsOf};
 ghost use Rattle.plan.specs.declared.Record.{Record};
@@ -107,8 +104,7 @@ pub extern "C" fn ofib_step(
     ensures answer { λ r. ⌜ ((x : Record) → r ≡ replyNumber (stepOf (over x n (now (waiting .entry)) (now (telling .entry)) (now (due .entry)) (now (states .entry)) (now (written .entry))) kind a b .reply)) ⌝ }
     ensures record { λ _. ⌜ ((x : Record) → over x n (now (waiting .exit)) (now (telling .entry)) (now (due .entry)) (now (states .exit)) (now (written .exit)) ≡ stepOf (over x n (now (waiting .entry)) (now (telling .entry)) (now (due .entry)) (now (states .entry)) (now (written .entry))) kind a b .next) ⌝ }
 {
-    let answer = step(n, waiting, telling, due, states, written, kind, a, b);
-    number(answer)
+    step(n, waiting, telling, due, states, written, kind, a, b)
 }
 
 // All the steps that the bytes stand for, three bytes each. The nine first places are the record, and get the last one.
@@ -185,25 +181,4 @@ pub extern "C" fn ofib_routes(
     ensures { λ r. ⌜ Appended (now (out .entry)) 0 (routes (now (file .entry)) (now (old .entry)) (tables (now (new .entry)) (now («old_dist» .entry)) (now («new_dist» .entry)) (now («old_hops» .entry)) (now («new_hops» .entry)))) (now (out .exit)) r ⌝ }
 {
     report::routes(file, old, new, old_dist, new_dist, old_hops, new_hops, out)
-}
-
-// The last record of a run that begins with the record of these fields.
-fn ran(
-    n: u8,
-    root: u8,
-    direction: u8,
-    ranks: &[u8; WIDTH],
-    waiting: &[u32; WIDTH],
-    telling: &[u32; WIDTH],
-    due: &[u32; WIDTH],
-    states: &[u8; WIDTH],
-    written: &[u32; WIDTH],
-    bytes: &[u8],
-) -> Record
-    ensures { λ r. ⌜ r ≡ run (recordFrom n root direction (now (ranks .entry)) (now (waiting .entry)) (now (telling .entry)) (now (due .entry)) (now (states .entry)) (now (written .entry))) (callsOf (now (bytes .entry))) ⌝ }
-{
-    let first = gathered(
-        n, root, direction, ranks, waiting, telling, due, states, written,
-    );
-    run(first, bytes)
 }

@@ -2,12 +2,36 @@
 use area::limits::WIDTH;
 use plan::Record;
 use steps::Answer;
+use steps::calls;
+use steps::run;
 ghost use mathlib.Core.Path.{_≡_};
+ghost use Rattle.plan.specs.declared.Record.{Record};
 ghost use Rattle.steps.specs.Answers.{replyOf};
+ghost use Rattle.steps.specs.Machine.{over, stepOf};
+ghost use Rattle.steps.specs.Run.{run, callsOf};
 ghost use Rattle.fields.specs.Fields.{recordFrom, replyNumber};
 
+// Step. n and five of the tables per router are all that it reads of a record, and three of these tables all that it changes. The answer is 0 for ok, 255 for ignored, and the number of a refusal.
+pub fn step(
+    n: u8,
+    waiting: &mut [u32; WIDTH],
+    telling: &[u32; WIDTH],
+    due: &[u32; WIDTH],
+    states: &mut [u8; WIDTH],
+    written: &mut [u32; WIDTH],
+    kind: u8,
+    a: u8,
+    b: u8,
+) -> u8
+    ensures answer { λ r. ⌜ ((x : Record) → r ≡ replyNumber (stepOf (over x n (now (waiting .entry)) (now (telling .entry)) (now (due .entry)) (now (states .entry)) (now (written .entry))) kind a b .reply)) ⌝ }
+    ensures record { λ _. ⌜ ((x : Record) → over x n (now (waiting .exit)) (now (telling .entry)) (now (due .entry)) (now (states .exit)) (now (written .exit)) ≡ stepOf (over x n (now (waiting .entry)) (now (telling .entry)) (now (due .entry)) (now (states .entry)) (now (written .entry))) kind a b .next) ⌝ }
+{
+    let answer = calls::step(n, waiting, telling, due, states, written, kind, a, b);
+    number(answer)
+}
+
 // The answer of a step: 0 for ok, 255 for ignored, and the number of a refusal.
-pub fn number(answer: Answer) -> u8
+fn number(answer: Answer) -> u8
     ensures { λ r. ⌜ r ≡ replyNumber (replyOf answer) ⌝ }
 {
     match answer {
@@ -17,8 +41,37 @@ pub fn number(answer: Answer) -> u8
     }
 }
 
+// The last record of a run that begins with the record of these fields.
+pub fn ran(
+    n: u8,
+    root: u8,
+    direction: u8,
+    ranks: &[u8; WIDTH],
+    waiting: &[u32; WIDTH],
+    telling: &[u32; WIDTH],
+    due: &[u32; WIDTH],
+    states: &[u8; WIDTH],
+    written: &[u32; WIDTH],
+    bytes: &[u8],
+) -> Record
+    ensures { λ r. ⌜ r ≡ run (recordFrom n root direction (now (ranks .entry)) (now (waiting .entry)) (now (telling .entry)) (now (due .entry)) (now (states .entry)) (now (written .entry))) (callsOf (now (bytes .entry))) ⌝ }
+{
+    let first = gathered(
+        n,
+        root,
+        direction,
+        ranks,
+        waiting,
+        telling,
+        due,
+        states,
+        written,
+    );
+    run(first, bytes)
+}
+
 // The record whose fields are these.
-pub fn gathered(
+fn gathered(
     n: u8,
     root: u8,
     direction: u8,

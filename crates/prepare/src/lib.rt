@@ -44,7 +44,14 @@ pub fn prepare(
     let list = changes(file, contents);
     // With a refusal Read gives n as 0, so that Plan refuses too and fills nothing.
     let planned = plan(
-        contents.n, old, list, new, old_dist, new_dist, old_hops, new_hops,
+        contents.n,
+        old,
+        list,
+        new,
+        old_dist,
+        new_dist,
+        old_hops,
+        new_hops,
     );
     started(found, planned)
 }

@@ -141,8 +141,7 @@ module _ (f m : List ℕ) (t : Tables) where
       pub listed-tables : k ≡ 0 → (r .n ≤ width) × Full d h e g
       listed-tables i =
           let z = sym told ∙ i in
-          let size = filled-size (routers f) (metrics f) (changes f) in
-          (
+          let size = filled-size (routers f) (metrics f) (changes f) in (
             few-routers z,
             record {
               old-distances = ap (λ (u : Tables). length (u .oldDistances)) (left z) ∙ size .oldDistances;

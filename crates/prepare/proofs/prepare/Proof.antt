@@ -45,8 +45,7 @@ returns c =
     let read = c .before .before .before .before .before .before .before .before .before .before .before .before .before .before .before .before .before .before .before .before .before .before .read in
     let list = c .before .before .before .before .before .before .before .before .before .before .before .before .before .before .before .before .before .before .changes in
     let plan = c .before .before .before .before .before .before .before .before .before .before .before .plan in
-    let both = c .started in
-    (
+    let both = c .started in (
       refusal-given (now (a .file)) (now (a .old)) t (read .result .contents) (read .ensures .1 .0) _ (read .ensures .1 .1) _ (list .ensures) (read .ensures .0) (plan .ensures .0) (both .ensures .0),
       (
         both .ensures .1 .0 ∙ record-given (now (a .file)) (now (a .old)) t (read .result .contents) (read .ensures .1 .0) _ (read .ensures .1 .1) _ (list .ensures) (plan .ensures .1 .0),

@@ -1,7 +1,7 @@
 use borrow.Author.Needs.{needs}
-use Rattle.exports.proofs.Handing.{last-record}
-use Rattle.exports.proofs.ran.Statement.{statement}
-use Rattle.exports.proofs.ran.Tie as tie
+use Rattle.fields.proofs.Handing.{last-record}
+use Rattle.fields.proofs.ran.Statement.{statement}
+use Rattle.fields.proofs.ran.Tie as tie
 
 gathered-requires : tie.Need-gathered-requires
 gathered-requires c κs = search needs
