@@ -4,6 +4,7 @@
 --     file-size, file-largest      the length of the file, by its counts, and at most
 --     changes-length, steps-length, changes-count      the parts that Plan and Step get
 --     contents-n, contents-changes, contents-steps     what the file says of itself
+--     nothing-n, nothing-changes       and what is handed back with a refusal
 --     long-refused     a file that is longer than the largest is refused
 --     first-bytes      the first bytes of a file, one more than the largest has, decide all that Read does
 use Prim.Native.Nat.{ℕ, _+_, _-_, _*_, _≤_, _<_}
@@ -25,7 +26,7 @@ use Rattle.area.specs.TableLaws.{cell-tabulate}
 use Rattle.area.specs.Entries.{count, entryOf, from, to, metric, isOf, listed}
 use Rattle.area.specs.EntryLaws.{count-is, count-least, entry-same, listed-same, given-none, given-cases, given-at}
 use Rattle.bench_file.specs.Sections.{two, routers, linkCount, links, changeCountAt, changeCount, changesAt, changes, stepCountAt, stepCount, stepsAt, steps, largest}
-use Rattle.bench_file.specs.Read.{mostLinks, linkRefusal, restRefusal, fileRefusal, readRefusal, contents, contentsOf, linked, metricsOf}
+use Rattle.bench_file.specs.Read.{mostLinks, linkRefusal, restRefusal, fileRefusal, readRefusal, contents, nothing, contentsOf, linked, metricsOf}
 use Rattle.bench_file.specs.ReadLaws.{most-links-is, pairs-most, Accepted, accepted-of, link-whole, rest-many-changes, rest-many-steps, rest-more, file-count, file-many, file-link, file-rest, read-size, read-file, contents-refused, metrics-kept, metrics-refused, metrics-accepted}
 
 -- ---- the largest file
@@ -105,6 +106,15 @@ module _ (f : List ℕ) where
   pub contents-steps : (contents f .steps .at ≡ stepsAt f) × (contents f .steps .count ≡ stepCount f)
   unfolding contents
   contents-steps = (refl, refl)
+
+-- what is handed back with a refusal
+pub nothing-n : nothing .n ≡ 0
+unfolding nothing
+nothing-n = refl
+
+pub nothing-changes : (nothing .changes .at ≡ 0) × (nothing .changes .count ≡ 0)
+unfolding nothing
+nothing-changes = (refl, refl)
 
 -- ---- a file that is longer than the largest
 pub long-refused : (f : List ℕ) → largest < length f → fileRefusal f ≢ 0

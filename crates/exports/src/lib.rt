@@ -1,19 +1,19 @@
 // The bench for programs in C or Rust: each call under a plain name, with numbers, slices and arrays in place of structs and enums. A verdict is its number, 0 where nothing is refused. A record is lent field by field.
 use area::limits::WIDTH;
-use calls::step;
-use machine::Answer;
-use plan::Record;
+use fields::hand_back;
+use fields::ran;
+use fields::step;
 ghost use mathlib.Core.Path.{_≡_};
 ghost use Rattle.topology.specs.Paths.{refusalOf, distancesOf, hopsOf};
 ghost use Rattle.plan.specs.declared.Record.{Record};
 ghost use Rattle.plan.specs.Plan.{tables, areTables, planRefusal, recordOf, tablesOf};
-ghost use Rattle.machine.specs.Answers.{replyOf};
 ghost use Rattle.machine.specs.Machine.{over, stepOf};
 ghost use Rattle.machine.specs.Run.{run, callsOf};
 ghost use Rattle.bench_file.specs.Read.{readRefusal, contentsOf, metricsOf};
 ghost use Rattle.text.specs.Text.{Appended};
 ghost use Rattle.report.specs.Report.{rehearsal, routes};
-ghost use Rattle.exports.specs.Exports.{recordFrom, numbers, replyNumber};
+ghost use Rattle.fields.specs.Fields.{recordFrom, replyNumber};
+ghost use Rattle.exports.specs.Exports.{numbers};
 
 // Read. `contents` gets n, the number of links, the number of changes and where they begin, the number of steps and where they begin.
 #[no_mangle]
@@ -23,16 +23,13 @@ pub extern "C" fn ofib_read(file: &[u8], table: &mut [u32], contents: &mut [usiz
     ensures metrics { λ _. ⌜ now (table .exit) ≡ metricsOf (now (file .entry)) (now (table .entry)) ⌝ }
 {
     let found = bench_file::read(file, table);
-    let said = found.contents;
-    let changes = said.changes;
-    let steps = said.steps;
     *contents = [
-        said.n,
-        said.links,
-        changes.count,
-        changes.at,
-        steps.count,
-        steps.at,
+        found.contents.n,
+        found.contents.links,
+        found.contents.changes.count,
+        found.contents.changes.at,
+        found.contents.steps.count,
+        found.contents.steps.at,
     ];
     let answer = found.answer;
     answer.number()
@@ -75,9 +72,8 @@ pub extern "C" fn ofib_plan(
     ensures tables { λ _. ⌜ tables (now (new .exit)) (now («old_dist» .exit)) (now («new_dist» .exit)) (now («old_hops» .exit)) (now («new_hops» .exit)) ≡ tablesOf n (now (old .entry)) (now (list .entry)) (tables (now (new .entry)) (now («old_dist» .entry)) (now («new_dist» .entry)) (now («old_hops» .entry)) (now («new_hops» .entry))) ⌝ }
 {
     let planned = plan::plan(n, old, list, new, old_dist, new_dist, old_hops, new_hops);
-    let record = planned.record;
     hand_back(
-        record,
+        planned.record,
         routers,
         root,
         direction,
@@ -108,8 +104,7 @@ pub extern "C" fn ofib_step(
     ensures answer { λ r. ⌜ ((x : Record) → r ≡ replyNumber (stepOf (over x n (now (waiting .entry)) (now (telling .entry)) (now (due .entry)) (now (states .entry)) (now (written .entry))) kind a b .reply)) ⌝ }
     ensures record { λ _. ⌜ ((x : Record) → over x n (now (waiting .exit)) (now (telling .entry)) (now (due .entry)) (now (states .exit)) (now (written .exit)) ≡ stepOf (over x n (now (waiting .entry)) (now (telling .entry)) (now (due .entry)) (now (states .entry)) (now (written .entry))) kind a b .next) ⌝ }
 {
-    let answer = step(n, waiting, telling, due, states, written, kind, a, b);
-    number(answer)
+    step(n, waiting, telling, due, states, written, kind, a, b)
 }
 
 // All the steps that the bytes stand for, three bytes each. The nine first places are the record, and get the last one.
@@ -128,7 +123,7 @@ pub extern "C" fn ofib_run(
 )
     ensures { λ _. ⌜ recordFrom (now (routers .exit)) (now (root .exit)) (now (direction .exit)) (now (ranks .exit)) (now (waiting .exit)) (now (telling .exit)) (now (due .exit)) (now (states .exit)) (now (written .exit)) ≡ run (recordFrom (now (routers .entry)) (now (root .entry)) (now (direction .entry)) (now (ranks .entry)) (now (waiting .entry)) (now (telling .entry)) (now (due .entry)) (now (states .entry)) (now (written .entry))) (callsOf (now (bytes .entry))) ⌝ }
 {
-    let record = lent(
+    let last = ran(
         *routers,
         *root,
         *direction,
@@ -138,10 +133,10 @@ pub extern "C" fn ofib_run(
         due,
         states,
         written,
+        bytes,
     );
-    let next = steps::run(record, bytes);
     hand_back(
-        next,
+        last,
         routers,
         root,
         direction,
@@ -186,79 +181,4 @@ pub extern "C" fn ofib_routes(
     ensures { λ r. ⌜ Appended (now (out .entry)) 0 (routes (now (file .entry)) (now (old .entry)) (tables (now (new .entry)) (now («old_dist» .entry)) (now («new_dist» .entry)) (now («old_hops» .entry)) (now («new_hops» .entry)))) (now (out .exit)) r ⌝ }
 {
     report::routes(file, old, new, old_dist, new_dist, old_hops, new_hops, out)
-}
-
-fn number(answer: Answer) -> u8
-    ensures { λ r. ⌜ r ≡ replyNumber (replyOf answer) ⌝ }
-{
-    match answer {
-        Answer::Ok => 0,
-        Answer::Ignored => 255,
-        Answer::Refused(why) => why.number(),
-    }
-}
-
-// The record whose fields are these.
-fn lent(
-    n: u8,
-    root: u8,
-    direction: u8,
-    ranks: &[u8; WIDTH],
-    waiting: &[u32; WIDTH],
-    telling: &[u32; WIDTH],
-    due: &[u32; WIDTH],
-    states: &[u8; WIDTH],
-    written: &[u32; WIDTH],
-) -> Record
-    ensures { λ r. ⌜ r ≡ recordFrom n root direction (now (ranks .entry)) (now (waiting .entry)) (now (telling .entry)) (now (due .entry)) (now (states .entry)) (now (written .entry)) ⌝ }
-{
-    let ranks = *ranks;
-    let waiting = *waiting;
-    let telling = *telling;
-    let due = *due;
-    let states = *states;
-    let written = *written;
-    Record {
-        n,
-        root,
-        direction,
-        ranks,
-        waiting,
-        telling,
-        due,
-        states,
-        written,
-    }
-}
-
-// Puts each field of a record into its place.
-fn hand_back(
-    last: Record,
-    routers: &mut u8,
-    root: &mut u8,
-    direction: &mut u8,
-    ranks: &mut [u8; WIDTH],
-    waiting: &mut [u32; WIDTH],
-    telling: &mut [u32; WIDTH],
-    due: &mut [u32; WIDTH],
-    states: &mut [u8; WIDTH],
-    written: &mut [u32; WIDTH],
-)
-    ensures { λ _. ⌜ recordFrom (now (routers .exit)) (now (root .exit)) (now (direction .exit)) (now (ranks .exit)) (now (waiting .exit)) (now (telling .exit)) (now (due .exit)) (now (states .exit)) (now (written .exit)) ≡ last ⌝ }
-{
-    *routers = last.n;
-    *root = last.root;
-    *direction = last.direction;
-    let of_ranks = last.ranks;
-    *ranks = of_ranks;
-    let of_waiting = last.waiting;
-    *waiting = of_waiting;
-    let of_telling = last.telling;
-    *telling = of_telling;
-    let of_due = last.due;
-    *due = of_due;
-    let of_states = last.states;
-    *states = of_states;
-    let of_written = last.written;
-    *written = of_written;
 }

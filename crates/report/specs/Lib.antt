@@ -1,8 +1,4 @@
 -- What the programs print for a bench file. First the definitions, in reading order; then the laws about them.
-pub mod Bench
-pub mod Lines
 pub mod Report
-pub mod BenchLaws
-pub mod LineLaws
 pub mod ReportLaws
 pub mod RoomLaws

@@ -1,5 +1,4 @@
 // What the programs print for a bench file.
-mod bench;
 mod pairs;
 mod rehearsal;
 

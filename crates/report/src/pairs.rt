@@ -1,29 +1,21 @@
 // The routes: distances and next-hop sets of every pair of routers, before the change and after it.
-use crate::bench::prepare;
 use area::limits::UNREACHED;
 use area::limits::WIDTH;
-use area::refusal::Verdict;
-use text::append;
-use text::field;
-use text::line;
+use lines::Path;
+use lines::refusal;
+use lines::route;
+use prepare::prepare;
 ghost use mathlib.Core.Path.{_≡_};
 ghost use Prim.Native.Nat.{_≤_, _<_};
 ghost use lib.Dec.{eqb};
 ghost use lib.ListN.{length};
 ghost use Rattle.area.specs.Limits.{width};
-ghost use Rattle.area.specs.Refusals.{verdictNumber};
 ghost use Rattle.area.specs.Tests.{pick};
 ghost use Rattle.plan.specs.Plan.{tables};
 ghost use Rattle.text.specs.Text.{Appended};
-ghost use Rattle.report.specs.Lines.{refusedLine, pathText, routeLine, isPrinted, pairText, rowLines, routeLines};
-ghost use Rattle.report.specs.BenchLaws.{Full};
+ghost use Rattle.lines.specs.Lines.{refusedLine, isPrinted, pairText, rowLines, routeLines};
 ghost use Rattle.report.specs.Report.{routes};
-
-// The distance between two routers, and the next-hop set by which it is reached.
-struct Path {
-    distance: u32,
-    hops: u32,
-}
+ghost use Rattle.report.specs.ReportLaws.{Full};
 
 // Puts all that is printed of a file's routes at the start of `out`, as far as that has room, and gives its length. The tables are lent to be filled, whatever they hold.
 pub fn routes(
@@ -39,11 +31,9 @@ pub fn routes(
     ensures { λ r. ⌜ Appended (now (out .entry)) 0 (routes (now (file .entry)) (now (old .entry)) (tables (now (new .entry)) (now («old_dist» .entry)) (now («new_dist» .entry)) (now («old_hops» .entry)) (now («new_hops» .entry)))) (now (out .exit)) r ⌝ }
 {
     let start = prepare(file, old, new, old_dist, new_dist, old_hops, new_hops);
-    let answer = start.answer;
-    let contents = start.contents;
     listed(
-        answer,
-        contents.n,
+        start.refusal,
+        start.record.n,
         old_dist,
         old_hops,
         new_dist,
@@ -52,23 +42,23 @@ pub fn routes(
     )
 }
 
-// The refusal, or the pairs of all routers.
+// The refusal of this number, or the pairs of all routers.
 fn listed(
-    answer: Verdict,
-    n: usize,
+    number: u8,
+    n: u8,
     old_dist: &[u32],
     old_hops: &[u32],
     new_dist: &[u32],
     new_hops: &[u32],
     out: &mut [u8],
 ) -> usize
-    requires { ⌜ (verdictNumber answer ≡ 0 → (n ≤ width) × Full (now «old_dist») (now «old_hops») (now «new_dist») (now «new_hops»)) ⌝ }
-    ensures { λ r. ⌜ Appended (now (out .entry)) 0 (pick (eqb (verdictNumber answer) 0) (routeLines (now («old_dist» .entry)) (now («old_hops» .entry)) (now («new_dist» .entry)) (now («new_hops» .entry)) n n) (refusedLine (verdictNumber answer))) (now (out .exit)) r ⌝ }
+    requires { ⌜ (number ≡ 0 → (n ≤ width) × Full (now «old_dist») (now «old_hops») (now «new_dist») (now «new_hops»)) ⌝ }
+    ensures { λ r. ⌜ Appended (now (out .entry)) 0 (pick (eqb number 0) (routeLines (now («old_dist» .entry)) (now («old_hops» .entry)) (now («new_dist» .entry)) (now («new_hops» .entry)) n n) (refusedLine number)) (now (out .exit)) r ⌝ }
 {
-    if !answer.is_accepted() {
-        return line(out, 0, b"refused ", answer.number() as u32);
+    if number != 0 {
+        return refusal(number, out, 0);
     }
-    rows(n, old_dist, old_hops, new_dist, new_hops, out)
+    rows(n as usize, old_dist, old_hops, new_dist, new_hops, out)
 }
 
 // The pairs of all routers, at the start of `out`.
@@ -128,7 +118,7 @@ fn pair(i: usize, j: usize, before: Path, after: Path, out: &mut [u8], at: usize
     ensures { λ r. ⌜ Appended (now (out .entry)) at (pairText i j before after) (now (out .exit)) r ⌝ }
 {
     if is_printed(i, j, before, after) {
-        return route(i, j, before, after, out, at);
+        return route(i as u32, j as u32, before, after, out, at);
     }
     at
 }
@@ -144,28 +134,4 @@ fn is_printed(i: usize, j: usize, before: Path, after: Path) -> bool
         return true;
     }
     after.distance != UNREACHED
-}
-
-fn route(i: usize, j: usize, before: Path, after: Path, out: &mut [u8], at: usize) -> usize
-    requires { ⌜ (i < width) × (j < width) ⌝ }
-    ensures { λ r. ⌜ Appended (now (out .entry)) at (routeLine i j before after) (now (out .exit)) r ⌝ }
-{
-    let at = field(out, at, b"route ", i as u32);
-    let at = field(out, at, b" ", j as u32);
-    let at = append(out, at, b" old");
-    let at = reached(before, out, at);
-    let at = append(out, at, b" new");
-    let at = reached(after, out, at);
-    append(out, at, b"\n")
-}
-
-// A distance and the next hops, or that there is no walk.
-fn reached(p: Path, out: &mut [u8], at: usize) -> usize
-    ensures { λ r. ⌜ Appended (now (out .entry)) at (pathText p) (now (out .exit)) r ⌝ }
-{
-    if p.distance == UNREACHED {
-        return append(out, at, b" none");
-    }
-    let at = field(out, at, b" ", p.distance);
-    field(out, at, b" via ", p.hops)
 }

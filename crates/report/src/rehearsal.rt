@@ -1,27 +1,26 @@
 // The rehearsal: a line for each router, and one for each step.
-use crate::bench::Start;
-use crate::bench::prepare;
 use area::limits::STEP;
+use bench_file::Section;
 use in_place::applied;
-use machine::Answer;
+use lines::refusal;
+use lines::router;
+use lines::step;
 use plan::Record;
+use prepare::Start;
+use prepare::prepare;
 use text::append;
-use text::field;
-use text::line;
 ghost use mathlib.Core.Path.{_≡_};
-ghost use Prim.Native.Nat.{ℕ, _≤_};
-ghost use mathlib.Core.List.{List};
+ghost use Prim.Native.Nat.{_+_, _*_, _≤_};
+ghost use lib.Dec.{eqb};
 ghost use lib.ListN.{length};
 ghost use Rattle.area.specs.Limits.{width};
-ghost use Rattle.area.specs.Refusals.{verdictNumber};
-ghost use Rattle.plan.specs.Plan.{Tables, tables};
-ghost use Rattle.machine.specs.Answers.{replyOf, refused};
+ghost use Rattle.area.specs.Tests.{pick};
+ghost use Rattle.plan.specs.Plan.{tables};
 ghost use Rattle.machine.specs.Run.{replies, callsOf};
 ghost use Rattle.text.specs.Text.{Appended};
-ghost use Rattle.report.specs.Bench.{refusal, tablesOf};
-ghost use Rattle.report.specs.BenchLaws.{Prepared};
-ghost use Rattle.report.specs.Lines.{routerLine, routerLines, answerText, stepLine, stepLines};
+ghost use Rattle.lines.specs.Lines.{refusedLine, routerLines, stepLines};
 ghost use Rattle.report.specs.Report.{rehearsal};
+ghost use Rattle.report.specs.ReportLaws.{Playable, played, bytesOf};
 
 // Puts all that the rehearsal of a file prints at the start of `out`, as far as that has room, and gives its length. The tables are lent to be filled, whatever they hold.
 pub fn rehearse(
@@ -40,22 +39,37 @@ pub fn rehearse(
     told(file, start, out)
 }
 
-// All that is printed, from what the file gives before its first step.
+// The refusal, or all lines.
 fn told(file: &[u8], start: Start, out: &mut [u8]) -> usize
-    requires { ⌜ (verdictNumber (start .answer) ≡ 0 → Prepared (now file) (start .fresh) (start .contents) (tablesOf (now file))) ⌝ }
-    ensures { λ r. ⌜ ((m : List ℕ) (t : Tables) → verdictNumber (start .answer) ≡ refusal (now (file .entry)) m t → Appended (now (out .entry)) 0 (rehearsal (now (file .entry)) m t) (now (out .exit)) r) ⌝ }
+    requires { ⌜ (start .refusal ≡ 0 → Playable (now file) (start .record) (start .steps)) ⌝ }
+    ensures { λ r. ⌜ Appended (now (out .entry)) 0 (pick (eqb (start .refusal) 0) (played (start .record) (bytesOf (now (file .entry)) (start .steps))) (refusedLine (start .refusal))) (now (out .exit)) r ⌝ }
 {
-    let answer = start.answer;
-    if !answer.is_accepted() {
-        return line(out, 0, b"refused ", answer.number() as u32);
+    if start.refusal != 0 {
+        return refusal(start.refusal, out, 0);
     }
-    let fresh = start.fresh;
-    let contents = start.contents;
-    let listed = contents.steps;
+    let record = start.record;
+    let listed = start.steps;
+    let bytes = calls(file, listed);
+    whole(record, bytes, out)
+}
+
+// The steps of a file, by where they are.
+fn calls(file: &[u8], listed: Section) -> &[u8]
+    requires { ⌜ listed .at + 3 * listed .count ≤ length (now file) ⌝ }
+    ensures { λ r. ⌜ now r ≡ bytesOf (now (file .entry)) listed ⌝ }
+{
     let from = listed.at;
     let to = from + STEP * listed.count;
+    &file[from..to]
+}
+
+// All lines of the routers and of the steps that the bytes stand for, and the end.
+fn whole(fresh: Record, bytes: &[u8], out: &mut [u8]) -> usize
+    requires { ⌜ (fresh .n ≤ width) × (length (now bytes) ≤ 12288) ⌝ }
+    ensures { λ r. ⌜ Appended (now (out .entry)) 0 (played fresh (now (bytes .entry))) (now (out .exit)) r ⌝ }
+{
     let at = routers(fresh, out);
-    let at = steps(fresh, &file[from..to], out, at);
+    let at = steps(fresh, bytes, out, at);
     append(out, at, b"end\n")
 }
 
@@ -87,16 +101,6 @@ fn wide(byte: u8) -> u32
     byte as u32
 }
 
-fn router(i: u32, rank: u32, waits: u32, tells: u32, due: u32, out: &mut [u8], at: usize) -> usize
-    ensures { λ r. ⌜ Appended (now (out .entry)) at (routerLine i rank waits tells due) (now (out .exit)) r ⌝ }
-{
-    let at = field(out, at, b"router ", i);
-    let at = field(out, at, b" rank ", rank);
-    let at = field(out, at, b" waits ", waits);
-    let at = field(out, at, b" tells ", tells);
-    line(out, at, b" due ", due)
-}
-
 // A line for each step that the bytes stand for, three bytes each.
 fn steps(first: Record, bytes: &[u8], out: &mut [u8], at: usize) -> usize
     requires { ⌜ (length (now bytes) ≤ 12288) × (at ≤ length (now out)) ⌝ }
@@ -118,28 +122,4 @@ fn steps(first: Record, bytes: &[u8], out: &mut [u8], at: usize) -> usize
         place += 3;
     }
     end
-}
-
-fn step(k: u32, answer: Answer, out: &mut [u8], at: usize) -> usize
-    ensures { λ r. ⌜ Appended (now (out .entry)) at (stepLine k (replyOf answer)) (now (out .exit)) r ⌝ }
-{
-    let at = field(out, at, b"step ", k);
-    said(answer, out, at)
-}
-
-// An answer, up to the end of its line.
-fn said(answer: Answer, out: &mut [u8], at: usize) -> usize
-    ensures { λ r. ⌜ Appended (now (out .entry)) at (answerText (replyOf answer)) (now (out .exit)) r ⌝ }
-{
-    match answer {
-        Answer::Ok => append(out, at, b" ok\n"),
-        Answer::Ignored => append(out, at, b" ignored\n"),
-        Answer::Refused(why) => refused(why.number(), out, at),
-    }
-}
-
-fn refused(number: u8, out: &mut [u8], at: usize) -> usize
-    ensures { λ r. ⌜ Appended (now (out .entry)) at (answerText (refused number)) (now (out .exit)) r ⌝ }
-{
-    line(out, at, b" refused ", number as u32)
 }

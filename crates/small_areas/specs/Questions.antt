@@ -26,7 +26,7 @@ use Rattle.machine.specs.Run.{callsOf, replies}
 use Rattle.bench_file.specs.Sections.{changes, steps}
 use Rattle.bench_file.specs.Read.{mostLinks, linkRefusal, restRefusal, fileRefusal, readRefusal, contents, nothing, contentsOf, linked, metricsOf}
 use Rattle.text.specs.Text.{digits, decimal, field, line}
-use Rattle.report.specs.Lines.{refusedLine, routerLine, routerLines, answerText, stepLine, stepLines}
+use Rattle.lines.specs.Lines.{refusedLine, routerLine, routerLines, answerText, stepLine, stepLines}
 use Rattle.report.specs.Report.{rehearsal}
 
 pub data Question : Type 0 where
@@ -99,7 +99,7 @@ unfolding readRefusal fileRefusal mostLinks linkRefusal restRefusal contentsOf c
     changeRefusal isRise isFall isCommon Rattle.changes.specs.Root.root newCell newMetrics oldHops newHops waiting telling due greatest above longest rank
     areTables faultRefusal commonRefusal listRefusal planRefusal isPlanned fresh blank filled recordOf tablesOf
     learn release ready write finish listens deliver isSound isKind readsB areRouters callOf stepOf callsOf replies
-    digits decimal field line Rattle.report.specs.Bench.refusal refusedLine routerLine routerLines answerText stepLine stepLines rehearsal
+    digits decimal field line Rattle.prepare.specs.Bench.refusal refusedLine routerLine routerLines answerText stepLine stepLines rehearsal
 answer f refusal = orThen (readRefusal f lent) (refusedBy f)
 answer f root = planned f .root
 answer f ranks = take (routers f) (planned f .ranks)

@@ -30,7 +30,7 @@ same-length-5 c = search needs
 
 returns : tie.Need-returns
 returns c =
-    let plan = c .before .before .before .before .before .before .before .before .before .before .before .before .before .before .before .before .before .before .before .before .before .before .plan in
+    let plan = c .before .before .before .before .before .before .before .before .before .before .before .before .before .before .before .before .before .before .before .before .before .plan in
     (c .number .ensures ∙ plan .ensures .0, (c .before .hand-back .ensures ∙ plan .ensures .1 .0, plan .ensures .1 .1))
 
 pub ofib-plan-spec : {M : Type 1} → statement M

@@ -16,7 +16,7 @@ same-length c = search needs
 
 returns : tie.Need-returns
 returns c =
-    let read = c .before .before .before .before .before .before .before .read in
+    let read = c .before .before .before .before .read in
     (c .number .ensures ∙ read .ensures .0, (ap numbers (read .ensures .1 .0), read .ensures .1 .1))
 
 pub ofib-read-spec : {M : Type 1} → statement M

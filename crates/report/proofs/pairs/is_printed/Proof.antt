@@ -1,5 +1,5 @@
 use mathlib.Core.Path.{sym}
-use Rattle.report.specs.LineLaws.{printed-own, printed-old, printed-new}
+use Rattle.lines.specs.LineLaws.{printed-own, printed-old, printed-new}
 use Rattle.report.proofs.pairs.is_printed.Statement.{statement}
 use Rattle.report.proofs.pairs.is_printed.Tie as tie
 

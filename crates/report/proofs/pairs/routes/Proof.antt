@@ -1,5 +1,4 @@
 -- What is printed is the refusal, or the lines of all pairs.
-use mathlib.Core.Path.{refl}
 use borrow.Author.Needs.{needs}
 use denote.Ref.{now}
 use Rattle.plan.specs.Plan.{tables}
@@ -12,9 +11,9 @@ prepare-requires c κs = search needs
 
 listed-requires : tie.Need-listed-requires
 listed-requires c κs =
-    let a = c .before .before .before .before .before .before .before .before .before .before .before .before .before .before .before .before .before .before .before .before .before .before .before .before .before .before .before .before .before .before .before .before .before .args in
-    let start = c .before .before .before .before .before .before .before .before .before .before .before .before .before .before .before .before .before .before .prepare in
-    listed-tables (now (a .file)) (now (a .old)) (tables (now (a .new)) (now (a .old-dist)) (now (a .new-dist)) (now (a .old-hops)) (now (a .new-hops))) (start .result .answer) (start .ensures .0) (start .result .fresh) (start .result .contents) _ (start .ensures .1) _ _ _ _ refl refl refl refl
+    let a = c .before .before .before .before .before .before .before .before .before .before .before .before .before .before .before .before .before .before .before .before .before .before .before .before .before .before .before .before .before .before .before .before .args in
+    let start = c .before .before .before .before .before .before .before .before .before .before .before .before .before .before .before .before .before .prepare in
+    listed-tables (now (a .file)) (now (a .old)) (tables (now (a .new)) (now (a .old-dist)) (now (a .new-dist)) (now (a .old-hops)) (now (a .new-hops))) (start .result .refusal) (start .ensures .0) (start .result .record) (start .ensures .1 .0) _ _ _ _ _ (start .ensures .1 .1 .1 .1)
 
 same-length : tie.Need-same-length
 same-length c = search needs
@@ -39,9 +38,9 @@ same-length-7 c = search needs
 
 returns : tie.Need-returns
 returns c =
-    let a = c .before .before .before .before .before .before .before .before .before .before .before .before .before .before .before .before .before .before .before .before .before .before .before .before .before .before .before .before .before .before .before .before .before .before .before .before .args in
-    let start = c .before .before .before .before .before .before .before .before .before .before .before .before .before .before .before .before .before .before .before .before .before .prepare in
-    routes-printed (now (a .file)) (now (a .old)) (tables (now (a .new)) (now (a .old-dist)) (now (a .new-dist)) (now (a .old-hops)) (now (a .new-hops))) (start .result .answer) (start .ensures .0) (start .result .fresh) (start .result .contents) _ (start .ensures .1) _ _ _ _ refl refl refl refl (c .before .before .listed .ensures)
+    let a = c .before .before .before .before .before .before .before .before .before .before .before .before .before .before .before .before .before .before .before .before .before .before .before .before .before .before .before .before .before .before .before .before .before .before .before .args in
+    let start = c .before .before .before .before .before .before .before .before .before .before .before .before .before .before .before .before .before .before .before .before .prepare in
+    routes-printed (now (a .file)) (now (a .old)) (tables (now (a .new)) (now (a .old-dist)) (now (a .new-dist)) (now (a .old-hops)) (now (a .new-hops))) (start .result .refusal) (start .ensures .0) (start .result .record) (start .ensures .1 .0) _ _ _ _ _ (start .ensures .1 .1 .1 .1) (c .before .before .listed .ensures)
 
 pub routes-spec : {M : Type 1} → statement M
 routes-spec =

@@ -4,9 +4,9 @@ use mathlib.Core.Path.{_≡_}
 use native.Mathlib.Omega.{arith}
 use denote.Ref.{now}
 use Rattle.text.specs.Text.{Appended}
-use Rattle.report.specs.Lines.{rowLines}
-use Rattle.report.specs.BenchLaws.{Full}
-use Rattle.report.specs.LineLaws.{row-none, row-more}
+use Rattle.lines.specs.Lines.{rowLines}
+use Rattle.lines.specs.LineLaws.{row-none, row-more}
+use Rattle.report.specs.ReportLaws.{Full}
 use Rattle.report.proofs.pairs.row.Statement.{statement}
 use Rattle.report.proofs.pairs.row.Tie as tie
 

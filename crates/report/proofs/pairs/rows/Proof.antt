@@ -4,9 +4,9 @@ use mathlib.Core.Path.{_≡_}
 use native.Mathlib.Omega.{arith}
 use denote.Ref.{now}
 use Rattle.text.specs.Text.{Appended}
-use Rattle.report.specs.Lines.{routeLines}
-use Rattle.report.specs.BenchLaws.{Full}
-use Rattle.report.specs.LineLaws.{routes-none, routes-more}
+use Rattle.lines.specs.Lines.{routeLines}
+use Rattle.lines.specs.LineLaws.{routes-none, routes-more}
+use Rattle.report.specs.ReportLaws.{Full}
 use Rattle.report.proofs.pairs.rows.Statement.{statement}
 use Rattle.report.proofs.pairs.rows.Tie as tie
 

@@ -2,7 +2,7 @@
 use borrow.Author.Needs.{needs}
 use denote.Ref.{now}
 use Rattle.plan.specs.Plan.{tables}
-use Rattle.report.specs.ReportLaws.{prepared-own}
+use Rattle.report.specs.ReportLaws.{playable, rehearsal-printed}
 use Rattle.report.proofs.rehearsal.rehearse.Statement.{statement}
 use Rattle.report.proofs.rehearsal.rehearse.Tie as tie
 
@@ -13,7 +13,7 @@ told-requires : tie.Need-told-requires
 told-requires c κs =
     let a = c .before .before .before .before .before .before .before .before .before .before .before .before .before .before .before .before .before .before .before .before .before .before .before .before .before .before .before .before .args in
     let start = c .before .before .before .before .before .before .before .before .before .before .before .before .before .prepare in
-    prepared-own (now (a .file)) (now (a .old)) (tables (now (a .new)) (now (a .old-dist)) (now (a .new-dist)) (now (a .old-hops)) (now (a .new-hops))) (start .result .answer) (start .ensures .0) (start .result .fresh) (start .result .contents) _ (start .ensures .1)
+    playable (now (a .file)) (now (a .old)) (tables (now (a .new)) (now (a .old-dist)) (now (a .new-dist)) (now (a .old-hops)) (now (a .new-hops))) (start .result .refusal) (start .ensures .0) (start .result .record) (start .ensures .1 .0) (start .result .steps) (start .ensures .1 .1 .0)
 
 same-length : tie.Need-same-length
 same-length c = search needs
@@ -39,7 +39,8 @@ same-length-7 c = search needs
 returns : tie.Need-returns
 returns c =
     let a = c .before .before .before .before .before .before .before .before .before .before .before .before .before .before .before .before .before .before .before .before .before .before .before .before .before .before .before .before .before .before .before .args in
-    c .before .before .told .ensures (now (a .old)) (tables (now (a .new)) (now (a .old-dist)) (now (a .new-dist)) (now (a .old-hops)) (now (a .new-hops))) (c .before .before .before .before .before .before .before .before .before .before .before .before .before .before .before .before .prepare .ensures .0)
+    let start = c .before .before .before .before .before .before .before .before .before .before .before .before .before .before .before .before .prepare in
+    rehearsal-printed (now (a .file)) (now (a .old)) (tables (now (a .new)) (now (a .old-dist)) (now (a .new-dist)) (now (a .old-hops)) (now (a .new-hops))) (start .result .refusal) (start .ensures .0) (start .result .record) (start .ensures .1 .0) (start .result .steps) (start .ensures .1 .1 .0) (c .before .before .told .ensures)
 
 pub rehearse-spec : {M : Type 1} → statement M
 rehearse-spec =

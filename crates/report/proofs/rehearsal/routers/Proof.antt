@@ -3,8 +3,8 @@ use Prim.Native.Nat.{_-_, _≤_}
 use mathlib.Core.Path.{_≡_}
 use native.Mathlib.Omega.{arith}
 use Rattle.text.specs.Text.{Appended}
-use Rattle.report.specs.Lines.{routerLines}
-use Rattle.report.specs.LineLaws.{routers-none, routers-more}
+use Rattle.lines.specs.Lines.{routerLines}
+use Rattle.lines.specs.LineLaws.{routers-none, routers-more}
 use Rattle.report.proofs.rehearsal.routers.Statement.{statement}
 use Rattle.report.proofs.rehearsal.routers.Tie as tie
 

@@ -5,7 +5,7 @@ use native.Mathlib.Omega.{arith}
 use denote.Ref.{now}
 use lib.ListN.{length}
 use Rattle.steps.specs.Outcomes.{outcomeOf}
-use Rattle.report.specs.LineLaws.{Left, Lines, left-none, left-more, left-all}
+use Rattle.lines.specs.LineLaws.{Left, Lines, left-none, left-more, left-all}
 use Rattle.report.proofs.rehearsal.steps.Statement.{statement}
 use Rattle.report.proofs.rehearsal.steps.Tie as tie
 

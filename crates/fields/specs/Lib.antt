@@ -1,0 +1,2 @@
+-- Records and answers as numbers.
+pub mod Fields
