@@ -1,5 +1,5 @@
 // Change lists: an entry is two routers, and the metric in three bytes, the high one first.
-use crate::read::count;
+use crate::read::MOST;
 use crate::read::mark;
 use crate::read::number;
 use crate::read::value;
@@ -11,7 +11,7 @@ pub fn fill(list: &mut [u8; 320], line: &[u8]) -> usize
     ensures { λ r. ⌜ r ≤ 320 ⌝ }
 {
     let mut e = 0;
-    for k in 0..count(line) {
+    for k in 0..MOST {
         e = word(list, e, line, k);
     }
     bytes(line, e)
@@ -30,7 +30,7 @@ fn bytes(line: &[u8], e: usize) -> usize
 
 // The word whose first number is number k, after e changes. Gives how many there are then.
 fn word(list: &mut [u8; 320], e: usize, line: &[u8], k: usize) -> usize
-    requires { ⌜ k < 1000 ⌝ }
+    requires { ⌜ k < 200 ⌝ }
 {
     let x = number(line, k);
     let y = number(line, k + 1);

@@ -3,18 +3,7 @@ ghost use Prim.Native.Nat.{_≤_};
 ghost use lib.ListN.{length};
 
 // No line has more numbers.
-pub const MOST: usize = 1000;
-
-// How many numbers the line has.
-pub fn count(line: &[u8]) -> usize
-    ensures { λ r. ⌜ r ≤ 1000 ⌝ }
-{
-    let mut k = 0;
-    while k < MOST && start(line, k) < line.len() {
-        k += 1;
-    }
-    k
-}
+pub const MOST: usize = 200;
 
 // Number k, and 0 where the line has fewer.
 pub fn number(line: &[u8], k: usize) -> u64 {
@@ -42,9 +31,9 @@ pub fn mark(line: &[u8], k: usize) -> u8 {
 
 // Which number is the first with the mark: MOST where none has it.
 pub fn place(line: &[u8], letter: u8) -> usize
-    ensures { λ r. ⌜ r ≤ 1000 ⌝ }
+    ensures { λ r. ⌜ r ≤ 200 ⌝ }
 {
-    for k in 0..count(line) {
+    for k in 0..MOST {
         if mark(line, k) == letter {
             return k;
         }

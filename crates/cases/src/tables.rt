@@ -1,6 +1,6 @@
 // Metric tables of areas: cell 32 * i + j is the metric of the link from router i to router j. One cell more follows, so that a table can be lent that
 // is too long.
-use crate::read::count;
+use crate::read::MOST;
 use crate::read::mark;
 use crate::read::number;
 use crate::read::value;
@@ -12,14 +12,14 @@ ghost use Prim.Native.Nat.{_<_};
 // number there shows.
 pub fn fill(table: &mut [u32; 1025], line: &[u8]) {
     *table = [cell(value(line, b'f', 16777215)); 1025];
-    for k in 0..count(line) {
+    for k in 0..MOST {
         word(table, line, k);
     }
 }
 
 // The word whose first number is number k. The words of the change list begin with a letter of their own.
 fn word(table: &mut [u32; 1025], line: &[u8], k: usize)
-    requires { ⌜ k < 1000 ⌝ }
+    requires { ⌜ k < 200 ⌝ }
 {
     let x = number(line, k);
     let y = number(line, k + 1);
@@ -35,17 +35,13 @@ fn word(table: &mut [u32; 1025], line: &[u8], k: usize)
 
 // A link in one direction or in both, by the sign between its routers.
 fn link(table: &mut [u32; 1025], from: u64, to: u64, sign: u8, m: u64) {
-    if sign == b'>' {
-        put(table, from, to, m);
+    if sign != b'>' && sign != b'-' {
+        return;
     }
-    if sign == b'-' {
-        both(table, from, to, m);
-    }
-}
-
-fn both(table: &mut [u32; 1025], from: u64, to: u64, m: u64) {
     put(table, from, to, m);
-    put(table, to, from, m);
+    if sign == b'-' {
+        put(table, to, from, m);
+    }
 }
 
 // One direction, where the table has a cell for it.
@@ -66,14 +62,14 @@ fn cell(m: u64) -> u32 {
 // Every router below the last has a link with the next.
 fn chain(table: &mut [u32; 1025], last: u64, m: u64) {
     for i in 0..last {
-        both(table, i, i + 1, m);
+        link(table, i, i + 1, b'-', m);
     }
 }
 
 // Every router has a link with the hub. The cell of the hub with itself is not read.
 fn star(table: &mut [u32; 1025], hub: u64, m: u64) {
     for i in 0..32 {
-        both(table, i, hub, m);
+        link(table, i, hub, b'-', m);
     }
 }
 

@@ -41,6 +41,7 @@ fn paths(case: &[u8], metric: &[u32; 1025]) {
     let distances = read::size(case, 1);
     let sets = read::size(case, 2);
     let v = paths::paths(n, &all[0..cells], &mut dist[..distances], &mut hops[..sets]);
-    print::form(b": #", &[v.number() as u64]);
+    print::text(b": ");
+    print::number(v.number() as u64);
     show::call(case, n, &dist, &hops);
 }

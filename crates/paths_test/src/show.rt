@@ -66,7 +66,7 @@ fn differing(metric: &[u32; 1025], dist: &[u32; 1025], hops: &[u32; 1025]) {
 
 // The pairs of some routers or of all, and for a large area a checksum of each table.
 fn rows(mark: u8, n: usize, dist: &[u32; 1025], hops: &[u32; 1025]) {
-    print::text(b"\n");
+    print::byte(b'\n');
     for i in 0..32 {
         if is_shown(mark, n, i) {
             row(n, i, dist, hops);

@@ -4,7 +4,7 @@ use plan::Record;
 
 // A line for each router of the record.
 pub fn routers(n: usize, r: Record) {
-    print::text(b"\n");
+    print::byte(b'\n');
     for k in 0..32 {
         if k < n {
             router(k, r.ranks[k], r.waiting[k], r.telling[k], r.due[k]);

@@ -23,7 +23,7 @@ fn case(line: &[u8]) {
     }
     let from = colon + 1;
     print::text(&line[0..colon]);
-    print::text(b"\n");
+    print::byte(b'\n');
     parts(&line[from..]);
 }
 

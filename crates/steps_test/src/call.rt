@@ -30,7 +30,7 @@ pub fn a(words: &[u8], k: usize) -> u8 {
 
 // The second one, or 0 where the step has one number.
 pub fn b(words: &[u8], k: usize) -> u8
-    requires { ⌜ k < 1000 ⌝ }
+    requires { ⌜ k < 200 ⌝ }
 {
     if read::mark(words, k + 1) == b'.' {
         a(words, k + 1)
@@ -53,7 +53,7 @@ pub fn fill(bytes: &mut [u8; 194], words: &[u8]) -> usize
     ensures { λ r. ⌜ r ≤ 192 ⌝ }
 {
     let mut at = 0;
-    for k in 0..read::count(words) {
+    for k in 0..read::MOST {
         at = put(bytes, at, words, k);
     }
     at
@@ -61,7 +61,7 @@ pub fn fill(bytes: &mut [u8; 194], words: &[u8]) -> usize
 
 // The step that begins with number k, if there is one.
 fn put(bytes: &mut [u8; 194], at: usize, words: &[u8], k: usize) -> usize
-    requires { ⌜ (at ≤ 192) × (k < 1000) ⌝ }
+    requires { ⌜ (at ≤ 192) × (k < 200) ⌝ }
     ensures { λ r. ⌜ r ≤ 192 ⌝ }
 {
     if !is_step(words, k) {

@@ -8,7 +8,7 @@ ghost use Prim.Native.Nat.{_<_, _≤_};
 // The record with what the words say.
 pub fn with_words(left: Record, words: &[u8]) -> Record {
     let mut r = left;
-    for k in 0..read::count(words) {
+    for k in 0..read::MOST {
         r = with_word(r, words, k);
     }
     r
@@ -16,7 +16,7 @@ pub fn with_words(left: Record, words: &[u8]) -> Record {
 
 // The word whose first number is number k.
 fn with_word(r: Record, words: &[u8], k: usize) -> Record
-    requires { ⌜ k < 1000 ⌝ }
+    requires { ⌜ k < 200 ⌝ }
 {
     let letter = read::mark(words, k);
     let x = read::number(words, k);

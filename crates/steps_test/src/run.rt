@@ -13,20 +13,22 @@ ghost use Prim.Native.Nat.{_<_};
 pub fn steps(first: Record, words: &[u8]) -> Record {
     let mut now = first;
     let mut differing = 0;
-    for k in 0..read::count(words) {
+    for k in 0..read::MOST {
         // No line is long enough for this sum to wrap.
         differing = std::num::wrapping_add_u64(differing, others::differing(now, words, k));
         now = step(now, words, k);
     }
-    show::routers(now);
-    print::form(b"; methods # run", &[differing]);
+    show::routers(now.n, &now.states, &now.waiting, &now.due, &now.written);
+    print::text(b"; methods ");
+    print::number(differing);
+    print::text(b" run");
     whole(first, now, words);
     now
 }
 
 // The step that begins with number k, if there is one.
 fn step(now: Record, words: &[u8], k: usize) -> Record
-    requires { ⌜ k < 1000 ⌝ }
+    requires { ⌜ k < 200 ⌝ }
 {
     if !call::is_step(words, k) {
         return now;
@@ -47,7 +49,7 @@ fn whole(first: Record, last: Record, words: &[u8]) {
     again(first, last, &bytes, end);
     again(first, last, &bytes, end + 1);
     again(first, last, &bytes, end + 2);
-    print::text(b"\n");
+    print::byte(b'\n');
 }
 
 fn again(first: Record, last: Record, bytes: &[u8; 194], end: usize) {
@@ -55,6 +57,6 @@ fn again(first: Record, last: Record, bytes: &[u8; 194], end: usize) {
     if all.len() < end {
         return;
     }
-    let now = steps::run(first, &all[0..end]);
-    print::form(b" #", &[compare::records(last, now)]);
+    print::byte(b' ');
+    print::number(compare::records(last, steps::run(first, &all[0..end])));
 }

@@ -1,12 +1,11 @@
 // Parts of a line of the output.
 use cases::print;
 use cases::read;
-use plan::Record;
 ghost use Prim.Native.Nat.{_<_};
 
 // The step that begins with number k.
 pub fn step(words: &[u8], k: usize)
-    requires { ⌜ k < 1000 ⌝ }
+    requires { ⌜ k < 200 ⌝ }
 {
     print::byte(b' ');
     print::byte(read::mark(words, k));
@@ -19,22 +18,30 @@ pub fn step(words: &[u8], k: usize)
 
 // An answer by its number, and how many entries changed.
 pub fn answer(number: u8, changed: u64) {
+    print::byte(b'=');
     if number == 0 {
-        print::form(b"=ok/#", &[changed]);
+        print::text(b"ok");
     } else if number == 255 {
-        print::form(b"=ignored/#", &[changed]);
+        print::text(b"ignored");
     } else {
-        print::form(b"=#/#", &[number as u64, changed]);
+        print::number(number as u64);
     }
+    print::byte(b'/');
+    print::number(changed);
 }
 
 // State, waiting, due and written set of each router of the area.
-pub fn routers(r: Record) {
-    let n = r.n as usize;
+pub fn routers<'a>(
+    n: u8,
+    states: &'a [u8; 32],
+    waiting: &'a [u32; 32],
+    due: &'a [u32; 32],
+    written: &'a [u32; 32],
+) {
     print::byte(b';');
     for k in 0..32 {
-        if k < n {
-            router(r.states[k], r.waiting[k], r.due[k], r.written[k]);
+        if k < n as usize {
+            router(states[k], waiting[k], due[k], written[k]);
         }
     }
 }

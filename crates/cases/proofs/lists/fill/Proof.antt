@@ -6,13 +6,10 @@ use Rattle.cases.proofs.lists.fill.Statement.{statement}
 use Rattle.cases.proofs.lists.fill.Tie as tie
 
 abbrev Inv-loop : tie.InvT-loop
-Inv-loop list₀ line e₀ k₀ k-end list e k = (k ≤ k-end) × (k-end ≤ 1000)
+Inv-loop list₀ line e₀ k₀ list e k = k ≤ 200
 
 abbrev μ-loop : tie.MeasureT-loop
-μ-loop list₀ line e₀ k₀ k-end list e k = k-end - k
-
-count-requires : tie.Need-count-requires Inv-loop μ-loop
-count-requires c κs = omega arith
+μ-loop list₀ line e₀ k₀ list e k = 200 - k
 
 loop-holds : tie.Need-loop-holds Inv-loop μ-loop
 loop-holds c = search needs
@@ -41,7 +38,6 @@ fill-spec =
     (tie.spec
     Inv-loop
     μ-loop
-    count-requires
     loop-holds
     word-requires
     add-k

@@ -1,4 +1,4 @@
--- `read::place` is safe and ends, and gives at most 1000. The loop has passed k of the numbers.
+-- `read::place` is safe and ends, and gives at most 200. The loop has passed k of the numbers.
 use Prim.Native.Nat.{_-_, _≤_}
 use native.Mathlib.Omega.{arith}
 use borrow.Author.Needs.{needs}
@@ -6,13 +6,10 @@ use Rattle.cases.proofs.read.place.Statement.{statement}
 use Rattle.cases.proofs.read.place.Tie as tie
 
 abbrev Inv-loop : tie.InvT-loop
-Inv-loop line letter k₀ k-end k = (k ≤ k-end) × (k-end ≤ 1000)
+Inv-loop line letter k₀ k = k ≤ 200
 
 abbrev μ-loop : tie.MeasureT-loop
-μ-loop line letter k₀ k-end k = k-end - k
-
-count-requires : tie.Need-count-requires Inv-loop μ-loop
-count-requires c κs = omega arith
+μ-loop line letter k₀ k = 200 - k
 
 loop-holds : tie.Need-loop-holds Inv-loop μ-loop
 loop-holds c = search needs
@@ -41,7 +38,6 @@ place-spec =
     (tie.spec
     Inv-loop
     μ-loop
-    count-requires
     loop-holds
     mark-requires
     returns

@@ -14,11 +14,11 @@ abbrev μ-loop : tie.MeasureT-loop
 loop-holds : tie.Need-loop-holds Inv-loop μ-loop
 loop-holds c = search needs
 
-add-both : tie.Need-add-both Inv-loop μ-loop
-add-both c = omega arith
+add-link : tie.Need-add-link Inv-loop μ-loop
+add-link c = omega arith
 
-both-requires : tie.Need-both-requires Inv-loop μ-loop
-both-requires c κs = omega arith
+link-requires : tie.Need-link-requires Inv-loop μ-loop
+link-requires c κs = omega arith
 
 add-i : tie.Need-add-i Inv-loop μ-loop
 add-i c = omega arith
@@ -35,4 +35,4 @@ returns c = search needs
 pub chain-spec : {M : Type 1} → statement M
 chain-spec =
     tie.close
-    (tie.spec Inv-loop μ-loop loop-holds add-both both-requires add-i loop-less loop-again returns)
+    (tie.spec Inv-loop μ-loop loop-holds add-link link-requires add-i loop-less loop-again returns)

@@ -6,19 +6,16 @@ use Rattle.cases.proofs.tables.fill.Statement.{statement}
 use Rattle.cases.proofs.tables.fill.Tie as tie
 
 abbrev Inv-loop : tie.InvT-loop
-Inv-loop table₀ line k₀ k-end table k = (k ≤ k-end) × (k-end ≤ 1000)
+Inv-loop table₀ line k₀ table k = k ≤ 200
 
 abbrev μ-loop : tie.MeasureT-loop
-μ-loop table₀ line k₀ k-end table k = k-end - k
+μ-loop table₀ line k₀ table k = 200 - k
 
 value-requires : tie.Need-value-requires Inv-loop μ-loop
 value-requires c κs = omega arith
 
 cell-requires : tie.Need-cell-requires Inv-loop μ-loop
 cell-requires c κs = omega arith
-
-count-requires : tie.Need-count-requires Inv-loop μ-loop
-count-requires c κs = omega arith
 
 loop-holds : tie.Need-loop-holds Inv-loop μ-loop
 loop-holds c = search needs
@@ -46,7 +43,6 @@ fill-spec =
     μ-loop
     value-requires
     cell-requires
-    count-requires
     loop-holds
     word-requires
     add-k

@@ -14,8 +14,8 @@ abbrev μ-loop : tie.MeasureT-loop
 loop-holds : tie.Need-loop-holds Inv-loop μ-loop
 loop-holds c = search needs
 
-both-requires : tie.Need-both-requires Inv-loop μ-loop
-both-requires c κs = omega arith
+link-requires : tie.Need-link-requires Inv-loop μ-loop
+link-requires c κs = omega arith
 
 add-i : tie.Need-add-i Inv-loop μ-loop
 add-i c = omega arith
@@ -32,4 +32,4 @@ returns c = search needs
 pub star-spec : {M : Type 1} → statement M
 star-spec =
     tie.close
-    (tie.spec Inv-loop μ-loop loop-holds both-requires add-i loop-less loop-again returns)
+    (tie.spec Inv-loop μ-loop loop-holds link-requires add-i loop-less loop-again returns)

@@ -6,13 +6,10 @@ use Rattle.steps_test.proofs.call.fill.Statement.{statement}
 use Rattle.steps_test.proofs.call.fill.Tie as tie
 
 abbrev Inv-loop : tie.InvT-loop
-Inv-loop bytes₀ words at₀ k₀ k-end bytes at k = (at ≤ 192) × (k ≤ k-end) × (k-end ≤ 1000)
+Inv-loop bytes₀ words at₀ k₀ bytes at k = (at ≤ 192) × (k ≤ 200)
 
 abbrev μ-loop : tie.MeasureT-loop
-μ-loop bytes₀ words at₀ k₀ k-end bytes at k = k-end - k
-
-count-requires : tie.Need-count-requires Inv-loop μ-loop
-count-requires c κs = omega arith
+μ-loop bytes₀ words at₀ k₀ bytes at k = 200 - k
 
 loop-holds : tie.Need-loop-holds Inv-loop μ-loop
 loop-holds c = search needs
@@ -34,14 +31,4 @@ returns c = search needs
 
 pub fill-spec : {M : Type 1} → statement M
 fill-spec =
-    tie.close
-    (tie.spec
-    Inv-loop
-    μ-loop
-    count-requires
-    loop-holds
-    put-requires
-    add-k
-    loop-less
-    loop-again
-    returns)
+    tie.close (tie.spec Inv-loop μ-loop loop-holds put-requires add-k loop-less loop-again returns)

@@ -6,13 +6,10 @@ use Rattle.steps_test.proofs.records.with_words.Statement.{statement}
 use Rattle.steps_test.proofs.records.with_words.Tie as tie
 
 abbrev Inv-loop : tie.InvT-loop
-Inv-loop words r₀ k₀ k-end r k = (k ≤ k-end) × (k-end ≤ 1000)
+Inv-loop words r₀ k₀ r k = k ≤ 200
 
 abbrev μ-loop : tie.MeasureT-loop
-μ-loop words r₀ k₀ k-end r k = k-end - k
-
-count-requires : tie.Need-count-requires Inv-loop μ-loop
-count-requires c κs = omega arith
+μ-loop words r₀ k₀ r k = 200 - k
 
 loop-holds : tie.Need-loop-holds Inv-loop μ-loop
 loop-holds c = search needs
@@ -35,13 +32,4 @@ returns c = search needs
 pub with-words-spec : {M : Type 1} → statement M
 with-words-spec =
     tie.close
-    (tie.spec
-    Inv-loop
-    μ-loop
-    count-requires
-    loop-holds
-    with-word-requires
-    add-k
-    loop-less
-    loop-again
-    returns)
+    (tie.spec Inv-loop μ-loop loop-holds with-word-requires add-k loop-less loop-again returns)

@@ -6,13 +6,10 @@ use Rattle.steps_test.proofs.run.steps.Statement.{statement}
 use Rattle.steps_test.proofs.run.steps.Tie as tie
 
 abbrev Inv-loop : tie.InvT-loop
-Inv-loop first words now₀ differing₀ k₀ t6 k-end now differing k = (k ≤ k-end) × (k-end ≤ 1000)
+Inv-loop first words now₀ differing₀ k₀ t6 t7 now differing k = k ≤ 200
 
 abbrev μ-loop : tie.MeasureT-loop
-μ-loop first words now₀ differing₀ k₀ t6 k-end now differing k = k-end - k
-
-count-requires : tie.Need-count-requires Inv-loop μ-loop
-count-requires c κs = omega arith
+μ-loop first words now₀ differing₀ k₀ t6 t7 now differing k = 200 - k
 
 loop-holds : tie.Need-loop-holds Inv-loop μ-loop
 loop-holds c = search needs
@@ -38,14 +35,20 @@ loop-again c = search needs
 routers-requires : tie.Need-routers-requires Inv-loop μ-loop
 routers-requires c κs = omega arith
 
-slice-aggregate-form : tie.Need-slice-aggregate-form Inv-loop μ-loop
-slice-aggregate-form c = omega arith
+slice-aggregate-text : tie.Need-slice-aggregate-text Inv-loop μ-loop
+slice-aggregate-text c = omega arith
 
-slice-aggregate-form-2 : tie.Need-slice-aggregate-form-2 Inv-loop μ-loop
-slice-aggregate-form-2 c = omega arith
+text-requires : tie.Need-text-requires Inv-loop μ-loop
+text-requires c κs = omega arith
 
-form-requires : tie.Need-form-requires Inv-loop μ-loop
-form-requires c κs = omega arith
+number-requires : tie.Need-number-requires Inv-loop μ-loop
+number-requires c κs = omega arith
+
+slice-aggregate-text-2 : tie.Need-slice-aggregate-text-2 Inv-loop μ-loop
+slice-aggregate-text-2 c = omega arith
+
+text-requires-2 : tie.Need-text-requires-2 Inv-loop μ-loop
+text-requires-2 c κs = omega arith
 
 whole-requires : tie.Need-whole-requires Inv-loop μ-loop
 whole-requires c κs = omega arith
@@ -59,7 +62,6 @@ steps-spec =
     (tie.spec
     Inv-loop
     μ-loop
-    count-requires
     loop-holds
     differing-requires
     wrapping-add-u64-requires
@@ -68,8 +70,10 @@ steps-spec =
     loop-less
     loop-again
     routers-requires
-    slice-aggregate-form
-    slice-aggregate-form-2
-    form-requires
+    slice-aggregate-text
+    text-requires
+    number-requires
+    slice-aggregate-text-2
+    text-requires-2
     whole-requires
     returns)

@@ -6,13 +6,10 @@ use Rattle.steps_test.proofs.show.routers.Statement.{statement}
 use Rattle.steps_test.proofs.show.routers.Tie as tie
 
 abbrev Inv-loop : tie.InvT-loop
-Inv-loop r n k₀ k = k ≤ 32
+Inv-loop n states waiting due written k₀ k = k ≤ 32
 
 abbrev μ-loop : tie.MeasureT-loop
-μ-loop r n k₀ k = 32 - k
-
-cast-n : tie.Need-cast-n Inv-loop μ-loop
-cast-n c = omega arith
+μ-loop n states waiting due written k₀ k = 32 - k
 
 byte-requires : tie.Need-byte-requires Inv-loop μ-loop
 byte-requires c κs = omega arith
@@ -62,7 +59,6 @@ routers-spec =
     (tie.spec
     Inv-loop
     μ-loop
-    cast-n
     byte-requires
     loop-holds
     element-copy-out-router
