@@ -6,7 +6,7 @@ use Rattle.area.specs.Tests.{pick}
 use Rattle.text.specs.Text.{word}
 use Rattle.plan.specs.Plan.{Tables}
 use Rattle.steps.specs.Run.{replies, callsOf}
-use Rattle.bench_file.specs.Sections.{routers, steps}
+use Rattle.faults.specs.Sections.{routers, steps}
 use Rattle.prepare.specs.Bench.{refusal, planned, tablesOf}
 use Rattle.lines.specs.Lines.{refusedLine, routerLines, stepLines, routeLines}
 

@@ -25,7 +25,7 @@ use Rattle.plan.specs.FreshLaws.{fresh-count}
 use Rattle.steps.specs.Run.{replies, callsOf}
 use Rattle.bench_file.specs.declared.Contents.{Contents}
 use Rattle.bench_file.specs.declared.Section.{Section}
-use Rattle.bench_file.specs.Sections.{routers, changes, stepCount, stepsAt, steps}
+use Rattle.faults.specs.Sections.{routers, changes, stepCount, stepsAt, steps}
 use Rattle.bench_file.specs.Read.{contents, contentsOf}
 use Rattle.bench_file.specs.ReadLaws.{contents-accepted}
 use Rattle.bench_file.specs.FileLaws.{contents-steps}

@@ -11,7 +11,7 @@ use Rattle.text.specs.TextLaws.{line-most}
 use Rattle.plan.specs.Plan.{Tables}
 use Rattle.steps.specs.Run.{replies, callsOf}
 use Rattle.steps.specs.CallLaws.{replies-many}
-use Rattle.bench_file.specs.Sections.{routers, stepCount, stepsAt, steps}
+use Rattle.faults.specs.Sections.{routers, stepCount, stepsAt, steps}
 use Rattle.prepare.specs.Bench.{refusal, planned, tablesOf}
 use Rattle.prepare.specs.BenchLaws.{file-of}
 use Rattle.lines.specs.LengthLaws.{routers-most, steps-most, routes-most}

@@ -23,10 +23,11 @@ use Rattle.steps.specs.Answers.{Reply, refused}
 use Rattle.steps.specs.Machine.{learn, release, ready, write, finish, listens, deliver, isSound, isKind, readsB, areRouters, callOf, stepOf}
 use Rattle.steps.specs.Run.{callsOf, replies}
 use Rattle.text.specs.Text.{digits, decimal, field, line}
-use Rattle.bench_file.specs.Sections.{changes, steps}
+use Rattle.faults.specs.Sections.{changes, steps}
 use Rattle.lines.specs.Lines.{refusedLine, routerLine, routerLines, answerText, stepLine, stepLines}
 use Rattle.report.specs.Report.{rehearsal}
-use Rattle.bench_file.specs.Read.{mostLinks, linkRefusal, restRefusal, fileRefusal, readRefusal, contents, nothing, contentsOf, linked, metricsOf}
+use Rattle.faults.specs.Faults.{mostLinks, linkRefusal, restRefusal, fileRefusal}
+use Rattle.bench_file.specs.Read.{readRefusal, contents, nothing, contentsOf, linked, metricsOf}
 
 pub data Question : Type 0 where
   -- the number with which Read refuses the file, or else Plan; 0 where the change is planned
