@@ -1,3 +1,2 @@
--- What several functions' proofs share, or what would make one too long.
-pub mod Pairs
+-- What would make a function's proof too long.
 pub mod Linking

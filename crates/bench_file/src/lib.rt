@@ -1,16 +1,17 @@
 // The bench file: one area, one change and a list of steps, as bytes.
-mod judge;
 mod metrics;
 
 use area::limits::CELLS;
 use area::limits::ENTRY;
 use area::refusal::Refusal;
 use area::refusal::Verdict;
+use faults::byte;
+use faults::judge;
+use faults::two;
 ghost use mathlib.Core.Path.{_≡_};
-ghost use Prim.Native.Nat.{_+_, _<_};
 ghost use lib.ListN.{length};
 ghost use Rattle.area.specs.Refusals.{verdictNumber};
-ghost use Rattle.bench_file.specs.Sections.{two, end};
+ghost use Rattle.faults.specs.Sections.{end};
 ghost use Rattle.bench_file.specs.Read.{readRefusal, contents, nothing, contentsOf, metricsOf};
 
 // How many entries or steps a section has, and the place of its first byte in the file.
@@ -46,7 +47,7 @@ pub fn read(file: &[u8], table: &mut [u32]) -> BenchFile
         };
     }
     metrics::clear(table);
-    let answer = judge::file(file);
+    let answer = judge(file);
     if !answer.is_accepted() {
         return BenchFile {
             answer,
@@ -65,10 +66,10 @@ fn describe(file: &[u8]) -> Contents
 {
     let links = two(file, 1);
     let change_count_at = 3 + ENTRY * links;
-    let changes = wide(file[change_count_at]);
+    let changes = byte(file, change_count_at);
     let step_count_at = change_count_at + 1 + ENTRY * changes;
     Contents {
-        n: wide(file[0]),
+        n: byte(file, 0),
         links,
         changes: Section {
             count: changes,
@@ -90,20 +91,4 @@ fn nothing() -> Contents
         changes: Section { count: 0, at: 0 },
         steps: Section { count: 0, at: 0 },
     }
-}
-
-// The number in the two bytes at a place, high byte first.
-fn two(file: &[u8], at: usize) -> usize
-    requires { ⌜ at + 1 < length (now file) ⌝ }
-    ensures { λ r. ⌜ (r ≡ two (now (file .entry)) at) × (r < 65536) ⌝ }
-{
-    let high = wide(file[at]);
-    let low = wide(file[at + 1]);
-    256 * high + low
-}
-
-fn wide(byte: u8) -> usize
-    ensures { λ r. ⌜ (r ≡ byte) × (r < 256) ⌝ }
-{
-    byte as usize
 }

@@ -5,10 +5,10 @@ use lib.Dec.{eqb}
 use Rattle.area.specs.Tests.{pick}
 use Rattle.plan.specs.Plan.{Tables}
 use Rattle.machine.specs.Run.{replies, callsOf}
-use Rattle.bench_file.specs.Sections.{routers, steps}
+use Rattle.faults.specs.Sections.{routers, steps}
 use Rattle.text.specs.Text.{word}
-use Rattle.lines.specs.Lines.{refusedLine, routerLines, stepLines, routeLines}
 use Rattle.prepare.specs.Bench.{refusal, planned, tablesOf}
+use Rattle.lines.specs.Lines.{refusedLine, routerLines, stepLines, routeLines}
 
 -- The rehearsal: the refusal alone, or a line for each router, a line for each step, and an end (01, "The rehearsal").
 unfoldable pub rehearsal : List ℕ → List ℕ → Tables → List ℕ

@@ -21,18 +21,18 @@ use Rattle.plan.specs.Plan.{Tables, tables}
 use Rattle.plan.specs.PlanLaws.{filled-size}
 use Rattle.plan.specs.FreshLaws.{fresh-count}
 use Rattle.machine.specs.Run.{replies, callsOf}
+use Rattle.faults.specs.Sections.{routers, changes, stepCount, stepsAt, steps}
 use Rattle.bench_file.specs.declared.Contents.{Contents}
 use Rattle.bench_file.specs.declared.Section.{Section}
-use Rattle.bench_file.specs.Sections.{routers, changes, stepCount, stepsAt, steps}
 use Rattle.bench_file.specs.Read.{contents, contentsOf}
 use Rattle.bench_file.specs.ReadLaws.{contents-accepted}
 use Rattle.bench_file.specs.FileLaws.{contents-steps}
 use Rattle.text.specs.Text.{Appended, word, line}
 use Rattle.text.specs.TextLaws.{appended-then}
-use Rattle.lines.specs.Lines.{refusedLine, routerLines, stepLines, routeLines}
-use Rattle.lines.specs.LineLaws.{refused-is}
 use Rattle.prepare.specs.Bench.{metrics, refusal, planned, tablesOf, recordAt, tablesAt}
 use Rattle.prepare.specs.BenchLaws.{read-passed, file-of, record-passed, tables-passed}
+use Rattle.lines.specs.Lines.{refusedLine, routerLines, stepLines, routeLines}
+use Rattle.lines.specs.LineLaws.{refused-is}
 use Rattle.report.specs.Report.{rehearsal, routes}
 
 -- the steps of a file, by where they are

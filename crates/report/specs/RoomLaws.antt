@@ -9,12 +9,12 @@ use Rattle.area.specs.SizeLaws.{count-most}
 use Rattle.plan.specs.Plan.{Tables}
 use Rattle.machine.specs.Run.{replies, callsOf}
 use Rattle.machine.specs.CallLaws.{replies-many}
-use Rattle.bench_file.specs.Sections.{routers, stepCount, stepsAt, steps}
+use Rattle.faults.specs.Sections.{routers, stepCount, stepsAt, steps}
 use Rattle.text.specs.Text.{word}
 use Rattle.text.specs.TextLaws.{line-most}
-use Rattle.lines.specs.LengthLaws.{routers-most, steps-most, routes-most}
 use Rattle.prepare.specs.Bench.{refusal, planned, tablesOf}
 use Rattle.prepare.specs.BenchLaws.{file-of}
+use Rattle.lines.specs.LengthLaws.{routers-most, steps-most, routes-most}
 use Rattle.report.specs.Report.{rehearsal, routes}
 use Rattle.report.specs.ReportLaws.{rehearsal-refused, routes-refused, rehearsal-whole, routes-whole}
 

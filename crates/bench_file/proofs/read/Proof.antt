@@ -15,10 +15,12 @@ use Rattle.area.specs.declared.refusal.Verdict.{Verdict}
 use Rattle.area.specs.Limits.{width}
 use Rattle.area.specs.Refusals.{verdictNumber}
 use Rattle.area.specs.SizeLaws.{count-most}
+use Rattle.faults.specs.Sections.{routers, links, end}
+use Rattle.faults.specs.Faults.{fileRefusal}
+use Rattle.faults.specs.FaultLaws.{Accepted, accepted-of}
 use Rattle.bench_file.specs.declared.Contents.{Contents}
-use Rattle.bench_file.specs.Sections.{routers, links, end}
-use Rattle.bench_file.specs.Read.{fileRefusal, readRefusal, contents, nothing, contentsOf, linked, metricsOf}
-use Rattle.bench_file.specs.ReadLaws.{Accepted, accepted-of, InTable, read-size, read-file, contents-refused, contents-accepted, metrics-kept, metrics-refused, metrics-accepted}
+use Rattle.bench_file.specs.Read.{readRefusal, contents, nothing, contentsOf, linked, metricsOf}
+use Rattle.bench_file.specs.ReadLaws.{InTable, read-size, read-file, contents-refused, contents-accepted, metrics-kept, metrics-refused, metrics-accepted}
 use Rattle.bench_file.proofs.read.Statement.{statement}
 use Rattle.bench_file.proofs.read.Tie as tie
 
@@ -78,8 +80,8 @@ returns c = let a = c .before .before .before .before .args in wrong-size (now (
 clear-requires : tie.Need-clear-requires
 clear-requires c κs = search needs
 
-file-requires : tie.Need-file-requires
-file-requires c κs = search needs
+judge-requires : tie.Need-judge-requires
+judge-requires c κs = search needs
 
 is-accepted-requires : tie.Need-is-accepted-requires
 is-accepted-requires c κs = search needs
@@ -93,7 +95,7 @@ same-length c = search needs
 returns-2 : tie.Need-returns-2
 returns-2 c =
     let a = c .before .before .before .before .before .before .before .before .before .before .before .args in
-    refused (now (a .file)) (now (a .table)) (omega arith) (c .before .before .before .file .result) (c .before .before .before .file .ensures) (c .before .before .is-accepted .result) (c .before .before .is-accepted .ensures) (c .before .if2 .taken) (c .nothing2 .result) (c .nothing2 .ensures) _ (c .before .before .before .before .before .before .clear .ensures)
+    refused (now (a .file)) (now (a .table)) (omega arith) (c .before .before .before .judge .result) (c .before .before .before .judge .ensures) (c .before .before .is-accepted .result) (c .before .before .is-accepted .ensures) (c .before .if2 .taken) (c .nothing2 .result) (c .nothing2 .ensures) _ (c .before .before .before .before .before .before .clear .ensures)
 
 describe-requires : tie.Need-describe-requires
 describe-requires c κs = search sized
@@ -116,7 +118,7 @@ same-length-2 c = search needs
 returns-3 : tie.Need-returns-3
 returns-3 c =
     let a = c .before .before .before .before .before .before .before .before .before .before .before .before .before .before .before .before .args in
-    passed (now (a .file)) (now (a .table)) (omega arith) (c .before .before .before .before .before .before .before .before .file .result) (c .before .before .before .before .before .before .before .before .file .ensures) (c .before .before .before .before .before .before .before .is-accepted .result) (c .before .before .before .before .before .before .before .is-accepted .ensures) (c .before .before .before .before .before .before .if2 .left) (c .before .before .before .before .before .describe .result) (c .before .before .before .before .before .describe .ensures) _ (c .before .before .put .ensures)
+    passed (now (a .file)) (now (a .table)) (omega arith) (c .before .before .before .before .before .before .before .before .judge .result) (c .before .before .before .before .before .before .before .before .judge .ensures) (c .before .before .before .before .before .before .before .is-accepted .result) (c .before .before .before .before .before .before .before .is-accepted .ensures) (c .before .before .before .before .before .before .if2 .left) (c .before .before .before .before .before .describe .result) (c .before .before .before .before .before .describe .ensures) _ (c .before .before .put .ensures)
 
 pub read-spec : {M : Type 1} → statement M
 read-spec =
@@ -125,7 +127,7 @@ read-spec =
     nothing-requires
     returns
     clear-requires
-    file-requires
+    judge-requires
     is-accepted-requires
     nothing-requires-2
     same-length

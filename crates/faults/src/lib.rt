@@ -1,6 +1,4 @@
-// Whether a file is accepted: the first fault in the order of its bytes.
-use crate::two;
-use crate::wide;
+// Whether a bench file is accepted: the first fault in the order of its bytes.
 use area::entries::Entry;
 use area::entries::check;
 use area::entries::count;
@@ -15,35 +13,36 @@ use area::refusal::Verdict;
 use area::sets::add;
 use area::sets::member;
 ghost use mathlib.Core.Path.{_≡_};
-ghost use Prim.Native.Nat.{_≤_, _*_};
+ghost use Prim.Native.Nat.{_≤_, _<_, _*_};
 ghost use lib.ListN.{getD};
 ghost use Rattle.area.specs.Limits.{width};
 ghost use Rattle.area.specs.Refusals.{verdictNumber};
 ghost use Rattle.area.specs.Tests.{pick, orThen, first};
 ghost use Rattle.area.specs.Sets.{bit};
 ghost use Rattle.area.specs.Entries.{entryRefusal};
-ghost use Rattle.bench_file.specs.Sections.{linkCount};
-ghost use Rattle.bench_file.specs.Read.{linkRefusal, restRefusal, fileRefusal};
+ghost use Rattle.faults.specs.Sections.{two, linkCount};
+ghost use Rattle.faults.specs.Faults.{linkRefusal, restRefusal, fileRefusal};
 
-pub(crate) fn file(file: &[u8]) -> Verdict
+// The first fault of a file.
+pub fn judge(file: &[u8]) -> Verdict
     ensures { λ r. ⌜ verdictNumber r ≡ fileRefusal (now (file .entry)) ⌝ }
 {
     if file.len() < 1 {
-        return Verdict::Refused(Refusal::Incomplete);
+        return incomplete();
     }
-    let n = wide(file[0]);
+    let n = byte(file, 0);
     if n < 1 {
-        return Verdict::Refused(Refusal::RouterCount);
+        return router_count();
     }
     if WIDTH < n {
-        return Verdict::Refused(Refusal::RouterCount);
+        return router_count();
     }
     if file.len() < 3 {
-        return Verdict::Refused(Refusal::Incomplete);
+        return incomplete();
     }
     let announced = two(file, 1);
     if n * (n - 1) < announced {
-        return Verdict::Refused(Refusal::TooMany);
+        return too_many();
     }
     let answer = links(n, &file[3..], announced);
     if !answer.is_accepted() {
@@ -62,7 +61,7 @@ fn links(n: usize, list: &[u8], announced: usize) -> Verdict
     let whole = count(list);
     for e in 0..announced {
         if whole <= e {
-            return Verdict::Refused(Refusal::Incomplete);
+            return incomplete();
         }
         let link = decode(list, e);
         let answer = entry(n, link, &seen);
@@ -101,26 +100,72 @@ fn rest(file: &[u8], links: usize) -> Verdict
 {
     let at = 3 + ENTRY * links;
     if file.len() < at + 1 {
-        return Verdict::Refused(Refusal::Incomplete);
+        return incomplete();
     }
-    let changes = wide(file[at]);
+    let changes = byte(file, at);
     if MOST_CHANGES < changes {
-        return Verdict::Refused(Refusal::TooMany);
+        return too_many();
     }
     let at = at + 1 + ENTRY * changes;
     if file.len() < at + 2 {
-        return Verdict::Refused(Refusal::Incomplete);
+        return incomplete();
     }
     let steps = two(file, at);
     if MOST_STEPS < steps {
-        return Verdict::Refused(Refusal::TooMany);
+        return too_many();
     }
     let end = at + 2 + STEP * steps;
     if file.len() < end {
-        return Verdict::Refused(Refusal::Incomplete);
+        return incomplete();
     }
     if end < file.len() {
         return Verdict::Refused(Refusal::Trailing);
     }
     Verdict::Accepted
+}
+
+// The number in the two bytes at a place, high byte first. A byte that is not there counts as 0.
+pub fn two(file: &[u8], at: usize) -> usize
+    ensures { λ r. ⌜ (r ≡ two (now (file .entry)) at) × (r < 65536) ⌝ }
+{
+    if file.len() <= at {
+        return 0;
+    }
+    let high = byte(file, at);
+    let low = byte(file, at + 1);
+    256 * high + low
+}
+
+// The byte at a place, and 0 where there is none.
+pub fn byte(file: &[u8], at: usize) -> usize
+    ensures { λ r. ⌜ (r ≡ getD (now (file .entry)) at 0) × (r < 256) ⌝ }
+{
+    if file.len() <= at {
+        return 0;
+    }
+    wide(file[at])
+}
+
+fn wide(byte: u8) -> usize
+    ensures { λ r. ⌜ (r ≡ byte) × (r < 256) ⌝ }
+{
+    byte as usize
+}
+
+fn incomplete() -> Verdict
+    ensures { λ r. ⌜ verdictNumber r ≡ 1 ⌝ }
+{
+    Verdict::Refused(Refusal::Incomplete)
+}
+
+fn router_count() -> Verdict
+    ensures { λ r. ⌜ verdictNumber r ≡ 3 ⌝ }
+{
+    Verdict::Refused(Refusal::RouterCount)
+}
+
+fn too_many() -> Verdict
+    ensures { λ r. ⌜ verdictNumber r ≡ 9 ⌝ }
+{
+    Verdict::Refused(Refusal::TooMany)
 }

@@ -1,16 +1,16 @@
 -- Each return gives the refusal of the tests that led to it.
-use mathlib.Core.Path.{_≡_, sym}
+use mathlib.Core.Path.{_≡_, sym, _∙_}
 use mathlib.Core.List.{List}
 use Prim.Native.Nat.{ℕ, _+_, _*_, _<_, _≤_}
 use native.Mathlib.Omega.{arith}
 use borrow.Author.Needs.{needs}
 use lib.ListN.{length, getD}
 use Rattle.area.specs.Limits.{mostChanges, mostSteps}
-use Rattle.bench_file.specs.Sections.{two, linkCount, changeCount, stepCount}
-use Rattle.bench_file.specs.Read.{restRefusal}
-use Rattle.bench_file.specs.ReadLaws.{read-changes, read-steps, rest-cut-count, rest-many-changes, rest-cut-changes, rest-many-steps, rest-cut-steps, rest-more, rest-passes}
-use Rattle.bench_file.proofs.judge.rest.Statement.{statement}
-use Rattle.bench_file.proofs.judge.rest.Tie as tie
+use Rattle.faults.specs.Sections.{two, linkCount, changeCount, stepCount}
+use Rattle.faults.specs.Faults.{restRefusal}
+use Rattle.faults.specs.FaultLaws.{read-changes, read-steps, rest-cut-count, rest-many-changes, rest-cut-changes, rest-many-steps, rest-cut-steps, rest-more, rest-passes}
+use Rattle.faults.proofs.rest.Statement.{statement}
+use Rattle.faults.proofs.rest.Tie as tie
 
 -- one law for each return, by the counts that were read
 module _ (f : List ℕ) (k : ℕ) (is : k ≡ linkCount f) where
@@ -55,17 +55,20 @@ add-at c = search needs
 add-if1 : tie.Need-add-if1
 add-if1 c = search needs
 
+incomplete-requires : tie.Need-incomplete-requires
+incomplete-requires c κs = search needs
+
 returns : tie.Need-returns
-returns c = search cut-count
+returns c = c .incomplete .ensures ∙ (search cut-count)
 
-shared-slice-read-wide : tie.Need-shared-slice-read-wide
-shared-slice-read-wide c = search needs
+byte-requires : tie.Need-byte-requires
+byte-requires c κs = search needs
 
-wide-requires : tie.Need-wide-requires
-wide-requires c κs = search needs
+too-many-requires : tie.Need-too-many-requires
+too-many-requires c κs = search needs
 
 returns-2 : tie.Need-returns-2
-returns-2 c = search many-changes
+returns-2 c = c .too-many .ensures ∙ (search many-changes)
 
 add-at-2 : tie.Need-add-at-2
 add-at-2 c = search needs
@@ -79,14 +82,20 @@ add-at-3 c = search needs
 add-if3 : tie.Need-add-if3
 add-if3 c = search needs
 
+incomplete-requires-2 : tie.Need-incomplete-requires-2
+incomplete-requires-2 c κs = search needs
+
 returns-3 : tie.Need-returns-3
-returns-3 c = search cut-changes
+returns-3 c = c .incomplete2 .ensures ∙ (search cut-changes)
 
 two-requires : tie.Need-two-requires
 two-requires c κs = search needs
 
+too-many-requires-2 : tie.Need-too-many-requires-2
+too-many-requires-2 c κs = search needs
+
 returns-4 : tie.Need-returns-4
-returns-4 c = search many-steps
+returns-4 c = c .too-many2 .ensures ∙ (search many-steps)
 
 add-end : tie.Need-add-end
 add-end c = search needs
@@ -97,8 +106,11 @@ mul-end c = search needs
 add-end-2 : tie.Need-add-end-2
 add-end-2 c = search needs
 
+incomplete-requires-3 : tie.Need-incomplete-requires-3
+incomplete-requires-3 c κs = search needs
+
 returns-5 : tie.Need-returns-5
-returns-5 c = search cut-steps
+returns-5 c = c .incomplete3 .ensures ∙ (search cut-steps)
 
 returns-6 : tie.Need-returns-6
 returns-6 c = search more
@@ -113,20 +125,24 @@ rest-spec =
     mul-at
     add-at
     add-if1
+    incomplete-requires
     returns
-    shared-slice-read-wide
-    wide-requires
+    byte-requires
+    too-many-requires
     returns-2
     add-at-2
     mul-at-2
     add-at-3
     add-if3
+    incomplete-requires-2
     returns-3
     two-requires
+    too-many-requires-2
     returns-4
     add-end
     mul-end
     add-end-2
+    incomplete-requires-3
     returns-5
     returns-6
     returns-7)

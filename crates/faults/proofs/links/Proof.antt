@@ -18,11 +18,11 @@ use Rattle.area.specs.TestLaws.{first-none, first-fault}
 use Rattle.area.specs.Tests.{pick, orThen, first}
 use Rattle.area.specs.Sets.{bit}
 use Rattle.area.specs.Entries.{count, entryOf, entryRefusal}
-use Rattle.bench_file.specs.Read.{linkRefusal}
-use Rattle.bench_file.specs.ReadLaws.{link-cut}
-use Rattle.bench_file.proofs.Pairs.{Seen, seen-none, link-told, in-sets as inside, seen-next}
-use Rattle.bench_file.proofs.judge.links.Statement.{statement}
-use Rattle.bench_file.proofs.judge.links.Tie as tie
+use Rattle.faults.specs.Faults.{linkRefusal}
+use Rattle.faults.specs.FaultLaws.{link-cut}
+use Rattle.faults.proofs.Pairs.{Seen, seen-none, link-told, in-sets as inside, seen-next}
+use Rattle.faults.proofs.links.Statement.{statement}
+use Rattle.faults.proofs.links.Tie as tie
 
 -- a link that is cut short is refused
 some : (n : ℕ) (l : List ℕ) (e : ℕ) → count l ≤ e → linkRefusal n l e ≢ 0
@@ -54,11 +54,14 @@ count-requires c κs = omega arith
 loop-holds : tie.Need-loop-holds Inv-loop μ-loop
 loop-holds c = (omega arith, c .count .ensures, seen-none _, below-none _)
 
+incomplete-requires : tie.Need-incomplete-requires Inv-loop μ-loop
+incomplete-requires c κs = omega arith
+
 returns : tie.Need-returns Inv-loop μ-loop
 returns c =
-    let at-loop = c .before .before .loop in
-    let a = c .before .before .before .before .before .args in
-    sym (first-fault (linkRefusal (a .n) (now (a .list))) (at-loop .e) (a .announced) (omega arith) (at-loop .inv .3) (some (a .n) (now (a .list)) (at-loop .e) (omega arith)) ∙ link-cut (a .n) (now (a .list)) (at-loop .e) (omega arith))
+    let at-loop = c .before .before .before .loop in
+    let a = c .before .before .before .before .before .before .args in
+    c .incomplete .ensures ∙ sym (first-fault (linkRefusal (a .n) (now (a .list))) (at-loop .e) (a .announced) (omega arith) (at-loop .inv .3) (some (a .n) (now (a .list)) (at-loop .e) (omega arith)) ∙ link-cut (a .n) (now (a .list)) (at-loop .e) (omega arith))
 
 decode-requires : tie.Need-decode-requires Inv-loop μ-loop
 decode-requires c κs = omega arith
@@ -118,6 +121,7 @@ links-spec =
     μ-loop
     count-requires
     loop-holds
+    incomplete-requires
     returns
     decode-requires
     entry-requires

@@ -15,11 +15,11 @@ use Rattle.area.specs.Refusals.{verdictNumber}
 use Rattle.area.specs.Tests.{first}
 use Rattle.area.specs.Sizes.{isCount}
 use Rattle.area.specs.SizeLaws.{count-true, count-low, count-high}
-use Rattle.bench_file.specs.Sections.{routers, linkCount, links}
-use Rattle.bench_file.specs.Read.{mostLinks, linkRefusal, restRefusal, fileRefusal}
-use Rattle.bench_file.specs.ReadLaws.{most-links-is, pairs-most, file-empty, file-count, file-cut, file-many, file-link, file-rest}
-use Rattle.bench_file.proofs.judge.file.Statement.{statement}
-use Rattle.bench_file.proofs.judge.file.Tie as tie
+use Rattle.faults.specs.Sections.{routers, linkCount, links}
+use Rattle.faults.specs.Faults.{mostLinks, linkRefusal, restRefusal, fileRefusal}
+use Rattle.faults.specs.FaultLaws.{most-links-is, pairs-most, file-empty, file-count, file-cut, file-many, file-link, file-rest}
+use Rattle.faults.proofs.judge.Statement.{statement}
+use Rattle.faults.proofs.judge.Tie as tie
 
 -- one law for each return, by what the calls before it gave
 module _ (f : List ℕ) where
@@ -60,32 +60,44 @@ module _ (f : List ℕ) where
             passes : not ok ≡ false → (w : Verdict) → verdictNumber w ≡ restRefusal f → verdictNumber w ≡ fileRefusal f
             passes h w e = e ∙ sym (file-rest f a counted b within (sym of-links ∙ eqb-true (verdictNumber v) 0 (sym good ∙ not-false ok h)))
 
+incomplete-requires : tie.Need-incomplete-requires
+incomplete-requires c κs = search needs
+
 returns : tie.Need-returns
-returns c = search empty
+returns c = c .incomplete .ensures ∙ (search empty)
 
-shared-slice-read-wide : tie.Need-shared-slice-read-wide
-shared-slice-read-wide c = search needs
+byte-requires : tie.Need-byte-requires
+byte-requires c κs = search needs
 
-wide-requires : tie.Need-wide-requires
-wide-requires c κs = search needs
+router-count-requires : tie.Need-router-count-requires
+router-count-requires c κs = search needs
 
 returns-2 : tie.Need-returns-2
-returns-2 c = search too-few
+returns-2 c = c .router-count .ensures ∙ (search too-few)
+
+router-count-requires-2 : tie.Need-router-count-requires-2
+router-count-requires-2 c κs = search needs
 
 returns-3 : tie.Need-returns-3
-returns-3 c = search too-many
+returns-3 c = c .router-count2 .ensures ∙ (search too-many)
+
+incomplete-requires-2 : tie.Need-incomplete-requires-2
+incomplete-requires-2 c κs = search needs
 
 returns-4 : tie.Need-returns-4
-returns-4 c = search cut
+returns-4 c = c .incomplete2 .ensures ∙ (search cut)
 
 two-requires : tie.Need-two-requires
 two-requires c κs = search needs
 
 mul-if5 : tie.Need-mul-if5
-mul-if5 c = let most = pairs-most (c .before .before .before .before .wide .result) (omega arith) in omega (arith, most)
+mul-if5 c = let most = pairs-most (c .before .before .before .before .byte .result) (omega arith) in omega (arith, most)
+
+too-many-requires : tie.Need-too-many-requires
+too-many-requires c κs = search needs
 
 returns-5 : tie.Need-returns-5
-returns-5 c = search many
+returns-5 c = c .too-many .ensures ∙ (search many)
 
 sub-links : tie.Need-sub-links
 sub-links c = search needs
@@ -106,23 +118,27 @@ returns-6 : tie.Need-returns-6
 returns-6 c = search faulty
 
 rest-requires : tie.Need-rest-requires
-rest-requires c κs = let most = pairs-most (c .before .before .before .before .before .before .before .before .before .wide .result) (omega arith) in omega (arith, most)
+rest-requires c κs = let most = pairs-most (c .before .before .before .before .before .before .before .before .before .byte .result) (omega arith) in omega (arith, most)
 
 returns-7 : tie.Need-returns-7
 returns-7 c = search passes
 
-pub file-spec : {M : Type 1} → statement M
-file-spec =
+pub judge-spec : {M : Type 1} → statement M
+judge-spec =
     tie.close
     (tie.spec
+    incomplete-requires
     returns
-    shared-slice-read-wide
-    wide-requires
+    byte-requires
+    router-count-requires
     returns-2
+    router-count-requires-2
     returns-3
+    incomplete-requires-2
     returns-4
     two-requires
     mul-if5
+    too-many-requires
     returns-5
     sub-links
     part-links-start

@@ -17,8 +17,8 @@ use Rattle.area.specs.TestLaws.{then-some, then-none}
 use Rattle.area.specs.Sets.{bit}
 use Rattle.area.specs.Entries.{entryRefusal}
 use Rattle.area.specs.EntryLaws.{faultless-of}
-use Rattle.bench_file.proofs.judge.entry.Statement.{statement}
-use Rattle.bench_file.proofs.judge.entry.Tie as tie
+use Rattle.faults.proofs.entry.Statement.{statement}
+use Rattle.faults.proofs.entry.Tie as tie
 
 -- one law for each return, by what the calls before it gave
 module _ (n : ℕ) (x : Entry) (s : List ℕ) (v : Verdict) (told : verdictNumber v ≡ entryRefusal n x) (ok : Bool) (good : ok ≡ eqb (verdictNumber v) 0) where

@@ -1,0 +1,2 @@
+-- What would make a function's proof too long.
+pub mod Pairs
