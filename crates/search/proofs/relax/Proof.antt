@@ -1,17 +1,13 @@
 -- The routers below j were offered the way by q.
-use mathlib.Core.Path.{_≡_, refl, sym}
-use mathlib.Core.Logic.{_⊎_, inl, inr, ⊎-elim}
-use mathlib.Core.List.{List}
-use Prim.Native.Nat.{ℕ, _+_, _-_, _<_, _≤_}
+use mathlib.Core.Path.{refl}
+use mathlib.Core.Logic.{⊎-elim}
+use Prim.Native.Nat.{_-_, _≤_}
 use native.Mathlib.Omega.{arith}
 use native.Mathlib.Decide.{decLt}
 use denote.Ref.{now}
-use Rattle.area.specs.Limits.{width, unused}
 use Rattle.topology.specs.Topology.{topology}
-use Rattle.topology.specs.PathsLaws.{Ready, metrics-at}
-use Rattle.topology.specs.TopologyLaws.{Link, link-metric, metric-link}
-use Rattle.area.specs.Tables.{cell}
-use Rattle.search.specs.Search.{Offered, Relaxed, no-link, linked, firstHop}
+use Rattle.topology.specs.TopologyLaws.{metric-link}
+use Rattle.search.specs.Search.{Relaxed, no-link, linked}
 use Rattle.search.proofs.Sweep.{Swept, swept-none, swept-more, swept-same}
 use Rattle.search.proofs.relax.Statement.{statement}
 use Rattle.search.proofs.relax.Tie as tie
