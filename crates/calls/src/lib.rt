@@ -9,19 +9,19 @@ use kinds::write;
 use machine::Answer;
 use machine::DELIVER;
 use machine::DONE;
-use machine::FINISH;
 use machine::LEARN;
 use machine::RELEASE;
 use machine::WRITE;
 ghost use mathlib.Core.Path.{_≡_};
-ghost use Prim.Native.Nat.{_<_};
+ghost use mathlib.Core.Bool.{true, false};
+ghost use Prim.Native.Nat.{ℕ, _<_};
 ghost use lib.Dec.{leb};
 ghost use lib.ListN.{getD};
 ghost use Rattle.area.specs.Limits.{width};
 ghost use Rattle.area.specs.Tests.{all};
 ghost use Rattle.plan.specs.declared.Record.{Record};
 ghost use Rattle.machine.specs.Answers.{replyOf, gives};
-ghost use Rattle.machine.specs.Machine.{done, over, isSound, isKind, readsB, areRouters, callOf, stepOf};
+ghost use Rattle.machine.specs.Machine.{done, over, isSound, isKind, readsB, callOf, stepOf};
 
 // One step, by its kind: first the tests of the record, of the kind and of the routers, then the call.
 pub fn step(
@@ -43,27 +43,31 @@ pub fn step(
     if !is_kind(kind) {
         return Answer::Refused(Refusal::Kind);
     }
-    if !are_routers(n, kind, a, b) {
+    if a >= n {
         return Answer::Refused(Refusal::UnknownRouter);
     }
     let i = a as usize;
+    if !reads_b(kind) {
+        return single(waiting, due, states, written, kind, i);
+    }
+    if b >= n {
+        return Answer::Refused(Refusal::UnknownRouter);
+    }
     let j = b as usize;
-    call(waiting, telling, due, states, written, kind, i, j)
+    pair(waiting, telling, due, states, written, kind, i, j)
 }
 
-// The call of a known kind.
-fn call(
-    waiting: &mut [u32; WIDTH],
-    telling: &[u32; WIDTH],
+// The call of a kind that does not read b.
+fn single(
+    waiting: &[u32; WIDTH],
     due: &[u32; WIDTH],
     states: &mut [u8; WIDTH],
-    written: &mut [u32; WIDTH],
+    written: &[u32; WIDTH],
     kind: u8,
     i: usize,
-    j: usize,
 ) -> Answer
-    requires { ⌜ i < width ⌝ }
-    ensures { λ r. ⌜ ((x : Record) → gives (over x (x .n) (now (waiting .exit)) (now (telling .entry)) (now (due .entry)) (now (states .exit)) (now (written .exit))) (replyOf r) ≡ callOf (over x (x .n) (now (waiting .entry)) (now (telling .entry)) (now (due .entry)) (now (states .entry)) (now (written .entry))) kind i j) ⌝ }
+    requires { ⌜ (i < width) × (isKind kind ≡ true) × (readsB kind ≡ false) ⌝ }
+    ensures { λ r. ⌜ ((x : Record) (j : ℕ) → gives (over x (x .n) (now (waiting .entry)) (x .telling) (now (due .entry)) (now (states .exit)) (now (written .entry))) (replyOf r) ≡ callOf (over x (x .n) (now (waiting .entry)) (x .telling) (now (due .entry)) (now (states .entry)) (now (written .entry))) kind i j) ⌝ }
 {
     if kind == LEARN {
         return learn(states, i);
@@ -71,11 +75,25 @@ fn call(
     if kind == RELEASE {
         return release(states, i);
     }
+    finish(waiting, due, states, written, i)
+}
+
+// The call of a kind that reads b.
+fn pair(
+    waiting: &mut [u32; WIDTH],
+    telling: &[u32; WIDTH],
+    due: &[u32; WIDTH],
+    states: &[u8; WIDTH],
+    written: &mut [u32; WIDTH],
+    kind: u8,
+    i: usize,
+    j: usize,
+) -> Answer
+    requires { ⌜ (i < width) × (readsB kind ≡ true) ⌝ }
+    ensures { λ r. ⌜ ((x : Record) → gives (over x (x .n) (now (waiting .exit)) (now (telling .entry)) (now (due .entry)) (now (states .entry)) (now (written .exit))) (replyOf r) ≡ callOf (over x (x .n) (now (waiting .entry)) (now (telling .entry)) (now (due .entry)) (now (states .entry)) (now (written .entry))) kind i j) ⌝ }
+{
     if kind == WRITE {
         return write(waiting, due, states, written, i, j);
-    }
-    if kind == FINISH {
-        return finish(waiting, due, states, written, i);
     }
     deliver(waiting, telling, states, i, j)
 }
@@ -89,19 +107,6 @@ fn is_kind(kind: u8) -> bool
     }
     if kind > DELIVER {
         return false;
-    }
-    true
-}
-
-// Are a, and b where it is read, routers of the area?
-fn are_routers(n: u8, kind: u8, a: u8, b: u8) -> bool
-    ensures { λ r. ⌜ ((x : Record) → r ≡ areRouters (over x n (x .waiting) (x .telling) (x .due) (x .states) (x .written)) kind a b) ⌝ }
-{
-    if a >= n {
-        return false;
-    }
-    if reads_b(kind) {
-        return b < n;
     }
     true
 }

@@ -8,17 +8,16 @@
 use Prim.Native.Nat.{ℕ, _≤_, _<_}
 use mathlib.Core.Path.{_≡_, refl, _∙_}
 use mathlib.Core.Bool.{true, false, _&&_}
-use mathlib.Core.Logic.{_≢_, _⊎_, inl, inr}
+use mathlib.Core.Logic.{_≢_, _⊎_, inl, inr, ⊎-elim}
 use mathlib.Core.List.{List}
-use native.Mathlib.Decide.{ℕ-discrete}
 use native.Mathlib.Omega.{arith}
-use lib.Dec.{leb, ltb}
+use lib.Dec.{leb, ltb, eqb}
 use lib.ListN.{getD}
-use borrow.Author.Tests.{eq-eqb, ne-eqb, ltb-true, le-ltb, le-leb, lt-leb}
+use borrow.Author.Tests.{eqb-true, eqb-false, leb-true, eq-eqb, ne-eqb, le-ltb, le-leb, lt-leb}
 use Rattle.area.specs.Limits.{width}
 use Rattle.area.specs.Tests.{all}
 use Rattle.area.specs.Sets.{bit, added, removed, subset}
-use Rattle.area.specs.TestLaws.{both-true, and-false, and-one}
+use Rattle.area.specs.TestLaws.{both-true, and-false, and-one, or-cases, or-false}
 use Rattle.area.specs.Sizes.{isCount}
 use Rattle.area.specs.SizeLaws.{count-true, count-low, count-high, count-most}
 use Rattle.plan.specs.declared.Record.{Record}
@@ -42,6 +41,19 @@ reads-two = (refl, refl)
 pub reads-other : (kind : ℕ) → kind ≢ 3 → kind ≢ 5 → readsB kind ≡ false
 unfolding readsB
 reads-other kind f g = rw (ne-eqb kind 3 f, ne-eqb kind 5 g) refl
+
+-- and the other way round
+pub kind-range : (kind : ℕ) → isKind kind ≡ true → (1 ≤ kind) × (kind ≤ 5)
+unfolding isKind
+kind-range kind e = let x = both-true (leb 1 kind) (leb kind 5) e in (leb-true 1 kind (x .0), leb-true kind 5 (x .1))
+
+pub reads-true : (kind : ℕ) → readsB kind ≡ true → (kind ≡ 3) ⊎ (kind ≡ 5)
+unfolding readsB
+reads-true kind e = ⊎-elim (λ a. inl (eqb-true kind 3 a)) (λ b. inr (eqb-true kind 5 b)) (or-cases (eqb kind 3) (eqb kind 5) e)
+
+pub reads-false : (kind : ℕ) → readsB kind ≡ false → (kind ≢ 3) × (kind ≢ 5)
+unfolding readsB
+reads-false kind e = let x = or-false (eqb kind 3) (eqb kind 5) e in (eqb-false kind 3 (x .0), eqb-false kind 5 (x .1))
 
 -- ---- which records are sound
 pub sound-low : (n : ℕ) (s : List ℕ) → n ≡ 0 → isSound n s ≡ false
@@ -89,14 +101,13 @@ module _ (r : Record) (kind a b : ℕ) where
   unfolding areRouters
   routers-two e = rw e refl
 
-  -- the first of them is a router of the area, or is none
-  pub first-in : areRouters r kind a b ≡ true → a < r .n
-  unfolding areRouters
-  first-in e = ltb-true a (r .n) (both-true (ltb a (r .n)) _ e .0)
-
+  -- one of them is no router of the area
   pub first-out : r .n ≤ a → areRouters r kind a b ≡ false
   unfolding areRouters
   first-out h = rw (le-ltb a (r .n) h) refl
+
+  pub second-out : readsB kind ≡ true → r .n ≤ b → areRouters r kind a b ≡ false
+  second-out e h = routers-two e ∙ and-false (ltb a (r .n)) _ (le-ltb b (r .n) h)
 
 -- ---- the call of each kind
 module _ (r : Record) (a b : ℕ) where
@@ -116,9 +127,9 @@ module _ (r : Record) (a b : ℕ) where
   unfolding callOf
   call-finish = refl
 
-  pub call-deliver : (kind : ℕ) → kind ≢ 1 → kind ≢ 2 → kind ≢ 3 → kind ≢ 4 → callOf r kind a b ≡ deliver r a b
+  pub call-deliver : callOf r 5 a b ≡ deliver r a b
   unfolding callOf
-  call-deliver kind p q t u = rw (ne-eqb kind 1 p, ne-eqb kind 2 q, ne-eqb kind 3 t, ne-eqb kind 4 u) refl
+  call-deliver = refl
 
 -- ---- learn, release and finish do not read b
 module _ (r : Record) (a b : ℕ) where

@@ -4,6 +4,8 @@ use area::limits::UNREACHED;
 use area::limits::UNUSED;
 use area::limits::WIDTH;
 use area::sets;
+use offers::first_hop;
+use offers::offer;
 ghost use mathlib.Core.Path.{_≡_};
 ghost use Prim.Native.Nat.{ℕ, _+_, _*_, _<_, _≤_};
 ghost use lib.ListN.{length, getD};
@@ -12,7 +14,7 @@ ghost use Rattle.area.specs.Tables.{build};
 ghost use Rattle.topology.specs.Topology.{topology};
 ghost use Rattle.topology.specs.Paths.{distanceCell, hopCell};
 ghost use Rattle.search.specs.Rows.{areSizes, distanceRow, hopRow};
-ghost use Rattle.search.specs.Search.{Nearest, Offered, Relaxed, firstHop};
+ghost use Rattle.search.specs.Search.{Nearest, Relaxed};
 
 // The source's rows of distances and of next hops, or none where a size is wrong.
 pub fn search(n: usize, metric: &[u32], source: usize, dist: &mut [u32], hops: &mut [u32])
@@ -139,26 +141,4 @@ fn link(n: usize, metric: &[u32], q: usize, j: usize) -> u32
         return UNUSED;
     }
     m
-}
-
-// The next hops from the source to j by way of q: j itself from the source, and from any other router those to q.
-fn first_hop(source: usize, q: usize, via: u32, j: usize) -> u32
-    ensures { λ r. ⌜ r ≡ firstHop source q via j ⌝ }
-{
-    if q == source { sets::add(0, j) } else { via }
-}
-
-// Router j can be had at the distance `sum` by the next hops `by`: they take the place of those of a larger distance, and join those of an equal one.
-fn offer(sum: u32, by: u32, j: usize, dist: &mut [u32], hops: &mut [u32])
-    requires { ⌜ (j < length (now dist)) × (j < length (now hops)) ⌝ }
-    ensures { λ _. ⌜ Offered sum by (getD (now (dist .entry)) j 0) (getD (now (hops .entry)) j 0) (getD (now (dist .exit)) j 0) (getD (now (hops .exit)) j 0) ⌝ }
-    ensures { λ _. ⌜ ((k : ℕ) → (k ≡ j → ⊥) → (getD (now (dist .exit)) k 0 ≡ getD (now (dist .entry)) k 0) × (getD (now (hops .exit)) k 0 ≡ getD (now (hops .entry)) k 0)) ⌝ }
-{
-    let old = dist[j];
-    if sum < old {
-        dist[j] = sum;
-        hops[j] = by;
-    } else if sum == old {
-        hops[j] = sets::join(hops[j], by);
-    }
 }

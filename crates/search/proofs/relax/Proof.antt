@@ -1,20 +1,18 @@
 -- The routers below j were offered the way by q.
-use mathlib.Core.Path.{_≡_, refl, sym}
-use mathlib.Core.Logic.{_⊎_, inl, inr, ⊎-elim}
-use mathlib.Core.List.{List}
-use Prim.Native.Nat.{ℕ, _+_, _-_, _<_, _≤_}
+use mathlib.Core.Path.{refl}
+use mathlib.Core.Logic.{⊎-elim}
+use Prim.Native.Nat.{_-_, _<_, _≤_}
 use native.Mathlib.Omega.{arith}
 use native.Mathlib.Decide.{decLt}
+use lib.ListN.{length}
 use denote.Ref.{now}
-use Rattle.area.specs.Limits.{width, unused}
-use Rattle.area.specs.Tables.{cell}
 use Rattle.topology.specs.Topology.{topology}
-use Rattle.topology.specs.PathsLaws.{Ready, metrics-at}
-use Rattle.topology.specs.TopologyLaws.{Link, link-metric, metric-link}
-use Rattle.search.specs.Search.{Offered, Relaxed, no-link, linked, firstHop}
+use Rattle.topology.specs.TopologyLaws.{metric-link}
+use Rattle.search.specs.Search.{Relaxed, no-link, linked}
 use Rattle.search.proofs.Sweep.{Swept, swept-none, swept-more, swept-same}
 use Rattle.search.proofs.relax.Statement.{statement}
 use Rattle.search.proofs.relax.Tie as tie
+use Rattle.offers.specs.OfferLaws.{offered, others}
 
 abbrev Inv-loop : tie.InvT-loop
 Inv-loop n metric source q dist₀ hops₀ base via j₀ dist hops j = (j ≤ n) × Swept (Relaxed (topology n metric) source q base via) dist₀ hops₀ dist hops j
@@ -61,13 +59,15 @@ loop-again c =
     let start = at-loop .before .before .before .before .before .before in
     let s = at-loop .loop .inv .1 in
     let j = at-loop .loop .j in
-    let is-link = c .before .link .ensures in (
+    let is-link = c .before .link .ensures in
+    let in-d : j < length (at-loop .loop .dist) = omega arith in
+    let in-h : j < length (at-loop .loop .hops) = omega arith in (
       omega arith,
       ⊎-elim
           (λ w.
           let o = w .4 in
           let l = o .last .1 .1 .1 in
-          rw (w .9, w .10) (swept-more _ _ _ (at-loop .loop .dist) (at-loop .loop .hops) (l .0) (l .1 .0) j s (o .kept .1 .1 .1 .0) (o .kept .1 .1 .1 .1 .0) (linked (omega (arith, is-link, w .0 .taken)) (rw (is-link, w .1 .ensures) at (o .ensures .0))) (o .ensures .1)))
+          rw (w .9, w .10) (swept-more _ _ _ (at-loop .loop .dist) (at-loop .loop .hops) (l .0) (l .1 .0) j s (o .kept .1 .1 .1 .0) (o .kept .1 .1 .1 .1 .0) (linked (omega (arith, is-link, w .0 .taken)) (rw (is-link, w .1 .ensures) at (offered _ _ j _ _ in-d in-h (o .ensures .0) (o .ensures .1)))) (others _ _ j _ _ in-d in-h (o .ensures .0) (o .ensures .1))))
           (λ w. rw (w .1, w .2) (swept-same _ _ _ _ _ _ s (no-link (λ u. omega (arith, is-link, w .0 .left)) refl refl)))
           (c .if1 .came),
     )

@@ -3,7 +3,6 @@ use Prim.Native.Nat.{ℕ}
 use mathlib.Core.Path.{_≡_, sym, _∙_}
 use mathlib.Core.Bool.{Bool, true, false}
 use mathlib.Core.List.{List}
-use native.Mathlib.Omega.{arith}
 use borrow.Author.Needs.{needs}
 use denote.Ref.{now}
 use lib.ListN.{length}
@@ -11,7 +10,7 @@ use Rattle.area.specs.Limits.{width}
 use Rattle.area.specs.Tables.{build}
 use Rattle.topology.specs.Paths.{distanceCell, hopCell}
 use Rattle.search.specs.Rows.{areSizes, distanceRow, hopRow}
-use Rattle.search.specs.RowsLaws.{Sizes, sizes-true, distances-row, hops-row, distances-left, hops-left}
+use Rattle.search.specs.RowsLaws.{sizes-true, distances-row, hops-row, distances-left, hops-left}
 use Rattle.search.proofs.search.Statement.{statement}
 use Rattle.search.proofs.search.Tie as tie
 

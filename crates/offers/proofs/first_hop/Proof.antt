@@ -1,8 +1,8 @@
 use mathlib.Core.Path.{refl}
 use borrow.Author.Needs.{needs}
 use borrow.Author.Tests.{eq-eqb, ne-eqb}
-use Rattle.search.proofs.first_hop.Statement.{statement}
-use Rattle.search.proofs.first_hop.Tie as tie
+use Rattle.offers.proofs.first_hop.Statement.{statement}
+use Rattle.offers.proofs.first_hop.Tie as tie
 
 add-requires : tie.Need-add-requires
 add-requires c κs = search needs

@@ -1,0 +1,3 @@
+-- The offer of a way to a router. First the definitions, then the laws about them.
+pub mod Offers
+pub mod OfferLaws
