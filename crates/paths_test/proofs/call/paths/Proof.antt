@@ -42,20 +42,20 @@ slice-aggregate-paths-2 c = sym (length-take-le _ _ (omega arith))
 paths-requires : tie.Need-paths-requires
 paths-requires c κs = search needs
 
-slice-aggregate-form : tie.Need-slice-aggregate-form
-slice-aggregate-form c = search needs
+slice-aggregate-text : tie.Need-slice-aggregate-text
+slice-aggregate-text c = search needs
+
+text-requires : tie.Need-text-requires
+text-requires c κs = search needs
 
 number-requires-2 : tie.Need-number-requires-2
 number-requires-2 c κs = search needs
 
-cast-t13 : tie.Need-cast-t13
-cast-t13 c = search needs
+cast-number : tie.Need-cast-number
+cast-number c = search needs
 
-slice-aggregate-form-2 : tie.Need-slice-aggregate-form-2
-slice-aggregate-form-2 c = search needs
-
-form-requires : tie.Need-form-requires
-form-requires c κs = search needs
+number-requires-3 : tie.Need-number-requires-3
+number-requires-3 c κs = search needs
 
 call-requires : tie.Need-call-requires
 call-requires c κs = search needs
@@ -79,10 +79,10 @@ paths-spec =
     array-borrow-prefix-hops
     slice-aggregate-paths-2
     paths-requires
-    slice-aggregate-form
+    slice-aggregate-text
+    text-requires
     number-requires-2
-    cast-t13
-    slice-aggregate-form-2
-    form-requires
+    cast-number
+    number-requires-3
     call-requires
     returns)

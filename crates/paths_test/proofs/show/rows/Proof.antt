@@ -6,16 +6,13 @@ use Rattle.paths_test.proofs.show.rows.Statement.{statement}
 use Rattle.paths_test.proofs.show.rows.Tie as tie
 
 abbrev Inv-loop : tie.InvT-loop
-Inv-loop mark n dist hops i₀ t7 i = i ≤ 32
+Inv-loop mark n dist hops i₀ t6 i = i ≤ 32
 
 abbrev μ-loop : tie.MeasureT-loop
-μ-loop mark n dist hops i₀ t7 i = 32 - i
+μ-loop mark n dist hops i₀ t6 i = 32 - i
 
-slice-aggregate-text : tie.Need-slice-aggregate-text Inv-loop μ-loop
-slice-aggregate-text c = omega arith
-
-text-requires : tie.Need-text-requires Inv-loop μ-loop
-text-requires c κs = omega arith
+byte-requires : tie.Need-byte-requires Inv-loop μ-loop
+byte-requires c κs = omega arith
 
 loop-holds : tie.Need-loop-holds Inv-loop μ-loop
 loop-holds c = search needs
@@ -62,8 +59,7 @@ rows-spec =
     (tie.spec
     Inv-loop
     μ-loop
-    slice-aggregate-text
-    text-requires
+    byte-requires
     loop-holds
     is-shown-requires
     row-requires

@@ -11,11 +11,8 @@ Inv-loop n r k₀ k = k ≤ 32
 abbrev μ-loop : tie.MeasureT-loop
 μ-loop n r k₀ k = 32 - k
 
-slice-aggregate-text : tie.Need-slice-aggregate-text Inv-loop μ-loop
-slice-aggregate-text c = omega arith
-
-text-requires : tie.Need-text-requires Inv-loop μ-loop
-text-requires c κs = omega arith
+byte-requires : tie.Need-byte-requires Inv-loop μ-loop
+byte-requires c κs = omega arith
 
 loop-holds : tie.Need-loop-holds Inv-loop μ-loop
 loop-holds c = search needs
@@ -62,8 +59,7 @@ routers-spec =
     (tie.spec
     Inv-loop
     μ-loop
-    slice-aggregate-text
-    text-requires
+    byte-requires
     loop-holds
     element-copy-out-router
     mul-router
