@@ -3,7 +3,7 @@ use area::entries;
 use area::refusal::Refusal;
 use area::refusal::Verdict;
 use area::sets;
-use libc::STDOUT_FILENO;
+use cases::print;
 
 fn main() {
     one_router();
@@ -12,17 +12,11 @@ fn main() {
     refusals();
 }
 
-fn field(word: &[u8], x: u64) {
-    io::write_all(STDOUT_FILENO, word);
-    io::print_decimal(STDOUT_FILENO, x);
-}
-
-fn truth(word: &[u8], yes: bool) {
-    io::write_all(STDOUT_FILENO, word);
+fn truth(yes: bool) {
     if yes {
-        io::write_all(STDOUT_FILENO, b"yes");
+        print::text(b"yes");
     } else {
-        io::write_all(STDOUT_FILENO, b"no");
+        print::text(b"no");
     }
 }
 
@@ -43,13 +37,14 @@ fn one_router() {
 }
 
 fn router(s: u32, k: usize) {
-    field(b"set ", s as u64);
-    field(b" router ", k as u64);
-    truth(b" member ", sets::member(s, k));
-    field(b" with ", sets::add(s, k) as u64);
-    field(b" without ", sets::remove(s, k) as u64);
-    truth(b" empty ", sets::is_empty(s));
-    io::write_all(STDOUT_FILENO, b"\n");
+    print::form(b"set # router # member ", &[s as u64, k as u64]);
+    truth(sets::member(s, k));
+    print::form(
+        b" with # without # empty ",
+        &[sets::add(s, k) as u64, sets::remove(s, k) as u64],
+    );
+    truth(sets::is_empty(s));
+    print::byte(b'\n');
 }
 
 fn two_sets() {
@@ -64,51 +59,59 @@ fn two_sets() {
 }
 
 fn pair(s: u32, t: u32) {
-    field(b"sets ", s as u64);
-    field(b" ", t as u64);
-    truth(b" subset ", sets::is_subset(s, t));
-    field(b" joined ", sets::join(s, t) as u64);
-    io::write_all(STDOUT_FILENO, b"\n");
+    print::form(b"sets # # subset ", &[s as u64, t as u64]);
+    truth(sets::is_subset(s, t));
+    print::form(b" joined #\n", &[sets::join(s, t) as u64]);
 }
 
 // Three entries, and two bytes of a fourth.
 fn listed() {
     let list = [0, 1, 0, 0, 1, 31, 255, 255, 255, 255, 2, 3, 1, 2, 3, 9, 9];
-    field(b"entries ", entries::count(&list) as u64);
-    io::write_all(STDOUT_FILENO, b"\n");
+    count(&list);
     entry(&list, 0);
     entry(&list, 1);
     entry(&list, 2);
     entry(&list, 3);
     entry(&list, 18446744073709551615);
-    field(b"entries ", entries::count(&list[..4]) as u64);
-    io::write_all(STDOUT_FILENO, b"\n");
+    count(&list[..4]);
     entry(&list[..4], 0);
+}
+
+fn count(list: &[u8]) {
+    print::form(b"entries #\n", &[entries::count(list) as u64]);
 }
 
 fn entry(list: &[u8], e: usize) {
     let found = entries::decode(list, e);
-    field(b"entry ", e as u64);
-    field(b" from ", found.from as u64);
-    field(b" to ", found.to as u64);
-    field(b" metric ", found.metric as u64);
-    io::write_all(STDOUT_FILENO, b"\n");
+    print::form(
+        b"entry # from # to # metric #\n",
+        &[
+            e as u64,
+            found.from as u64,
+            found.to as u64,
+            found.metric as u64,
+        ],
+    );
 }
 
 // The numbers of all refusals, in the order in which the paper first names them.
 fn refusals() {
-    field(b"accepted ", Verdict::Accepted.number() as u64);
-    truth(b" ", Verdict::Accepted.is_accepted());
-    truth(b" ", Verdict::Refused(Refusal::Incomplete).is_accepted());
-    io::write_all(STDOUT_FILENO, b"\nrefused");
+    print::text(b"accepted ");
+    print::number(Verdict::Accepted.number() as u64);
+    print::byte(b' ');
+    truth(Verdict::Accepted.is_accepted());
+    print::byte(b' ');
+    truth(Verdict::Refused(Refusal::Incomplete).is_accepted());
+    print::text(b"\nrefused");
     of_tables();
     of_entries();
     of_steps();
-    io::write_all(STDOUT_FILENO, b"\n");
+    print::byte(b'\n');
 }
 
 fn refused(k: Refusal) {
-    field(b" ", Verdict::Refused(k).number() as u64);
+    print::byte(b' ');
+    print::number(Verdict::Refused(k).number() as u64);
 }
 
 fn of_tables() {

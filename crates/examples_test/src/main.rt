@@ -1,29 +1,32 @@
-// Prints the name of every example, and under it its rehearsal.
-use libc::STDOUT_FILENO;
+// Prints the name of every example that standard input names, one in a line, and under it its rehearsal.
+use cases::print;
+use libc::STDIN_FILENO;
 ghost use mathlib.Core.Path.{_≡_};
 ghost use Prim.Native.Nat.{_≤_};
 ghost use lib.ListN.{length, take};
 
 fn main() {
-    example(b"c2");
-    example(b"c4");
-    example(b"fall-not-rise");
-    example(b"nothing-due-fall");
-    example(b"nothing-due-rise");
-    example(b"one-way");
-    example(b"rehearsal");
-    example(b"ring-32");
-    example(b"router-down");
-    example(b"two-next-hops-fall");
-    example(b"two-next-hops-rise");
+    let mut input = [0u8; 4096];
+    let length = io::read_full(STDIN_FILENO, &mut input);
+    examples(&input[..length]);
+}
+
+fn examples(names: &[u8]) {
+    let mut from = 0;
+    for at in 0..names.len() {
+        if names[at] == b'\n' {
+            example(&names[from..at]);
+            from = at + 1;
+        }
+    }
 }
 
 fn example(name: &[u8]) {
-    print(name);
-    print(b"\n");
+    print::text(name);
+    print::byte(b'\n');
     let fd = open(name);
     if fd < 0 {
-        print(b"cannot be opened\n");
+        print::text(b"cannot be opened\n");
         return;
     }
     rehearse(fd);
@@ -46,7 +49,7 @@ fn rehearse(fd: i32) {
     let size = io::read_full(fd, &mut hexadecimal);
     let size = hex::unhex(&hexadecimal[..size], &mut file);
     let length = rehearsal(&file[..size], &mut out);
-    print(&out[..length]);
+    print::text(&out[..length]);
 }
 
 // Puts the rehearsal at the start of `out`, and gives its length.
@@ -69,8 +72,4 @@ fn rehearsal(file: &[u8], out: &mut [u8]) -> usize
         &mut new_hops,
         out,
     )
-}
-
-fn print(t: &[u8]) {
-    io::write_all(STDOUT_FILENO, t);
 }

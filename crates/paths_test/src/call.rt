@@ -3,7 +3,6 @@ use crate::show;
 use cases::print;
 use cases::read;
 use cases::tables;
-ghost use Prim.Native.Nat.{_≤_};
 
 // What the two tables hold before a call: numbers that no call writes.
 pub const OLD_DISTANCE: u32 = 777777777;

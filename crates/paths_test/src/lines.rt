@@ -2,7 +2,6 @@
 use crate::call;
 use cases::print;
 use cases::read;
-ghost use Prim.Native.Nat.{_≤_};
 
 pub fn run(text: &[u8]) {
     let mut from = 0;

@@ -4,7 +4,6 @@ use crate::run;
 use cases::print;
 use cases::read;
 use plan::Record;
-ghost use Prim.Native.Nat.{_≤_};
 
 // Each case may go on from the record that the one before has left.
 pub fn run(text: &[u8]) {
