@@ -4,7 +4,6 @@ use machine::Answer;
 use text::append;
 use text::field;
 use text::line;
-ghost use mathlib.Core.Path.{_≡_};
 ghost use mathlib.Core.List.{_++_};
 ghost use Rattle.machine.specs.Answers.{replyOf, refused};
 ghost use Rattle.text.specs.Text.{Appended, word, field};

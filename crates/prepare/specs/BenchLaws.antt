@@ -20,7 +20,7 @@ use Rattle.plan.specs.PlanLaws.{plan-count, planned-true, planned-false, record
 use Rattle.faults.specs.Sections.{routers, changeCount, changesAt, changes}
 use Rattle.faults.specs.FaultLaws.{Accepted}
 use Rattle.bench_file.specs.declared.Contents.{Contents}
-use Rattle.bench_file.specs.Read.{readRefusal, contents, nothing, contentsOf, metricsOf}
+use Rattle.bench_file.specs.Read.{readRefusal, contents, contentsOf, metricsOf}
 use Rattle.bench_file.specs.ReadLaws.{contents-accepted, contents-refused, metrics-accepted}
 use Rattle.bench_file.specs.FileLaws.{table-sized, file-passed, file-accepted, contents-n, contents-changes, nothing-n, nothing-changes}
 use Rattle.prepare.specs.Bench.{metrics, refusal, planned, tablesOf, recordAt, tablesAt}

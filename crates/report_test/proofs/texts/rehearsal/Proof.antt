@@ -1,6 +1,5 @@
 -- `texts::rehearsal` is safe and ends. The parts of the tables that are lent are as long as is asked, since the tables are not shorter.
 use mathlib.Core.Path.{sym}
-use lib.ListN.{length}
 use lib.Seq.{length-take-le}
 use native.Mathlib.Omega.{arith}
 use borrow.Author.Needs.{needs}
