@@ -3,14 +3,10 @@ pub mod Limits
 pub mod Refusals
 pub mod Tests
 pub mod Sizes
-pub mod Sets
 pub mod Tables
-pub mod Entries
 pub mod RefusalLaws
 pub mod TestLaws
 pub mod SizeLaws
-pub mod SetLaws
 pub mod TableLaws
-pub mod EntryLaws
 pub mod RowLaws
 pub mod PerRouterLaws

@@ -1,5 +1,3 @@
-// The vocabulary of the ordered FIB bench: limits, refusals, router sets, entries. No routing in it.
-pub mod entries;
+// The vocabulary of the ordered FIB bench: limits and refusals. No routing in it.
 pub mod limits;
 pub mod refusal;
-pub mod sets;

@@ -1,8 +1,6 @@
 // Runs the functions on router sets, entries and refusals, and prints what they give.
-use area::entries;
 use area::refusal::Refusal;
 use area::refusal::Verdict;
-use area::sets;
 use cases::print;
 
 fn main() {

@@ -7,13 +7,13 @@ use mathlib.Core.List.{List, []}
 use native.Mathlib.Numerals.{add-one}
 use native.Mathlib.Omega.{arith}
 use lib.ListN.{length, set, length-set}
-use Rattle.area.specs.declared.entries.Entry.{Entry}
 use Rattle.area.specs.Limits.{width, unused}
 use Rattle.area.specs.Tests.{pick}
 use Rattle.area.specs.Tables.{cell}
 use Rattle.area.specs.TableLaws.{length-tabulate, cell-tabulate, is-tabulate}
-use Rattle.area.specs.Entries.{entryOf, from, to, metric, isOf, listed}
-use Rattle.area.specs.EntryLaws.{given-start, given-next, cell-entered}
+use Rattle.entries.specs.declared.Entry.{Entry}
+use Rattle.entries.specs.Entries.{entryOf, from, to, metric, isOf, listed}
+use Rattle.entries.specs.EntryLaws.{given-start, given-next, cell-entered}
 use Rattle.bench_file.specs.Read.{linked}
 
 pub record Linked (l : List ℕ) (k : ℕ) (t : List ℕ) : Type 0 where

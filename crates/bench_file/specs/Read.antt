@@ -6,7 +6,7 @@ use Rattle.area.specs.Limits.{width, unused}
 use Rattle.area.specs.Tests.{pick}
 use Rattle.area.specs.Sizes.{isTable}
 use Rattle.area.specs.Tables.{tabulate}
-use Rattle.area.specs.Entries.{listed}
+use Rattle.entries.specs.Entries.{listed}
 use Rattle.faults.specs.Sections.{routers, linkCount, links, changeCount, changesAt, stepCount, stepsAt}
 use Rattle.faults.specs.Faults.{fileRefusal}
 use Rattle.bench_file.specs.declared.Contents.{Contents}

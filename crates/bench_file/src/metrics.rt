@@ -1,8 +1,8 @@
 // The metric table of a file's links.
-use area::entries::decode;
 use area::limits::CELLS;
 use area::limits::UNUSED;
 use area::limits::WIDTH;
+use entries::decode;
 ghost use mathlib.Core.Path.{_≡_};
 ghost use mathlib.Core.List.{[]};
 ghost use Prim.Native.Nat.{_*_};

@@ -15,8 +15,8 @@ use lib.Dec.{ltb, eqb}
 use borrow.Author.Tests.{ltb-true, eq-eqb, ne-eqb}
 use Rattle.area.specs.Tests.{pick}
 use Rattle.area.specs.TestLaws.{then-some, then-none, then-both, all-at, first-none, none-first}
-use Rattle.area.specs.Entries.{count, entryOf, from, to, metric, isFree, listedRefusal}
-use Rattle.area.specs.EntryLaws.{faultless, listed-passes, listed-sound}
+use Rattle.entries.specs.Entries.{count, entryOf, from, to, metric, isFree, listedRefusal}
+use Rattle.entries.specs.EntryLaws.{faultless, listed-passes, listed-sound}
 use Rattle.changes.specs.Changes.{before, changeRefusal, firstRefusal, isRise, isFall}
 
 pub record Change (n : ℕ) (m l : List ℕ) (e : ℕ) : Type 0 where

@@ -4,7 +4,7 @@ use mathlib.Core.Bool.{Bool, _||_}
 use mathlib.Core.List.{List}
 use lib.Dec.{eqb}
 use Rattle.area.specs.Tests.{pick, all}
-use Rattle.area.specs.Entries.{count, from, to}
+use Rattle.entries.specs.Entries.{count, from, to}
 
 -- router c is an end of every change
 unfoldable pub isCommon : List ℕ → ℕ → Bool

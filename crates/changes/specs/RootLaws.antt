@@ -12,7 +12,7 @@ use mathlib.Core.List.{List}
 use lib.Dec.{eqb}
 use borrow.Author.Tests.{eqb-true}
 use Rattle.area.specs.TestLaws.{look, or-cases, all-at}
-use Rattle.area.specs.Entries.{count, from, to}
+use Rattle.entries.specs.Entries.{count, from, to}
 use Rattle.changes.specs.Root.{isCommon, root}
 
 module _ (l : List ℕ) where

@@ -1,6 +1,6 @@
 // The router that the changes have in common.
-use area::entries::count;
-use area::entries::decode;
+use entries::count;
+use entries::decode;
 ghost use mathlib.Core.Path.{_≡_};
 ghost use Rattle.changes.specs.Root.{isCommon, root};
 

@@ -9,7 +9,7 @@ use native.Mathlib.Decide.{ℕ-discrete}
 use native.Mathlib.Omega.{arith}
 use lib.ListN.{length}
 use Rattle.area.specs.Limits.{unreached}
-use Rattle.area.specs.Sets.{bit}
+use Rattle.sets.specs.Sets.{bit}
 use Rattle.topology.specs.Walk.{Walk, stay, link}
 use Rattle.topology.specs.Distance.{distance}
 use Rattle.topology.specs.Pigeonhole.{pigeonhole}

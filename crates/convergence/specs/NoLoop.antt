@@ -7,7 +7,7 @@ use mathlib.Core.Logic.{_≢_, _⊎_, inl, inr}
 use mathlib.Core.List.{List, [], _∷_}
 use native.Mathlib.Decide.{ℕ-discrete}
 use native.Mathlib.Omega.{arith}
-use Rattle.area.specs.Sets.{bit}
+use Rattle.sets.specs.Sets.{bit}
 use Rattle.topology.specs.Distance.{distance}
 use Rattle.topology.specs.NextHopLaws.{next-nearer}
 use Rattle.convergence.specs.Pointers.{Along, last, NoRouterTwice}

@@ -8,7 +8,7 @@ use mathlib.Core.Bool.{true}
 use mathlib.Core.Logic.{_≢_, inl, inr}
 use mathlib.Core.List.{List, [], _∷_, _++_}
 use native.Mathlib.Omega.{arith}
-use Rattle.area.specs.Sets.{bit}
+use Rattle.sets.specs.Sets.{bit}
 use Rattle.topology.specs.Members.{_∈_}
 use Rattle.topology.specs.Pigeonhole.{Below}
 use Rattle.convergence.specs.Pointers.{Along, last, NoRouterTwice}

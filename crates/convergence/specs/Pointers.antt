@@ -5,7 +5,7 @@ use mathlib.Core.Bool.{Bool, true}
 use mathlib.Core.List.{List, [], _∷_, _++_}
 use lib.ListN.{length}
 use Rattle.area.specs.Tests.{pick}
-use Rattle.area.specs.Sets.{bit}
+use Rattle.sets.specs.Sets.{bit}
 use Rattle.topology.specs.Pigeonhole.{Distinct}
 
 -- A router points to its new set once it has written the destination, and to its old set before.

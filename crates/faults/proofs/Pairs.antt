@@ -15,15 +15,15 @@ use lib.Dec.{eqb}
 use lib.ListN.{length, getD, set, replicate, length-set, length-replicate}
 use lib.Seq.{getD-set-same, getD-set-other}
 use borrow.Author.Tests.{eq-eqb, ne-eqb}
-use Rattle.area.specs.declared.entries.Entry.{Entry}
 use Rattle.area.specs.Limits.{width}
 use Rattle.area.specs.Tests.{pick, orThen}
-use Rattle.area.specs.Sets.{bit, added}
-use Rattle.area.specs.SetLaws.{bit-zero, bit-added}
 use Rattle.area.specs.PerRouterLaws.{zeros-at}
-use Rattle.area.specs.Entries.{count, entryOf, from, to, isOf, isFree, entryRefusal, listedRefusal}
-use Rattle.area.specs.EntryLaws.{read-from, of-pair, pair-of, free-none, free-taken, free-kept, faultless-of, listed-faulty, listed-free}
 use Rattle.area.specs.TestLaws.{look, or-none, or-right, then-some, then-none}
+use Rattle.sets.specs.Sets.{bit, added}
+use Rattle.sets.specs.SetLaws.{bit-zero, bit-added}
+use Rattle.entries.specs.declared.Entry.{Entry}
+use Rattle.entries.specs.Entries.{count, entryOf, from, to, isOf, isFree, entryRefusal, listedRefusal}
+use Rattle.entries.specs.EntryLaws.{read-from, of-pair, pair-of, free-none, free-taken, free-kept, faultless-of, listed-faulty, listed-free}
 use Rattle.faults.specs.Faults.{linkRefusal}
 use Rattle.faults.specs.FaultLaws.{link-whole, link-sound}
 

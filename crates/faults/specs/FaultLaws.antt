@@ -18,8 +18,8 @@ use Rattle.area.specs.Limits.{width, mostChanges, mostSteps}
 use Rattle.area.specs.Tests.{first}
 use Rattle.area.specs.TestLaws.{look, then-some, then-none, none-first}
 use Rattle.area.specs.Sizes.{isCount}
-use Rattle.area.specs.Entries.{count, entryOf, from, to, isFree, listedRefusal}
-use Rattle.area.specs.EntryLaws.{Faultless, listed-sound}
+use Rattle.entries.specs.Entries.{count, entryOf, from, to, isFree, listedRefusal}
+use Rattle.entries.specs.EntryLaws.{Faultless, listed-sound}
 use Rattle.faults.specs.Sections.{two, routers, linkCount, links, changeCount, changesAt, stepCount, stepsAt, end}
 use Rattle.faults.specs.Faults.{mostLinks, linkRefusal, restRefusal, fileRefusal}
 

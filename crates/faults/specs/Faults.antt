@@ -7,7 +7,7 @@ use lib.ListN.{length}
 use Rattle.area.specs.Limits.{mostChanges, mostSteps}
 use Rattle.area.specs.Tests.{pick, orThen, first}
 use Rattle.area.specs.Sizes.{isCount}
-use Rattle.area.specs.Entries.{count, listedRefusal}
+use Rattle.entries.specs.Entries.{count, listedRefusal}
 use Rattle.faults.specs.Sections.{routers, linkCount, links, changeCount, changesAt, stepCount, stepsAt, end}
 
 -- as many links as n routers have ordered pairs

@@ -1,8 +1,4 @@
 // Whether a bench file is accepted: the first fault in the order of its bytes.
-use area::entries::Entry;
-use area::entries::check;
-use area::entries::count;
-use area::entries::decode;
 use area::limits::ENTRY;
 use area::limits::MOST_CHANGES;
 use area::limits::MOST_STEPS;
@@ -10,16 +6,20 @@ use area::limits::STEP;
 use area::limits::WIDTH;
 use area::refusal::Refusal;
 use area::refusal::Verdict;
-use area::sets::add;
-use area::sets::member;
+use entries::Entry;
+use entries::check;
+use entries::count;
+use entries::decode;
+use sets::add;
+use sets::member;
 ghost use mathlib.Core.Path.{_≡_};
 ghost use Prim.Native.Nat.{_≤_, _<_, _*_};
 ghost use lib.ListN.{getD};
 ghost use Rattle.area.specs.Limits.{width};
 ghost use Rattle.area.specs.Refusals.{verdictNumber};
 ghost use Rattle.area.specs.Tests.{pick, orThen, first};
-ghost use Rattle.area.specs.Sets.{bit};
-ghost use Rattle.area.specs.Entries.{entryRefusal};
+ghost use Rattle.sets.specs.Sets.{bit};
+ghost use Rattle.entries.specs.Entries.{entryRefusal};
 ghost use Rattle.faults.specs.Sections.{two, linkCount};
 ghost use Rattle.faults.specs.Faults.{linkRefusal, restRefusal, fileRefusal};
 

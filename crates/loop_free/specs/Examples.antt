@@ -10,10 +10,10 @@ use lib.Dec.{eqb}
 use lib.ListN.{replicate, set}
 use Rattle.area.specs.Limits.{width, unused}
 use Rattle.area.specs.Tests.{all, first}
-use Rattle.area.specs.Sets.{bit, setOf, added, removed, subset}
 use Rattle.area.specs.Tables.{build, tabulate, perRouter}
-use Rattle.area.specs.Entries.{count, entryOf, isFree, entryRefusal, listedRefusal, listed}
 use Rattle.area.specs.Sizes.{isCount, isTable}
+use Rattle.sets.specs.Sets.{bit, setOf, added, removed, subset}
+use Rattle.entries.specs.Entries.{count, entryOf, isFree, entryRefusal, listedRefusal, listed}
 use Rattle.topology.specs.Topology.{isLink, topology}
 use Rattle.topology.specs.Distance.{sums, least, distance}
 use Rattle.topology.specs.NextHops.{isNext, nextHops}

@@ -4,7 +4,7 @@ use Prim.Native.Nat.{ℕ, _-_, _<_}
 use mathlib.Core.Path.{_≡_}
 use mathlib.Core.List.{List, _∷_}
 use Rattle.area.specs.Limits.{unreached}
-use Rattle.area.specs.Sets.{setOf}
+use Rattle.sets.specs.Sets.{setOf}
 use Rattle.topology.specs.Topology.{topology}
 use Rattle.topology.specs.Distance.{distance}
 use Rattle.topology.specs.Pigeonhole.{Distinct}

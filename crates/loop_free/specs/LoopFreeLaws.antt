@@ -12,8 +12,8 @@ use lib.Dec.{eqb}
 use lib.ListN.{getD}
 use Rattle.area.specs.Limits.{width, unused}
 use Rattle.area.specs.TestLaws.{look, same-test}
-use Rattle.area.specs.Sets.{bit, setOf}
-use Rattle.area.specs.SetLaws.{same-members, member-some}
+use Rattle.sets.specs.Sets.{bit, setOf}
+use Rattle.sets.specs.SetLaws.{same-members, member-some}
 use Rattle.topology.specs.Topology.{topology}
 use Rattle.topology.specs.TopologyLaws.{topology-graph}
 use Rattle.topology.specs.NextHops.{Next}

@@ -6,8 +6,8 @@ use lib.Dec.{eqb, leb, ltb}
 use lib.ListN.{getD, set}
 use Rattle.area.specs.Limits.{width}
 use Rattle.area.specs.Tests.{pick, all}
-use Rattle.area.specs.Sets.{bit, added, removed, subset}
 use Rattle.area.specs.Sizes.{isCount}
+use Rattle.sets.specs.Sets.{bit, added, removed, subset}
 use Rattle.plan.specs.declared.Record.{Record}
 use Rattle.machine.specs.Answers.{ok, ignored, refused, Outcome, gives}
 

@@ -16,7 +16,7 @@ use lib.Seq.{set-out, getD-set-same, getD-set-other}
 use Rattle.area.specs.Limits.{width}
 use Rattle.area.specs.Tests.{pick}
 use Rattle.area.specs.TestLaws.{both-true, or-cases, or-left, or-right, or-false}
-use Rattle.area.specs.Sets.{bit, added, removed, subset}
+use Rattle.sets.specs.Sets.{bit, added, removed, subset}
 use Rattle.plan.specs.declared.Record.{Record}
 use Rattle.machine.specs.Answers.{ok, refused, Outcome, gives}
 use Rattle.machine.specs.Machine.{idle, holding, ongoing, done, stateOf, waitingOf, tellingOf, dueOf, writtenOf, withState, withWaiting, withWritten}

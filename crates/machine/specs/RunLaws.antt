@@ -16,8 +16,8 @@ use lib.ListN.{length, getD, set, length-set}
 use lib.Seq.{getD-set-same, getD-set-other}
 use Rattle.area.specs.Limits.{width}
 use Rattle.area.specs.TestLaws.{and-false, and-one, or-none, same-test}
-use Rattle.area.specs.Sets.{bit, setOf, added, removed}
-use Rattle.area.specs.SetLaws.{bit-zero, is-setOf, member-some, bit-added, bit-removed, subset-at, added-below}
+use Rattle.sets.specs.Sets.{bit, setOf, added, removed}
+use Rattle.sets.specs.SetLaws.{bit-zero, is-setOf, member-some, bit-added, bit-removed, subset-at, added-below}
 use Rattle.plan.specs.declared.Record.{Record}
 use Rattle.plan.specs.Plan.{fresh}
 use Rattle.plan.specs.FreshLaws.{fresh-size, fresh-state, fresh-written}

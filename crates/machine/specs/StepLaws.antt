@@ -16,10 +16,10 @@ use lib.ListN.{getD}
 use borrow.Author.Tests.{eqb-true, eqb-false, leb-true, eq-eqb, ne-eqb, le-ltb, le-leb, lt-leb}
 use Rattle.area.specs.Limits.{width}
 use Rattle.area.specs.Tests.{all}
-use Rattle.area.specs.Sets.{bit, added, removed, subset}
 use Rattle.area.specs.TestLaws.{both-true, and-false, and-one, or-cases, or-false}
 use Rattle.area.specs.Sizes.{isCount}
 use Rattle.area.specs.SizeLaws.{count-true, count-low, count-high, count-most}
+use Rattle.sets.specs.Sets.{bit, added, removed, subset}
 use Rattle.plan.specs.declared.Record.{Record}
 use Rattle.machine.specs.Answers.{ok, ignored, refused, gives}
 use Rattle.machine.specs.Machine.{idle, holding, ongoing, done, stateOf, waitingOf, tellingOf, dueOf, writtenOf, withState, withWaiting, withWritten, learn, release, ready, write, finish, listens, deliver, isSound, isRecord, isKind, readsB, areRouters, callOf, stepOf}

@@ -14,7 +14,7 @@ use lib.Seq.{set-getD, getD-set-same, getD-set-other}
 use borrow.Author.Tests.{lt-ltb, le-ltb, eq-eqb, ne-eqb}
 use Rattle.area.specs.Limits.{width}
 use Rattle.area.specs.TestLaws.{and-false}
-use Rattle.area.specs.Sets.{union}
+use Rattle.sets.specs.Sets.{union}
 use Rattle.offers.specs.Offers.{distancesOffered, hopsOffered}
 
 module _ (sum by j : ℕ) (d h : List ℕ) where

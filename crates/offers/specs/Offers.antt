@@ -6,7 +6,7 @@ use lib.Dec.{ltb, eqb}
 use lib.ListN.{length, getD, set}
 use Rattle.area.specs.Limits.{width}
 use Rattle.area.specs.Tests.{pick}
-use Rattle.area.specs.Sets.{added, union}
+use Rattle.sets.specs.Sets.{added, union}
 
 -- the next hops from s to j by way of q, where `via` are those to q
 abbrev pub firstHop : ℕ → ℕ → ℕ → ℕ → ℕ

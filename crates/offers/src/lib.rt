@@ -1,5 +1,4 @@
 // The offer of a way to a router, in the rows of a source.
-use area::sets;
 ghost use mathlib.Core.Path.{_≡_};
 ghost use Rattle.offers.specs.Offers.{firstHop, distancesOffered, hopsOffered};
 

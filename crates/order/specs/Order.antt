@@ -7,9 +7,9 @@ use lib.Dec.{ltb, leb, eqb}
 use lib.ListN.{replicate}
 use Rattle.area.specs.Limits.{width}
 use Rattle.area.specs.Tests.{pick}
-use Rattle.area.specs.Sets.{bit, setOf}
 use Rattle.area.specs.Sizes.{isTable}
 use Rattle.area.specs.Tables.{cell, perRouter}
+use Rattle.sets.specs.Sets.{bit, setOf}
 use Rattle.order.specs.declared.Order.{Order}
 use Rattle.order.specs.Rank.{rank}
 

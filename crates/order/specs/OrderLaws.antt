@@ -13,12 +13,12 @@ use lib.ListN.{length}
 use borrow.Author.Tests.{leb-true, ltb-true, le-leb, lt-leb, lt-ltb, le-ltb}
 use Rattle.area.specs.Limits.{width}
 use Rattle.area.specs.TestLaws.{both-true}
-use Rattle.area.specs.Sets.{bit}
-use Rattle.area.specs.SetLaws.{setOf-same}
 use Rattle.area.specs.Tables.{cell, perRouter}
 use Rattle.area.specs.PerRouterLaws.{per-same}
 use Rattle.area.specs.Sizes.{isTable}
 use Rattle.area.specs.SizeLaws.{table-is, table-true, table-false, table-size}
+use Rattle.sets.specs.Sets.{bit}
+use Rattle.sets.specs.SetLaws.{setOf-same}
 use Rattle.order.specs.declared.Order.{Order}
 use Rattle.order.specs.Rank.{rank}
 use Rattle.order.specs.Order.{waitingBy, tellingBy, dueBy, isOrdered, ordered, nothing, orderOf}

@@ -4,7 +4,7 @@ use mathlib.Core.Path.{_≡_}
 use mathlib.Core.Bool.{true}
 use mathlib.Core.List.{List, [], _∷_}
 use Rattle.area.specs.Tests.{pick}
-use Rattle.area.specs.Sets.{bit}
+use Rattle.sets.specs.Sets.{bit}
 
 -- A chain from r: r alone, or r and a chain from a router that it waits for.
 pub data Chain (w : ℕ → ℕ) : ℕ → Type 0 where

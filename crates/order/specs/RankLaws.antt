@@ -19,7 +19,7 @@ use native.Mathlib.Numerals.{add-one}
 use lib.ListN.{length}
 use Rattle.area.specs.Tests.{pick}
 use Rattle.area.specs.TestLaws.{look}
-use Rattle.area.specs.Sets.{bit}
+use Rattle.sets.specs.Sets.{bit}
 use Rattle.topology.specs.Members.{_∈_}
 use Rattle.topology.specs.Pigeonhole.{Distinct, Below, pigeonhole}
 use Rattle.order.specs.Rank.{Chain, alone, waits, links, routers, greatest, above, longest, rank, IsRank}

@@ -1,6 +1,6 @@
 // What is due: the destinations to which next hops change. `old` and `new` are the next-hop tables of the two topologies.
 use area::limits::WIDTH;
-use area::sets::add;
+use sets::add;
 ghost use mathlib.Core.Path.{_≡_};
 ghost use Prim.Native.Nat.{_≤_, _<_, _*_};
 ghost use lib.ListN.{length};

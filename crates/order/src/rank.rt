@@ -1,6 +1,6 @@
 // Ranks, round by round. A table per router has WIDTH entries, 0 from n on.
 use area::limits::WIDTH;
-use area::sets::member;
+use sets::member;
 ghost use mathlib.Core.Path.{_≡_};
 ghost use Prim.Native.Nat.{ℕ, _≤_, _<_};
 ghost use lib.Dec.{eqb};

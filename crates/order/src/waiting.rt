@@ -1,7 +1,7 @@
 // Who waits for whom, and for each router those whose set it is in. A table per router has WIDTH entries, 0 from n on.
 use area::limits::WIDTH;
-use area::sets::add;
-use area::sets::member;
+use sets::add;
+use sets::member;
 ghost use mathlib.Core.Path.{_≡_};
 ghost use Prim.Native.Nat.{_≤_, _<_, _*_};
 ghost use lib.ListN.{length, getD};

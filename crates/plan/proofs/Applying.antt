@@ -7,13 +7,13 @@ use mathlib.Core.Logic.{⊎-elim}
 use mathlib.Core.List.{List, []}
 use native.Mathlib.Omega.{arith}
 use lib.ListN.{length, set, length-set}
-use Rattle.area.specs.declared.entries.Entry.{Entry}
 use Rattle.area.specs.Limits.{width}
 use Rattle.area.specs.Tables.{cell, tabulate}
 use Rattle.area.specs.TestLaws.{look}
 use Rattle.area.specs.TableLaws.{length-tabulate, cell-tabulate, is-tabulate}
-use Rattle.area.specs.Entries.{count, entryOf, from, to, metric, isOf}
-use Rattle.area.specs.EntryLaws.{cell-entered}
+use Rattle.entries.specs.declared.Entry.{Entry}
+use Rattle.entries.specs.Entries.{count, entryOf, from, to, metric, isOf}
+use Rattle.entries.specs.EntryLaws.{cell-entered}
 use Rattle.changes.specs.ChangeLaws.{Change}
 use Rattle.plan.specs.NewMetrics.{newCell, newMetrics}
 use Rattle.plan.specs.MetricLaws.{cell-start, cell-more, cell-kept}

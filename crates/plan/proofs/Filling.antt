@@ -5,7 +5,7 @@ use mathlib.Core.List.{List}
 use lib.ListN.{getD}
 use Rattle.area.specs.Limits.{width}
 use Rattle.area.specs.Tables.{tabulate}
-use Rattle.area.specs.EntryLaws.{metric-fits}
+use Rattle.entries.specs.EntryLaws.{metric-fits}
 use Rattle.topology.specs.Paths.{hopCell, refusalOf, distancesOf, hopsOf}
 use Rattle.topology.specs.PathsLaws.{ready-accepted, distances-filled, hops-filled}
 use Rattle.plan.specs.NewMetrics.{newMetrics}

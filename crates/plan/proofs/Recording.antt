@@ -8,11 +8,11 @@ use lib.Dec.{eqb}
 use lib.ListN.{length}
 use Rattle.area.specs.Limits.{width}
 use Rattle.area.specs.Tests.{pick}
-use Rattle.area.specs.Sets.{bit}
-use Rattle.area.specs.SetLaws.{setOf-same}
 use Rattle.area.specs.Tables.{cell, tabulate, perRouter}
 use Rattle.area.specs.TableLaws.{length-tabulate, cell-tabulate}
 use Rattle.area.specs.PerRouterLaws.{per-same}
+use Rattle.sets.specs.Sets.{bit}
+use Rattle.sets.specs.SetLaws.{setOf-same}
 use Rattle.topology.specs.Paths.{hopCell}
 use Rattle.topology.specs.PathsLaws.{hops-in}
 use Rattle.order.specs.Order.{waitingBy, tellingBy, dueBy, orderOf}

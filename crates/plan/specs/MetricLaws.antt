@@ -19,8 +19,8 @@ use Rattle.area.specs.Tests.{pick}
 use Rattle.area.specs.Tables.{cell}
 use Rattle.area.specs.TestLaws.{and-false}
 use Rattle.area.specs.TableLaws.{length-tabulate, cell-tabulate}
-use Rattle.area.specs.Entries.{count, from, to, metric, isOf, listed}
-use Rattle.area.specs.EntryLaws.{of-pair, given-start, given-more, given-kept, given-cases}
+use Rattle.entries.specs.Entries.{count, from, to, metric, isOf, listed}
+use Rattle.entries.specs.EntryLaws.{of-pair, given-start, given-more, given-kept, given-cases}
 use Rattle.topology.specs.Paths.{isMetric}
 use Rattle.topology.specs.Topology.{topology}
 use Rattle.topology.specs.TopologyLaws.{topology-le, topology-same}

@@ -6,7 +6,7 @@ use lib.Dec.{ltb, eqb}
 use Rattle.area.specs.Limits.{width, unused}
 use Rattle.area.specs.Tests.{pick}
 use Rattle.area.specs.Tables.{cell, tabulate}
-use Rattle.area.specs.Entries.{count, listed}
+use Rattle.entries.specs.Entries.{count, listed}
 
 -- The cell (i, j) of the new table when the first k changes are made: `unused` on the diagonal and beyond n, whatever the old table has there. `newMetrics` is the table when all changes are made.
 unfoldable pub newCell : ℕ → List ℕ → List ℕ → ℕ → ℕ → ℕ → ℕ

@@ -14,9 +14,9 @@ use borrow.Author.Tests.{eqb-true, eq-eqb, ne-eqb}
 use Rattle.area.specs.Limits.{width, mostChanges}
 use Rattle.area.specs.TableLaws.{length-tabulate}
 use Rattle.area.specs.TestLaws.{look, both-true}
-use Rattle.area.specs.Entries.{count}
 use Rattle.area.specs.Sizes.{isCount, isTable}
 use Rattle.area.specs.SizeLaws.{count-true, table-true, table-size}
+use Rattle.entries.specs.Entries.{count}
 use Rattle.topology.specs.Paths.{areMetrics, distanceCell, hopCell}
 use Rattle.topology.specs.PathsLaws.{Ready, area-ready, area-metrics}
 use Rattle.changes.specs.Changes.{isRise, isFall}

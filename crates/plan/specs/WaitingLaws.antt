@@ -15,8 +15,8 @@ use borrow.Author.Tests.{eqb-false, ne-eqb, not-true}
 use Rattle.area.specs.Limits.{width, unreached}
 use Rattle.area.specs.Tests.{pick}
 use Rattle.area.specs.TestLaws.{look}
-use Rattle.area.specs.Sets.{bit, setOf}
-use Rattle.area.specs.SetLaws.{setOf-lt, bit-lt, bit-setOf}
+use Rattle.sets.specs.Sets.{bit, setOf}
+use Rattle.sets.specs.SetLaws.{setOf-lt, bit-lt, bit-setOf}
 use Rattle.topology.specs.Topology.{topology}
 use Rattle.topology.specs.TopologyLaws.{topology-graph}
 use Rattle.topology.specs.Distance.{distance}

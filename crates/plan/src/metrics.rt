@@ -1,9 +1,9 @@
 // The metric table after the change.
-use area::entries::count;
-use area::entries::decode;
 use area::limits::CELLS;
 use area::limits::UNUSED;
 use area::limits::WIDTH;
+use entries::count;
+use entries::decode;
 ghost use mathlib.Core.Path.{_≡_};
 ghost use mathlib.Core.List.{[]};
 ghost use Prim.Native.Nat.{_≤_, _<_, _*_, _/_, _%_};

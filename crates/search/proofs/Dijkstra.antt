@@ -13,9 +13,9 @@ use native.Mathlib.Omega.{arith}
 use borrow.Author.Tests.{eq-eqb, ne-eqb, eqb-true}
 use lib.Dec.{eqb}
 use Rattle.area.specs.Limits.{width, unused, unreached}
-use Rattle.area.specs.Sets.{num, bit, added}
 use Rattle.area.specs.TestLaws.{look, or-cases, or-left, or-right, or-none, same-test}
-use Rattle.area.specs.SetLaws.{bit-zero, bit-added, bit-union, is-setOf}
+use Rattle.sets.specs.Sets.{num, bit, added}
+use Rattle.sets.specs.SetLaws.{bit-zero, bit-added, bit-union, is-setOf}
 use Rattle.topology.specs.Walk.{Walk, stay, link, sum}
 use Rattle.topology.specs.Distance.{distance}
 use Rattle.topology.specs.NextHops.{isNext, nextHops, Next}

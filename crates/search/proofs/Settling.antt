@@ -9,9 +9,9 @@ use native.Mathlib.Omega.{arith}
 use lib.ListN.{length, getD, set, length-set}
 use lib.Seq.{getD-set-same, getD-set-other}
 use Rattle.area.specs.Limits.{width, unused, unreached}
-use Rattle.area.specs.Sets.{bit, added}
 use Rattle.area.specs.Tables.{build}
 use Rattle.area.specs.TableLaws.{is-build}
+use Rattle.sets.specs.Sets.{bit, added}
 use Rattle.topology.specs.Topology.{topology}
 use Rattle.topology.specs.Paths.{distanceCell, hopCell}
 use Rattle.topology.specs.TopologyLaws.{topology-graph}

@@ -5,7 +5,7 @@ use mathlib.Core.Bool.{false}
 use mathlib.Core.List.{List}
 use lib.ListN.{getD}
 use Rattle.area.specs.Limits.{unused, unreached}
-use Rattle.area.specs.Sets.{bit}
+use Rattle.sets.specs.Sets.{bit}
 use Rattle.offers.specs.Offers.{firstHop}
 use Rattle.offers.specs.OfferLaws.{Offered}
 

@@ -3,7 +3,6 @@ use area::limits::CELLS;
 use area::limits::UNREACHED;
 use area::limits::UNUSED;
 use area::limits::WIDTH;
-use area::sets;
 use offers::first_hop;
 use offers::offer;
 ghost use mathlib.Core.Path.{_≡_};

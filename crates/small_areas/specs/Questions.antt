@@ -4,10 +4,10 @@ use mathlib.Core.List.{List, _∷_}
 use lib.ListN.{getD, take, replicate}
 use Rattle.area.specs.Limits.{width}
 use Rattle.area.specs.Tests.{orThen, all, first}
-use Rattle.area.specs.Sets.{bit, setOf, added, removed, subset}
 use Rattle.area.specs.Sizes.{isCount, isTable}
 use Rattle.area.specs.Tables.{cell, build, tabulate, perRouter}
-use Rattle.area.specs.Entries.{count, entryOf, isFree, entryRefusal, listedRefusal, listed}
+use Rattle.sets.specs.Sets.{bit, setOf, added, removed, subset}
+use Rattle.entries.specs.Entries.{count, entryOf, isFree, entryRefusal, listedRefusal, listed}
 use Rattle.topology.specs.Topology.{isLink, topology}
 use Rattle.topology.specs.Distance.{sums, least}
 use Rattle.topology.specs.NextHops.{isNext, nextHops}

@@ -13,9 +13,9 @@ use native.Mathlib.Omega.{arith}
 use lib.Dec.{ltb, eqb}
 use borrow.Author.Tests.{ltb-true, eqb-true, lt-ltb, eq-eqb}
 use Rattle.area.specs.Limits.{unused, unreached}
-use Rattle.area.specs.Sets.{bit}
 use Rattle.area.specs.TestLaws.{both-true, look}
-use Rattle.area.specs.SetLaws.{bit-setOf, bit-beyond, setOf-none}
+use Rattle.sets.specs.Sets.{bit}
+use Rattle.sets.specs.SetLaws.{bit-setOf, bit-beyond, setOf-none}
 use Rattle.topology.specs.Walk.{Walk, stay, link, sum}
 use Rattle.topology.specs.Distance.{distance}
 use Rattle.topology.specs.NextHops.{isNext, nextHops, Next}

@@ -4,7 +4,7 @@ use mathlib.Core.Path.{_≡_}
 use mathlib.Core.Bool.{Bool, _&&_}
 use lib.Dec.{ltb, eqb}
 use Rattle.area.specs.Limits.{unused}
-use Rattle.area.specs.Sets.{setOf}
+use Rattle.sets.specs.Sets.{setOf}
 use Rattle.topology.specs.Distance.{distance}
 
 -- Router k is a next hop from i to j: the link from i to k is used, and a least walk to j starts with it. Sums are of natural numbers and never wrap, so an unreached k is none.

@@ -10,12 +10,12 @@ use lib.ListN.{length}
 use borrow.Author.Tests.{leb-true, lt-ltb, le-ltb, le-leb, lt-leb, eq-eqb, ne-eqb}
 use Rattle.area.specs.Limits.{width, unused, unreached}
 use Rattle.area.specs.Tests.{all}
-use Rattle.area.specs.Sets.{bit}
 use Rattle.area.specs.Tables.{cell, tabulate}
 use Rattle.area.specs.Sizes.{isCount, isTable}
 use Rattle.area.specs.SizeLaws.{count-true, count-some, count-most, table-true, table-size}
 use Rattle.area.specs.TestLaws.{look, both-true, and-true, and-false, or-right, all-at, all-true}
 use Rattle.area.specs.TableLaws.{cell-tabulate}
+use Rattle.sets.specs.Sets.{bit}
 use Rattle.topology.specs.Topology.{topology}
 use Rattle.topology.specs.Distance.{distance, IsDistance}
 use Rattle.topology.specs.NextHops.{nextHops, Next}

@@ -8,15 +8,15 @@ use borrow.Author.Needs.{needs}
 use borrow.Author.Tests.{eqb-true, eqb-false, not-true, not-false}
 use lib.Dec.{eqb}
 use lib.ListN.{getD}
-use Rattle.area.specs.declared.entries.Entry.{Entry}
 use Rattle.area.specs.declared.refusal.Verdict.{Verdict}
 use Rattle.area.specs.Limits.{width}
 use Rattle.area.specs.Refusals.{verdictNumber}
 use Rattle.area.specs.Tests.{pick, orThen}
 use Rattle.area.specs.TestLaws.{then-some, then-none}
-use Rattle.area.specs.Sets.{bit}
-use Rattle.area.specs.Entries.{entryRefusal}
-use Rattle.area.specs.EntryLaws.{faultless-of}
+use Rattle.sets.specs.Sets.{bit}
+use Rattle.entries.specs.declared.Entry.{Entry}
+use Rattle.entries.specs.Entries.{entryRefusal}
+use Rattle.entries.specs.EntryLaws.{faultless-of}
 use Rattle.faults.proofs.entry.Statement.{statement}
 use Rattle.faults.proofs.entry.Tie as tie
 

@@ -10,14 +10,14 @@ use borrow.Author.Tests.{eqb-true, eqb-false, not-true, not-false}
 use lib.Dec.{eqb}
 use lib.ListN.{getD}
 use denote.Ref.{now}
-use Rattle.area.specs.declared.entries.Entry.{Entry}
 use Rattle.area.specs.declared.refusal.Verdict.{Verdict}
 use Rattle.area.specs.Limits.{width}
 use Rattle.area.specs.Refusals.{verdictNumber}
 use Rattle.area.specs.TestLaws.{first-none, first-fault}
 use Rattle.area.specs.Tests.{pick, orThen, first}
-use Rattle.area.specs.Sets.{bit}
-use Rattle.area.specs.Entries.{count, entryOf, entryRefusal}
+use Rattle.sets.specs.Sets.{bit}
+use Rattle.entries.specs.declared.Entry.{Entry}
+use Rattle.entries.specs.Entries.{count, entryOf, entryRefusal}
 use Rattle.faults.specs.Faults.{linkRefusal}
 use Rattle.faults.specs.FaultLaws.{link-cut}
 use Rattle.faults.proofs.Pairs.{Seen, seen-none, link-told, in-sets as inside, seen-next}

@@ -9,8 +9,8 @@ use borrow.Author.Needs.{needs}
 use denote.Ref.{now}
 use lib.ListN.{set}
 use Rattle.area.specs.Limits.{width}
-use Rattle.area.specs.Sets.{bit, removed}
-use Rattle.area.specs.SetLaws.{bit-lt}
+use Rattle.sets.specs.Sets.{bit, removed}
+use Rattle.sets.specs.SetLaws.{bit-lt}
 use Rattle.plan.specs.declared.Record.{Record}
 use Rattle.machine.specs.Answers.{ok, ignored, refused, gives}
 use Rattle.machine.specs.Machine.{done, stateOf, waitingOf, tellingOf, over, withTables, listens, deliver}

@@ -9,7 +9,7 @@ use borrow.Author.Needs.{needs}
 use denote.Ref.{now}
 use lib.ListN.{set}
 use Rattle.area.specs.Limits.{width}
-use Rattle.area.specs.Sets.{subset}
+use Rattle.sets.specs.Sets.{subset}
 use Rattle.plan.specs.declared.Record.{Record}
 use Rattle.machine.specs.Answers.{ok, refused, gives}
 use Rattle.machine.specs.Machine.{ongoing, done, stateOf, waitingOf, dueOf, writtenOf, over, withTables, finish}

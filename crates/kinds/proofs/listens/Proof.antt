@@ -4,7 +4,7 @@ use mathlib.Core.Path.{_≡_, sym, _∙_}
 use mathlib.Core.Bool.{Bool, false}
 use mathlib.Core.Logic.{_≢_}
 use borrow.Author.Needs.{needs}
-use Rattle.area.specs.Sets.{bit}
+use Rattle.sets.specs.Sets.{bit}
 use Rattle.machine.specs.Machine.{holding, ongoing, listens}
 use Rattle.machine.specs.StepLaws.{listens-holding, listens-ongoing, listens-neither}
 use Rattle.kinds.proofs.listens.Statement.{statement}

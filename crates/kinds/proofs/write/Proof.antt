@@ -9,7 +9,7 @@ use borrow.Author.Needs.{needs}
 use denote.Ref.{now}
 use lib.ListN.{set}
 use Rattle.area.specs.Limits.{width}
-use Rattle.area.specs.Sets.{bit, added}
+use Rattle.sets.specs.Sets.{bit, added}
 use Rattle.plan.specs.declared.Record.{Record}
 use Rattle.machine.specs.Answers.{ok, refused, gives}
 use Rattle.machine.specs.Machine.{ongoing, stateOf, waitingOf, dueOf, writtenOf, over, withTables, write}

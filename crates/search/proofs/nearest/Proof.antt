@@ -9,7 +9,7 @@ use borrow.Author.Count.{below-none, below-more}
 use borrow.Author.Tests.{not-true, not-false}
 use lib.ListN.{getD}
 use Rattle.area.specs.Limits.{unreached}
-use Rattle.area.specs.Sets.{bit}
+use Rattle.sets.specs.Sets.{bit}
 use Rattle.search.proofs.nearest.Statement.{statement}
 use Rattle.search.proofs.nearest.Tie as tie
 

@@ -7,8 +7,8 @@ use lib.ListN.{length, length-set}
 use denote.Ref.{now}
 use Rattle.area.specs.Limits.{width, unused}
 use Rattle.area.specs.TableLaws.{Front, front-none, front-more, places-tabulate}
-use Rattle.area.specs.Entries.{listed}
-use Rattle.area.specs.EntryLaws.{given-start}
+use Rattle.entries.specs.Entries.{listed}
+use Rattle.entries.specs.EntryLaws.{given-start}
 use Rattle.bench_file.specs.Read.{linked}
 use Rattle.bench_file.proofs.metrics.clear.Statement.{statement}
 use Rattle.bench_file.proofs.metrics.clear.Tie as tie

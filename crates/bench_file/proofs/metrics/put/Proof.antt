@@ -4,7 +4,7 @@ use mathlib.Core.List.{[]}
 use Prim.Native.Nat.{_-_, _≤_}
 use native.Mathlib.Omega.{arith}
 use denote.Ref.{now}
-use Rattle.area.specs.EntryLaws.{read-from, read-to}
+use Rattle.entries.specs.EntryLaws.{read-from, read-to}
 use Rattle.bench_file.proofs.Linking.{Linked, linked-none, linked-more, linked-all}
 use Rattle.bench_file.proofs.metrics.put.Statement.{statement}
 use Rattle.bench_file.proofs.metrics.put.Tie as tie

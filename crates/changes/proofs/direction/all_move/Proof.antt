@@ -9,8 +9,8 @@ use borrow.Author.Tests.{not-true, not-false}
 use lib.Dec.{ltb}
 use denote.Ref.{now}
 use Rattle.area.specs.Tests.{pick, all}
-use Rattle.area.specs.Entries.{count, metric}
 use Rattle.area.specs.TestLaws.{all-true, all-false}
+use Rattle.entries.specs.Entries.{count, metric}
 use Rattle.changes.specs.Changes.{before, isRise, isFall}
 use Rattle.changes.proofs.direction.all_move.Statement.{statement}
 use Rattle.changes.proofs.direction.all_move.Tie as tie

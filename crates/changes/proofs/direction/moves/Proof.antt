@@ -4,7 +4,7 @@ use native.Mathlib.Omega.{arith}
 use borrow.Author.Needs.{needs}
 use lib.Dec.{ltb}
 use denote.Ref.{now}
-use Rattle.area.specs.EntryLaws.{read-from, read-to, read-metric, read-cell}
+use Rattle.entries.specs.EntryLaws.{read-from, read-to, read-metric, read-cell}
 use Rattle.changes.proofs.direction.moves.Statement.{statement}
 use Rattle.changes.proofs.direction.moves.Tie as tie
 

@@ -7,7 +7,7 @@ use borrow.Author.Tests.{eqb-true, eqb-false, not-true, not-false}
 use denote.Ref.{now}
 use Rattle.area.specs.Refusals.{verdictNumber}
 use Rattle.area.specs.TestLaws.{first-none, first-fault}
-use Rattle.area.specs.Entries.{count}
+use Rattle.entries.specs.Entries.{count}
 use Rattle.changes.specs.Changes.{changeRefusal}
 use Rattle.changes.proofs.faults.entries.Statement.{statement}
 use Rattle.changes.proofs.faults.entries.Tie as tie

@@ -9,12 +9,12 @@ use borrow.Author.Needs.{needs}
 use borrow.Author.Tests.{eqb-true, eqb-false, not-true, not-false}
 use lib.Dec.{eqb}
 use lib.ListN.{getD}
-use Rattle.area.specs.declared.entries.Entry.{Entry}
 use Rattle.area.specs.declared.refusal.Verdict.{Verdict}
 use Rattle.area.specs.Limits.{width}
 use Rattle.area.specs.Refusals.{verdictNumber}
-use Rattle.area.specs.Entries.{entryOf, from, to, isFree, entryRefusal, listedRefusal}
-use Rattle.area.specs.EntryLaws.{read-metric, read-cell, Faultless, faultless-of, listed-faulty, listed-repeated, listed-passes}
+use Rattle.entries.specs.declared.Entry.{Entry}
+use Rattle.entries.specs.Entries.{entryOf, from, to, isFree, entryRefusal, listedRefusal}
+use Rattle.entries.specs.EntryLaws.{read-metric, read-cell, Faultless, faultless-of, listed-faulty, listed-repeated, listed-passes}
 use Rattle.changes.specs.Changes.{changeRefusal}
 use Rattle.changes.specs.ChangeLaws.{refused-entry, refused-same, passes}
 use Rattle.changes.proofs.faults.entry.Statement.{statement}

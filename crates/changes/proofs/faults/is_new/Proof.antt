@@ -9,10 +9,10 @@ use borrow.Author.Count.{below-none, below-more}
 use borrow.Author.Tests.{eq-eqb, ne-eqb}
 use lib.Dec.{eqb}
 use denote.Ref.{now}
-use Rattle.area.specs.declared.entries.Entry.{Entry}
-use Rattle.area.specs.Entries.{entryOf, from, to, isOf}
 use Rattle.area.specs.TestLaws.{and-false}
-use Rattle.area.specs.EntryLaws.{read-from, read-to, free-true, free-false}
+use Rattle.entries.specs.declared.Entry.{Entry}
+use Rattle.entries.specs.Entries.{entryOf, from, to, isOf}
+use Rattle.entries.specs.EntryLaws.{read-from, read-to, free-true, free-false}
 use Rattle.changes.proofs.faults.is_new.Statement.{statement}
 use Rattle.changes.proofs.faults.is_new.Tie as tie
 

@@ -9,7 +9,7 @@ use lib.ListN.{length}
 use Rattle.area.specs.declared.refusal.Verdict.{Verdict}
 use Rattle.area.specs.Limits.{mostChanges}
 use Rattle.area.specs.Refusals.{verdictNumber}
-use Rattle.area.specs.Entries.{count}
+use Rattle.entries.specs.Entries.{count}
 use Rattle.changes.specs.Changes.{firstRefusal}
 use Rattle.changes.specs.Judging.{faultRefusal}
 use Rattle.changes.specs.JudgingLaws.{fault-cut, fault-many, fault-none, fault-changes}

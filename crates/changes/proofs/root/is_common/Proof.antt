@@ -9,10 +9,10 @@ use borrow.Author.Count.{below-none, below-more}
 use borrow.Author.Tests.{eq-eqb, ne-eqb}
 use lib.Dec.{eqb}
 use denote.Ref.{now}
-use Rattle.area.specs.declared.entries.Entry.{Entry}
-use Rattle.area.specs.Entries.{count, entryOf, from, to}
 use Rattle.area.specs.TestLaws.{or-right, all-true, all-false}
-use Rattle.area.specs.EntryLaws.{read-from, read-to}
+use Rattle.entries.specs.declared.Entry.{Entry}
+use Rattle.entries.specs.Entries.{count, entryOf, from, to}
+use Rattle.entries.specs.EntryLaws.{read-from, read-to}
 use Rattle.changes.specs.Root.{isCommon}
 use Rattle.changes.proofs.root.is_common.Statement.{statement}
 use Rattle.changes.proofs.root.is_common.Tie as tie

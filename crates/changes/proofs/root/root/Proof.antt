@@ -2,7 +2,7 @@
 use mathlib.Core.Path.{sym, ap, _∙_}
 use borrow.Author.Needs.{needs}
 use denote.Ref.{now}
-use Rattle.area.specs.EntryLaws.{read-from, read-to}
+use Rattle.entries.specs.EntryLaws.{read-from, read-to}
 use Rattle.changes.specs.Root.{isCommon}
 use Rattle.changes.specs.RootLaws.{root-far, root-near}
 use Rattle.changes.proofs.root.root.Statement.{statement}

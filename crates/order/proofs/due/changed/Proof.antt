@@ -8,9 +8,9 @@ use borrow.Author.Tests.{eq-eqb, ne-eqb}
 use lib.Dec.{eqb}
 use denote.Ref.{now}
 use Rattle.area.specs.Limits.{width}
-use Rattle.area.specs.Sets.{setOf, added}
 use Rattle.area.specs.Tables.{cell}
-use Rattle.area.specs.SetLaws.{setOf-start, setOf-skip, setOf-more}
+use Rattle.sets.specs.Sets.{setOf, added}
+use Rattle.sets.specs.SetLaws.{setOf-start, setOf-skip, setOf-more}
 use Rattle.order.proofs.due.changed.Statement.{statement}
 use Rattle.order.proofs.due.changed.Tie as tie
 

@@ -3,9 +3,9 @@ use mathlib.Core.Path.{_≡_}
 use Prim.Native.Nat.{_-_, _≤_}
 use native.Mathlib.Omega.{arith}
 use Rattle.area.specs.Limits.{width}
-use Rattle.area.specs.Sets.{setOf}
 use Rattle.area.specs.Tables.{cell}
 use Rattle.area.specs.PerRouterLaws.{Filled, filled-none, filled-more, filled-all}
+use Rattle.sets.specs.Sets.{setOf}
 use mathlib.Core.Bool.{not}
 use lib.Dec.{eqb}
 use Rattle.order.proofs.due.due.Statement.{statement}

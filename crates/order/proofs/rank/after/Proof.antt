@@ -4,7 +4,7 @@ use mathlib.Core.Logic.{⊎-elim}
 use Prim.Native.Nat.{ℕ, _-_, _≤_}
 use native.Mathlib.Omega.{arith}
 use lib.ListN.{getD}
-use Rattle.area.specs.Sets.{bit}
+use Rattle.sets.specs.Sets.{bit}
 use Rattle.order.specs.Rank.{above}
 use Rattle.order.specs.RankLaws.{above-start, above-skip, above-more}
 use Rattle.order.proofs.rank.after.Statement.{statement}

@@ -4,8 +4,8 @@ use Prim.Native.Nat.{_-_, _≤_}
 use native.Mathlib.Omega.{arith}
 use lib.ListN.{getD}
 use Rattle.area.specs.Limits.{width}
-use Rattle.area.specs.Sets.{bit, setOf}
 use Rattle.area.specs.PerRouterLaws.{Filled, filled-none, filled-more, filled-all}
+use Rattle.sets.specs.Sets.{bit, setOf}
 use Rattle.order.proofs.waiting.converse.Statement.{statement}
 use Rattle.order.proofs.waiting.converse.Tie as tie
 

@@ -6,8 +6,8 @@ use Prim.Native.Nat.{ℕ, _-_, _≤_}
 use native.Mathlib.Omega.{arith}
 use lib.ListN.{getD}
 use Rattle.area.specs.Limits.{width}
-use Rattle.area.specs.Sets.{bit, setOf, added}
-use Rattle.area.specs.SetLaws.{setOf-start, setOf-skip, setOf-more}
+use Rattle.sets.specs.Sets.{bit, setOf, added}
+use Rattle.sets.specs.SetLaws.{setOf-start, setOf-skip, setOf-more}
 use Rattle.order.proofs.waiting.holders.Statement.{statement}
 use Rattle.order.proofs.waiting.holders.Tie as tie
 

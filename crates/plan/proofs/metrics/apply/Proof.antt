@@ -3,8 +3,8 @@ use mathlib.Core.Path.{_≡_, sym, _∙_}
 use Prim.Native.Nat.{_-_, _≤_}
 use native.Mathlib.Omega.{arith}
 use denote.Ref.{now}
-use Rattle.area.specs.Entries.{count}
-use Rattle.area.specs.EntryLaws.{read-from, read-to}
+use Rattle.entries.specs.Entries.{count}
+use Rattle.entries.specs.EntryLaws.{read-from, read-to}
 use Rattle.plan.proofs.Applying.{Applied, applied-none, applied-more, applied-all}
 use Rattle.plan.proofs.metrics.apply.Statement.{statement}
 use Rattle.plan.proofs.metrics.apply.Tie as tie
