@@ -24,8 +24,8 @@ use Rattle.area.specs.PerRouterLaws.{zeros-at}
 use Rattle.area.specs.Entries.{count, entryOf, from, to, isOf, isFree, entryRefusal, listedRefusal}
 use Rattle.area.specs.EntryLaws.{read-from, of-pair, pair-of, free-none, free-taken, free-kept, faultless-of, listed-faulty, listed-free}
 use Rattle.area.specs.TestLaws.{look, or-none, or-right, then-some, then-none}
-use Rattle.faults.specs.Faults.{linkRefusal}
-use Rattle.faults.specs.FaultLaws.{link-whole, link-sound}
+use Rattle.sections.specs.Faults.{linkRefusal}
+use Rattle.sections.specs.FaultLaws.{link-whole, link-sound}
 
 pub record Seen (l : List ℕ) (k : ℕ) (s : List ℕ) : Type 0 where
   pub size : length s ≡ width

@@ -20,8 +20,8 @@ ghost use Rattle.area.specs.Refusals.{verdictNumber};
 ghost use Rattle.area.specs.Tests.{pick, orThen, first};
 ghost use Rattle.area.specs.Sets.{bit};
 ghost use Rattle.area.specs.Entries.{entryRefusal};
-ghost use Rattle.faults.specs.Sections.{two, linkCount};
-ghost use Rattle.faults.specs.Faults.{linkRefusal, restRefusal, fileRefusal};
+ghost use Rattle.sections.specs.Sections.{two, linkCount};
+ghost use Rattle.sections.specs.Faults.{linkRefusal, restRefusal, fileRefusal};
 
 // The first fault of a file.
 pub fn judge(file: &[u8]) -> Verdict
