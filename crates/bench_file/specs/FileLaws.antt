@@ -25,9 +25,9 @@ use Rattle.area.specs.Tables.{cell}
 use Rattle.area.specs.TableLaws.{cell-tabulate}
 use Rattle.entries.specs.Entries.{count, entryOf, from, to, metric, isOf, listed}
 use Rattle.entries.specs.EntryLaws.{count-is, count-least, entry-same, listed-same, given-none, given-cases, given-at}
-use Rattle.faults.specs.Sections.{two, routers, linkCount, links, changeCountAt, changeCount, changesAt, changes, stepCountAt, stepCount, stepsAt, steps, largest}
-use Rattle.faults.specs.Faults.{mostLinks, linkRefusal, restRefusal, fileRefusal}
-use Rattle.faults.specs.FaultLaws.{most-links-is, pairs-most, Accepted, accepted-of, link-whole, rest-many-changes, rest-many-steps, rest-more, file-count, file-many, file-link, file-rest}
+use Rattle.sections.specs.Sections.{two, routers, linkCount, links, changeCountAt, changeCount, changesAt, changes, stepCountAt, stepCount, stepsAt, steps, largest}
+use Rattle.sections.specs.Faults.{mostLinks, linkRefusal, restRefusal, fileRefusal}
+use Rattle.sections.specs.FaultLaws.{most-links-is, pairs-most, Accepted, accepted-of, link-whole, rest-many-changes, rest-many-steps, rest-more, file-count, file-many, file-link, file-rest}
 use Rattle.bench_file.specs.Read.{readRefusal, contents, nothing, contentsOf, linked, metricsOf}
 use Rattle.bench_file.specs.ReadLaws.{read-size, read-file, contents-refused, metrics-kept, metrics-refused, metrics-accepted}
 

@@ -7,8 +7,8 @@ use Rattle.area.specs.Tests.{pick}
 use Rattle.area.specs.Sizes.{isTable}
 use Rattle.area.specs.Tables.{tabulate}
 use Rattle.entries.specs.Entries.{listed}
-use Rattle.faults.specs.Sections.{routers, linkCount, links, changeCount, changesAt, stepCount, stepsAt}
-use Rattle.faults.specs.Faults.{fileRefusal}
+use Rattle.sections.specs.Sections.{routers, linkCount, links, changeCount, changesAt, stepCount, stepsAt}
+use Rattle.sections.specs.Faults.{fileRefusal}
 use Rattle.bench_file.specs.declared.Contents.{Contents}
 
 -- the number of the answer: a table of the wrong size comes before every fault of the file

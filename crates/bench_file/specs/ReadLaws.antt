@@ -9,8 +9,8 @@ use borrow.Author.Tests.{eq-eqb, ne-eqb}
 use Rattle.area.specs.Limits.{width}
 use Rattle.area.specs.SizeLaws.{table-true, table-false}
 use Rattle.entries.specs.Entries.{from, to}
-use Rattle.faults.specs.Sections.{linkCount, links}
-use Rattle.faults.specs.Faults.{fileRefusal}
+use Rattle.sections.specs.Sections.{linkCount, links}
+use Rattle.sections.specs.Faults.{fileRefusal}
 use Rattle.bench_file.specs.Read.{readRefusal, contents, nothing, contentsOf, linked, metricsOf}
 
 -- ---- what Read answers, hands back and leaves

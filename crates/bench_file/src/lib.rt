@@ -11,7 +11,7 @@ use faults::two;
 ghost use mathlib.Core.Path.{_≡_};
 ghost use lib.ListN.{length};
 ghost use Rattle.area.specs.Refusals.{verdictNumber};
-ghost use Rattle.faults.specs.Sections.{end};
+ghost use Rattle.sections.specs.Sections.{end};
 ghost use Rattle.bench_file.specs.Read.{readRefusal, contents, nothing, contentsOf, metricsOf};
 
 // How many entries or steps a section has, and the place of its first byte in the file.

@@ -1,4 +1,8 @@
 // Whether a bench file is accepted: the first fault in the order of its bytes.
+use entries::Entry;
+use entries::check;
+use entries::count;
+use entries::decode;
 use area::limits::ENTRY;
 use area::limits::MOST_CHANGES;
 use area::limits::MOST_STEPS;
@@ -6,10 +10,6 @@ use area::limits::STEP;
 use area::limits::WIDTH;
 use area::refusal::Refusal;
 use area::refusal::Verdict;
-use entries::Entry;
-use entries::check;
-use entries::count;
-use entries::decode;
 use sets::add;
 use sets::member;
 ghost use mathlib.Core.Path.{_≡_};
@@ -20,8 +20,8 @@ ghost use Rattle.area.specs.Refusals.{verdictNumber};
 ghost use Rattle.area.specs.Tests.{pick, orThen, first};
 ghost use Rattle.sets.specs.Sets.{bit};
 ghost use Rattle.entries.specs.Entries.{entryRefusal};
-ghost use Rattle.faults.specs.Sections.{two, linkCount};
-ghost use Rattle.faults.specs.Faults.{linkRefusal, restRefusal, fileRefusal};
+ghost use Rattle.sections.specs.Sections.{two, linkCount};
+ghost use Rattle.sections.specs.Faults.{linkRefusal, restRefusal, fileRefusal};
 
 // The first fault of a file.
 pub fn judge(file: &[u8]) -> Verdict

@@ -5,7 +5,7 @@ use lib.Dec.{eqb}
 use Rattle.area.specs.Tests.{pick, orThen}
 use Rattle.plan.specs.declared.Record.{Record}
 use Rattle.plan.specs.Plan.{Tables, areTables, planRefusal, fresh, blank, filled}
-use Rattle.faults.specs.Sections.{routers, linkCount, links, changes}
+use Rattle.sections.specs.Sections.{routers, linkCount, links, changes}
 use Rattle.bench_file.specs.Read.{readRefusal, linked}
 
 -- the metrics of the file's links

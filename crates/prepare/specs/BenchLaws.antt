@@ -17,8 +17,8 @@ use Rattle.area.specs.SizeLaws.{count-low}
 use Rattle.plan.specs.declared.Record.{Record}
 use Rattle.plan.specs.Plan.{Tables, areTables, planRefusal, blank, recordOf, tablesOf as fills}
 use Rattle.plan.specs.PlanLaws.{plan-count, planned-true, planned-false, record-planned, record-refused, tables-planned, tables-refused}
-use Rattle.faults.specs.Sections.{routers, changeCount, changesAt, changes}
-use Rattle.faults.specs.FaultLaws.{Accepted}
+use Rattle.sections.specs.Sections.{routers, changeCount, changesAt, changes}
+use Rattle.sections.specs.FaultLaws.{Accepted}
 use Rattle.bench_file.specs.declared.Contents.{Contents}
 use Rattle.bench_file.specs.Read.{readRefusal, contents, contentsOf, metricsOf}
 use Rattle.bench_file.specs.ReadLaws.{contents-accepted, contents-refused, metrics-accepted}

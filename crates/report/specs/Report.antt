@@ -5,7 +5,7 @@ use lib.Dec.{eqb}
 use Rattle.area.specs.Tests.{pick}
 use Rattle.plan.specs.Plan.{Tables}
 use Rattle.machine.specs.Run.{replies, callsOf}
-use Rattle.faults.specs.Sections.{routers, steps}
+use Rattle.sections.specs.Sections.{routers, steps}
 use Rattle.text.specs.Text.{word}
 use Rattle.prepare.specs.Bench.{refusal, planned, tablesOf}
 use Rattle.lines.specs.Lines.{refusedLine, routerLines, stepLines, routeLines}

@@ -21,7 +21,7 @@ use Rattle.plan.specs.Plan.{Tables, tables}
 use Rattle.plan.specs.PlanLaws.{filled-size}
 use Rattle.plan.specs.FreshLaws.{fresh-count}
 use Rattle.machine.specs.Run.{replies, callsOf}
-use Rattle.faults.specs.Sections.{routers, changes, stepCount, stepsAt, steps}
+use Rattle.sections.specs.Sections.{routers, changes, stepCount, stepsAt, steps}
 use Rattle.bench_file.specs.declared.Contents.{Contents}
 use Rattle.bench_file.specs.declared.Section.{Section}
 use Rattle.bench_file.specs.Read.{contents, contentsOf}

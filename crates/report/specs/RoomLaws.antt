@@ -9,7 +9,7 @@ use Rattle.area.specs.SizeLaws.{count-most}
 use Rattle.plan.specs.Plan.{Tables}
 use Rattle.machine.specs.Run.{replies, callsOf}
 use Rattle.machine.specs.CallLaws.{replies-many}
-use Rattle.faults.specs.Sections.{routers, stepCount, stepsAt, steps}
+use Rattle.sections.specs.Sections.{routers, stepCount, stepsAt, steps}
 use Rattle.text.specs.Text.{word}
 use Rattle.text.specs.TextLaws.{line-most}
 use Rattle.prepare.specs.Bench.{refusal, planned, tablesOf}

@@ -23,8 +23,8 @@ use Rattle.plan.specs.Plan.{Tables, tables, areTables, planRefusal, isPlanned, 
 use Rattle.machine.specs.Answers.{Reply, refused}
 use Rattle.machine.specs.Machine.{learn, release, ready, write, finish, listens, deliver, isSound, isKind, readsB, areRouters, callOf, stepOf}
 use Rattle.machine.specs.Run.{callsOf, replies}
-use Rattle.faults.specs.Sections.{changes, steps}
-use Rattle.faults.specs.Faults.{mostLinks, linkRefusal, restRefusal, fileRefusal}
+use Rattle.sections.specs.Sections.{changes, steps}
+use Rattle.sections.specs.Faults.{mostLinks, linkRefusal, restRefusal, fileRefusal}
 use Rattle.bench_file.specs.Read.{readRefusal, contents, nothing, contentsOf, linked, metricsOf}
 use Rattle.text.specs.Text.{digits, decimal, field, line}
 use Rattle.lines.specs.Lines.{refusedLine, routerLine, routerLines, answerText, stepLine, stepLines}

@@ -4,8 +4,8 @@ use mathlib.Core.List.{List}
 use Prim.Native.Nat.{ℕ, _+_, _*_}
 use borrow.Author.Needs.{needs}
 use denote.Ref.{now}
-use Rattle.faults.specs.Sections.{routers, linkCount, changeCount, stepCount}
-use Rattle.faults.specs.FaultLaws.{read-changes, read-steps}
+use Rattle.sections.specs.Sections.{routers, linkCount, changeCount, stepCount}
+use Rattle.sections.specs.FaultLaws.{read-changes, read-steps}
 use Rattle.bench_file.specs.declared.Contents.{Contents}
 use Rattle.bench_file.specs.Read.{contents}
 use Rattle.bench_file.proofs.describe.Statement.{statement}

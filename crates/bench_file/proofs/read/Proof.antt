@@ -15,9 +15,9 @@ use Rattle.area.specs.declared.refusal.Verdict.{Verdict}
 use Rattle.area.specs.Limits.{width}
 use Rattle.area.specs.Refusals.{verdictNumber}
 use Rattle.area.specs.SizeLaws.{count-most}
-use Rattle.faults.specs.Sections.{routers, links, end}
-use Rattle.faults.specs.Faults.{fileRefusal}
-use Rattle.faults.specs.FaultLaws.{Accepted, accepted-of}
+use Rattle.sections.specs.Sections.{routers, links, end}
+use Rattle.sections.specs.Faults.{fileRefusal}
+use Rattle.sections.specs.FaultLaws.{Accepted, accepted-of}
 use Rattle.bench_file.specs.declared.Contents.{Contents}
 use Rattle.bench_file.specs.Read.{readRefusal, contents, nothing, contentsOf, linked, metricsOf}
 use Rattle.bench_file.specs.ReadLaws.{InTable, read-size, read-file, contents-refused, contents-accepted, metrics-kept, metrics-refused, metrics-accepted}

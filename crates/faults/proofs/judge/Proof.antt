@@ -15,9 +15,9 @@ use Rattle.area.specs.Refusals.{verdictNumber}
 use Rattle.area.specs.Tests.{first}
 use Rattle.area.specs.Sizes.{isCount}
 use Rattle.area.specs.SizeLaws.{count-true, count-low, count-high}
-use Rattle.faults.specs.Sections.{routers, linkCount, links}
-use Rattle.faults.specs.Faults.{mostLinks, linkRefusal, restRefusal, fileRefusal}
-use Rattle.faults.specs.FaultLaws.{most-links-is, pairs-most, file-empty, file-count, file-cut, file-many, file-link, file-rest}
+use Rattle.sections.specs.Sections.{routers, linkCount, links}
+use Rattle.sections.specs.Faults.{mostLinks, linkRefusal, restRefusal, fileRefusal}
+use Rattle.sections.specs.FaultLaws.{most-links-is, pairs-most, file-empty, file-count, file-cut, file-many, file-link, file-rest}
 use Rattle.faults.proofs.judge.Statement.{statement}
 use Rattle.faults.proofs.judge.Tie as tie
 

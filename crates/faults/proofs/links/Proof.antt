@@ -18,8 +18,8 @@ use Rattle.area.specs.Tests.{pick, orThen, first}
 use Rattle.sets.specs.Sets.{bit}
 use Rattle.entries.specs.declared.Entry.{Entry}
 use Rattle.entries.specs.Entries.{count, entryOf, entryRefusal}
-use Rattle.faults.specs.Faults.{linkRefusal}
-use Rattle.faults.specs.FaultLaws.{link-cut}
+use Rattle.sections.specs.Faults.{linkRefusal}
+use Rattle.sections.specs.FaultLaws.{link-cut}
 use Rattle.faults.proofs.Pairs.{Seen, seen-none, link-told, in-sets as inside, seen-next}
 use Rattle.faults.proofs.links.Statement.{statement}
 use Rattle.faults.proofs.links.Tie as tie

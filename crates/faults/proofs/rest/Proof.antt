@@ -6,9 +6,9 @@ use native.Mathlib.Omega.{arith}
 use borrow.Author.Needs.{needs}
 use lib.ListN.{length, getD}
 use Rattle.area.specs.Limits.{mostChanges, mostSteps}
-use Rattle.faults.specs.Sections.{two, linkCount, changeCount, stepCount}
-use Rattle.faults.specs.Faults.{restRefusal}
-use Rattle.faults.specs.FaultLaws.{read-changes, read-steps, rest-cut-count, rest-many-changes, rest-cut-changes, rest-many-steps, rest-cut-steps, rest-more, rest-passes}
+use Rattle.sections.specs.Sections.{two, linkCount, changeCount, stepCount}
+use Rattle.sections.specs.Faults.{restRefusal}
+use Rattle.sections.specs.FaultLaws.{read-changes, read-steps, rest-cut-count, rest-many-changes, rest-cut-changes, rest-many-steps, rest-cut-steps, rest-more, rest-passes}
 use Rattle.faults.proofs.rest.Statement.{statement}
 use Rattle.faults.proofs.rest.Tie as tie
 

@@ -20,8 +20,8 @@ use Rattle.area.specs.TestLaws.{look, then-some, then-none, none-first}
 use Rattle.area.specs.Sizes.{isCount}
 use Rattle.entries.specs.Entries.{count, entryOf, from, to, isFree, listedRefusal}
 use Rattle.entries.specs.EntryLaws.{Faultless, listed-sound}
-use Rattle.faults.specs.Sections.{two, routers, linkCount, links, changeCount, changesAt, stepCount, stepsAt, end}
-use Rattle.faults.specs.Faults.{mostLinks, linkRefusal, restRefusal, fileRefusal}
+use Rattle.sections.specs.Sections.{two, routers, linkCount, links, changeCount, changesAt, stepCount, stepsAt, end}
+use Rattle.sections.specs.Faults.{mostLinks, linkRefusal, restRefusal, fileRefusal}
 
 -- ---- the counts that code has read, one after another
 module _ (f : List ℕ) {k : ℕ} (is : k ≡ linkCount f) {x : ℕ} (told : x ≡ getD f (3 + 5 * k) 0) where

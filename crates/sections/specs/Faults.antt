@@ -8,7 +8,7 @@ use Rattle.area.specs.Limits.{mostChanges, mostSteps}
 use Rattle.area.specs.Tests.{pick, orThen, first}
 use Rattle.area.specs.Sizes.{isCount}
 use Rattle.entries.specs.Entries.{count, listedRefusal}
-use Rattle.faults.specs.Sections.{routers, linkCount, links, changeCount, changesAt, stepCount, stepsAt, end}
+use Rattle.sections.specs.Sections.{routers, linkCount, links, changeCount, changesAt, stepCount, stepsAt, end}
 
 -- as many links as n routers have ordered pairs
 unfoldable pub mostLinks : ℕ → ℕ
