@@ -20,9 +20,9 @@ use Rattle.area.specs.PerRouterLaws.{per-same}
 use Rattle.area.specs.Sizes.{isTable}
 use Rattle.area.specs.SizeLaws.{table-is, table-true, table-false, table-size}
 use Rattle.order.specs.declared.Order.{Order}
-use Rattle.order.specs.Rank.{rank}
+use Rattle.ranks.specs.Rank.{rank}
 use Rattle.order.specs.Order.{waitingBy, tellingBy, dueBy, isOrdered, ordered, nothing, orderOf}
-use Rattle.order.specs.RankLaws.{rank-same}
+use Rattle.ranks.specs.RankLaws.{rank-same}
 
 -- ---- what the sets of n routers decide
 module _ (w n : ℕ) (f g : ℕ → ℕ) (most : n ≤ w) (same : (s : ℕ) → s < n → f s ≡ g s) where
