@@ -1,8 +1,4 @@
 // Whether a bench file is accepted: the first fault in the order of its bytes.
-use entries::Entry;
-use entries::check;
-use entries::count;
-use entries::decode;
 use area::limits::ENTRY;
 use area::limits::MOST_CHANGES;
 use area::limits::MOST_STEPS;
@@ -10,6 +6,10 @@ use area::limits::STEP;
 use area::limits::WIDTH;
 use area::refusal::Refusal;
 use area::refusal::Verdict;
+use entries::Entry;
+use entries::check;
+use entries::count;
+use entries::decode;
 use sets::add;
 use sets::member;
 ghost use mathlib.Core.Path.{_≡_};

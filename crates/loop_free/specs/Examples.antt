@@ -19,7 +19,7 @@ use Rattle.topology.specs.Distance.{sums, least, distance}
 use Rattle.topology.specs.NextHops.{isNext, nextHops}
 use Rattle.topology.specs.Pigeonhole.{Distinct}
 use Rattle.topology.specs.Paths.{isMetric, areMetrics}
-use Rattle.order.specs.Rank.{greatest, above, longest, rank}
+use Rattle.ranks.specs.Rank.{greatest, above, longest, rank}
 use Rattle.changes.specs.Changes.{changeRefusal, isRise, isFall}
 use Rattle.changes.specs.Root.{isCommon, root}
 use Rattle.changes.specs.Judging.{faultRefusal, commonRefusal, listRefusal}

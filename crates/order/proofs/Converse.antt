@@ -5,7 +5,7 @@ use mathlib.Core.List.{List}
 use lib.ListN.{getD}
 use Rattle.area.specs.Tables.{perRouter}
 use Rattle.area.specs.PerRouterLaws.{per-at}
-use Rattle.order.specs.Rank.{rank}
+use Rattle.ranks.specs.Rank.{rank}
 use Rattle.order.specs.Order.{tellingBy}
 use Rattle.order.specs.OrderLaws.{telling-same, ranks-same}
 

@@ -1,5 +1,3 @@
 -- The order of a change, by next hops alone. First the definitions, in reading order; then the laws about them.
-pub mod Rank
 pub mod Order
-pub mod RankLaws
 pub mod OrderLaws

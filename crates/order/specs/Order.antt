@@ -10,8 +10,8 @@ use Rattle.area.specs.Tests.{pick}
 use Rattle.area.specs.Sizes.{isTable}
 use Rattle.area.specs.Tables.{cell, perRouter}
 use Rattle.sets.specs.Sets.{bit, setOf}
+use Rattle.ranks.specs.Rank.{rank}
 use Rattle.order.specs.declared.Order.{Order}
-use Rattle.order.specs.Rank.{rank}
 
 -- The routers that r waits for. In a rise: those whose old next hops to the root hold r. In a fall: its own new next hops to the root.
 abbrev pub waitingBy : ℕ → ℕ → Bool → (ℕ → ℕ → ℕ) → (ℕ → ℕ → ℕ) → ℕ → ℕ

@@ -1,6 +1,5 @@
 // Who waits for whom, who tells whom, ranks, and what is due, from the next hops before a change and after it.
 mod due;
-mod rank;
 mod waiting;
 
 use area::limits::CELLS;
@@ -64,7 +63,7 @@ fn ordered(n: usize, root: usize, rising: bool, old: &[u32], new: &[u32]) -> Ord
 {
     let waiting = waiting::waiting(n, root, rising, old, new);
     let telling = waiting::converse(n, waiting);
-    let ranks = rank::ranks(n, waiting);
+    let ranks = ranks::ranks(n, waiting);
     let due = due::due(n, old, new);
     Order {
         waiting,

@@ -15,7 +15,7 @@ use Rattle.area.specs.TestLaws.{look}
 use Rattle.area.specs.Tables.{cell}
 use Rattle.area.specs.PerRouterLaws.{per-at, per-beyond, zeros-at}
 use Rattle.topology.specs.Topology.{topology}
-use Rattle.order.specs.Rank.{rank}
+use Rattle.ranks.specs.Rank.{rank}
 use Rattle.changes.specs.Changes.{isRise, isFall}
 use Rattle.changes.specs.Root.{root}
 use Rattle.changes.specs.ChangeLaws.{rise-at, fall-at}

@@ -10,7 +10,7 @@ use Rattle.area.specs.Tests.{pick}
 use Rattle.area.specs.Tables.{tabulate, perRouter}
 use Rattle.area.specs.Sizes.{isCount, isTable}
 use Rattle.topology.specs.Paths.{areMetrics, distanceCell, hopCell}
-use Rattle.order.specs.Rank.{rank}
+use Rattle.ranks.specs.Rank.{rank}
 use Rattle.changes.specs.Changes.{isRise}
 use Rattle.changes.specs.Root.{root}
 use Rattle.changes.specs.Judging.{listRefusal}

@@ -24,8 +24,8 @@ use Rattle.topology.specs.DistanceLaws.{distance-top}
 use Rattle.topology.specs.NextHops.{nextHops, Next}
 use Rattle.topology.specs.NextHopLaws.{bit-next, next-set, next-nearer}
 use Rattle.topology.specs.Pigeonhole.{Distinct}
-use Rattle.order.specs.Rank.{Chain, routers, rank, IsRank}
-use Rattle.order.specs.RankLaws.{chain-distinct, rank-is, rank-less}
+use Rattle.ranks.specs.Rank.{Chain, routers, rank, IsRank}
+use Rattle.ranks.specs.RankLaws.{chain-distinct, rank-is, rank-less}
 use Rattle.changes.specs.Changes.{isRise}
 use Rattle.changes.specs.Root.{root}
 use Rattle.plan.specs.NewMetrics.{newMetrics}

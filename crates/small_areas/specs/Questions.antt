@@ -12,7 +12,7 @@ use Rattle.topology.specs.Topology.{isLink, topology}
 use Rattle.topology.specs.Distance.{sums, least}
 use Rattle.topology.specs.NextHops.{isNext, nextHops}
 use Rattle.topology.specs.Paths.{isMetric, areMetrics, refusalOf, distanceCell, hopCell, distancesOf, hopsOf}
-use Rattle.order.specs.Rank.{greatest, above, longest, rank}
+use Rattle.ranks.specs.Rank.{greatest, above, longest, rank}
 use Rattle.changes.specs.Changes.{changeRefusal, isRise, isFall}
 use Rattle.changes.specs.Root.{isCommon}
 use Rattle.changes.specs.Judging.{faultRefusal, commonRefusal, listRefusal}

@@ -9,17 +9,18 @@ use lib.ListN.{getD}
 use denote.Ref.{now}
 use Rattle.area.specs.Limits.{width}
 use Rattle.area.specs.Tables.{cell, perRouter}
-use Rattle.order.specs.Rank.{rank}
+use Rattle.ranks.specs.Rank.{ranksOf}
+use Rattle.ranks.specs.RankLaws.{ranks-in}
 use Rattle.order.specs.Order.{waitingBy, tellingBy, dueBy, ordered}
 use Rattle.order.proofs.Converse.{converse-of, ranks-of}
 use Rattle.order.proofs.ordered.Statement.{statement}
 use Rattle.order.proofs.ordered.Tie as tie
 
-put-together : (n c : ℕ) (rising : Bool) (old new ws ts rs ds : List ℕ) → n ≤ width → ws ≡ perRouter width n (waitingBy n c rising (cell width old) (cell width new)) → ts ≡ perRouter width n (tellingBy n (λ s. getD ws s 0)) → rs ≡ perRouter width n (rank n (λ r. getD ws r 0)) → ds ≡ perRouter width n (dueBy n (cell width old) (cell width new)) → record { waiting = ws; telling = ts; ranks = rs; due = ds } ≡ ordered n c rising old new
+put-together : (n c : ℕ) (rising : Bool) (old new ws ts rs ds : List ℕ) → n ≤ width → ws ≡ perRouter width n (waitingBy n c rising (cell width old) (cell width new)) → ts ≡ perRouter width n (tellingBy n (λ s. getD ws s 0)) → rs ≡ ranksOf n ws → ds ≡ perRouter width n (dueBy n (cell width old) (cell width new)) → record { waiting = ws; telling = ts; ranks = rs; due = ds } ≡ ordered n c rising old new
 unfolding ordered
 put-together n c rising old new ws ts rs ds most w t r d =
     let t-is = t ∙ converse-of width n (waitingBy n c rising (cell width old) (cell width new)) ws most w in
-    let r-is = r ∙ ranks-of width n (waitingBy n c rising (cell width old) (cell width new)) ws most w in
+    let r-is = r ∙ ranks-in n ws most ∙ ranks-of width n (waitingBy n c rising (cell width old) (cell width new)) ws most w in
     rw (w, t-is, r-is, d) refl
 
 waiting-requires : tie.Need-waiting-requires

@@ -8,21 +8,26 @@
 --     chain-distinct, chain-few            where waiting comes down in some measure, a chain meets no router twice, and takes fewer links than there are routers
 --     rank-is, same-rank                   so the rank is over chains of any length; nothing else is
 --     rank-less                            a router ranks above those it waits for
+--     ranks-in, ranks-beyond               the table of ranks, for at most `width` routers and for more
 use Prim.Native.Nat.{ℕ, zero, suc, _+_, _-_, _≤_, _<_, max}
 use mathlib.Core.Path.{_≡_, refl, sym, ap, ap₂, _∙_}
 use mathlib.Core.Bool.{Bool, true, false}
 use mathlib.Core.Logic.{_⊎_, inl, inr, ⊎-elim}
+use mathlib.Core.List.{List}
 use native.Mathlib.Nat.{eq-or-lt-of-le, le-of-suc-le-suc, not-suc-le-zero}
 use native.Mathlib.Decide.{decLe}
 use native.Mathlib.Omega.{arith}
 use native.Mathlib.Numerals.{add-one}
-use lib.ListN.{length}
+use borrow.Author.Tests.{le-leb, lt-leb}
+use lib.ListN.{length, getD, replicate}
+use Rattle.area.specs.Limits.{width}
 use Rattle.area.specs.Tests.{pick}
 use Rattle.area.specs.TestLaws.{look}
+use Rattle.area.specs.Tables.{perRouter}
 use Rattle.sets.specs.Sets.{bit}
 use Rattle.topology.specs.Members.{_∈_}
 use Rattle.topology.specs.Pigeonhole.{Distinct, Below, pigeonhole}
-use Rattle.order.specs.Rank.{Chain, alone, waits, links, routers, greatest, above, longest, rank, IsRank}
+use Rattle.ranks.specs.Rank.{Chain, alone, waits, links, routers, greatest, above, longest, rank, IsRank, ranksOf}
 
 -- ---- the greatest of f 0 .. f (n - 1)
 pub greatest-le : (n : ℕ) (f : ℕ → ℕ) (k : ℕ) → k < n → f k ≤ greatest n f
@@ -162,3 +167,13 @@ module _ (n : ℕ) (w : ℕ → ℕ) (inside : (r s : ℕ) → bit (w r) s ≡ t
 -- nothing else is the rank
 pub same-rank : {w : ℕ → ℕ} {r j k : ℕ} → IsRank w r j → IsRank w r k → j ≡ k
 same-rank a b = omega (arith, a .exact, b .exact, a .most (b .chain), b .most (a .chain))
+
+-- ---- the table of ranks
+module _ (n : ℕ) (t : List ℕ) where
+  pub ranks-in : n ≤ width → ranksOf n t ≡ perRouter width n (rank n (λ r. getD t r 0))
+  unfolding ranksOf
+  ranks-in a = rw (le-leb n width a) refl
+
+  pub ranks-beyond : width < n → ranksOf n t ≡ replicate width 0
+  unfolding ranksOf
+  ranks-beyond a = rw (lt-leb n width a) refl

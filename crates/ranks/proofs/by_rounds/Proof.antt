@@ -7,10 +7,10 @@ use lib.Dec.{eqb}
 use lib.ListN.{getD}
 use Rattle.area.specs.Limits.{width}
 use Rattle.area.specs.TestLaws.{all-at}
-use Rattle.order.specs.Rank.{rank}
-use Rattle.order.proofs.Rounds.{Made, made-none, made-le, made-more, made-stays}
-use Rattle.order.proofs.rank.ranks.Statement.{statement}
-use Rattle.order.proofs.rank.ranks.Tie as tie
+use Rattle.ranks.specs.Rank.{rank}
+use Rattle.ranks.proofs.Rounds.{Made, made-none, made-le, made-more, made-stays}
+use Rattle.ranks.proofs.by_rounds.Statement.{statement}
+use Rattle.ranks.proofs.by_rounds.Tie as tie
 
 abbrev Inv-loop : tie.InvT-loop
 Inv-loop n waiting ranks₀ h₀ ranks h = (1 ≤ h) × (h - 1 ≤ n - 1) × Made width n (λ r. getD waiting r 0) (h - 1) ranks
@@ -66,8 +66,8 @@ returns-2 c =
     let e : at-loop .h - 1 ≡ c .before .before .args .n - 1 = omega arith in
     rw e at (at-loop .inv .2)
 
-pub ranks-spec : {M : Type 1} → statement M
-ranks-spec =
+pub by-rounds-spec : {M : Type 1} → statement M
+by-rounds-spec =
     tie.close
     (tie.spec
     Inv-loop

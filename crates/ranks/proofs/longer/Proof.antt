@@ -5,9 +5,9 @@ use native.Mathlib.Omega.{arith}
 use lib.ListN.{getD}
 use Rattle.area.specs.Limits.{width}
 use Rattle.area.specs.PerRouterLaws.{Filled, filled-none, filled-more, filled-all}
-use Rattle.order.specs.Rank.{above}
-use Rattle.order.proofs.rank.longer.Statement.{statement}
-use Rattle.order.proofs.rank.longer.Tie as tie
+use Rattle.ranks.specs.Rank.{above}
+use Rattle.ranks.proofs.longer.Statement.{statement}
+use Rattle.ranks.proofs.longer.Tie as tie
 
 abbrev Inv-loop : tie.InvT-loop
 Inv-loop n ranks waiting out₀ r₀ out r = (r ≤ n) × Filled width r (λ k. above n (getD waiting k 0) (λ s. getD ranks s 0)) out

@@ -6,8 +6,8 @@ use native.Mathlib.Omega.{arith}
 use lib.ListN.{getD, replicate, length-replicate, getD-replicate}
 use Rattle.area.specs.Tables.{perRouter}
 use Rattle.area.specs.PerRouterLaws.{per-at, per-same, is-per}
-use Rattle.order.specs.Rank.{above, longest}
-use Rattle.order.specs.RankLaws.{above-same, longest-le, longest-stays}
+use Rattle.ranks.specs.Rank.{above, longest}
+use Rattle.ranks.specs.RankLaws.{above-same, longest-le, longest-stays}
 
 abbrev pub Made : ℕ → ℕ → (ℕ → ℕ) → ℕ → List ℕ → Type 0
 Made width n w h ranks = ranks ≡ perRouter width n (longest n w h)

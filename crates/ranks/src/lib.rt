@@ -1,4 +1,4 @@
-// Ranks, round by round. A table per router has WIDTH entries, 0 from n on.
+// The ranks of routers, from the sets of those that each waits for. A table per router has WIDTH entries, 0 from n on.
 use area::limits::WIDTH;
 use sets::member;
 ghost use mathlib.Core.Path.{_≡_};
@@ -8,10 +8,20 @@ ghost use lib.ListN.{getD};
 ghost use Rattle.area.specs.Limits.{width};
 ghost use Rattle.area.specs.Tests.{all};
 ghost use Rattle.area.specs.Tables.{perRouter};
-ghost use Rattle.order.specs.Rank.{above, rank};
+ghost use Rattle.ranks.specs.Rank.{above, rank, ranksOf};
 
-// The ranks: each round allows chains of one link more, and a chain has fewer links than there are routers. After a round that changes nothing no round changes anything.
-pub(crate) fn ranks(n: usize, waiting: [u32; WIDTH]) -> [u8; WIDTH]
+// The ranks of n routers; all are 0 where n is above WIDTH.
+pub fn ranks(n: usize, waiting: [u32; WIDTH]) -> [u8; WIDTH]
+    ensures { λ t. ⌜ t ≡ ranksOf n waiting ⌝ }
+{
+    if WIDTH < n {
+        return [0; WIDTH];
+    }
+    by_rounds(n, waiting)
+}
+
+// Each round allows chains of one link more, and a chain has fewer links than there are routers. After a round that changes nothing no round changes anything.
+fn by_rounds(n: usize, waiting: [u32; WIDTH]) -> [u8; WIDTH]
     requires { ⌜ n ≤ width ⌝ }
     ensures { λ t. ⌜ t ≡ perRouter width n (rank n (λ r. getD waiting r 0)) ⌝ }
 {

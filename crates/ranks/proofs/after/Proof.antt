@@ -5,10 +5,10 @@ use Prim.Native.Nat.{ℕ, _-_, _≤_}
 use native.Mathlib.Omega.{arith}
 use lib.ListN.{getD}
 use Rattle.sets.specs.Sets.{bit}
-use Rattle.order.specs.Rank.{above}
-use Rattle.order.specs.RankLaws.{above-start, above-skip, above-more}
-use Rattle.order.proofs.rank.after.Statement.{statement}
-use Rattle.order.proofs.rank.after.Tie as tie
+use Rattle.ranks.specs.Rank.{above}
+use Rattle.ranks.specs.RankLaws.{above-start, above-skip, above-more}
+use Rattle.ranks.proofs.after.Statement.{statement}
+use Rattle.ranks.proofs.after.Tie as tie
 
 abbrev Inv-loop : tie.InvT-loop
 Inv-loop n set ranks most₀ s₀ most s = (s ≤ n) × (most ≡ above s set (λ k. getD ranks k 0))

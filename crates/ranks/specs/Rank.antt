@@ -3,7 +3,11 @@ use Prim.Native.Nat.{ℕ, zero, suc, _-_, _≤_, max}
 use mathlib.Core.Path.{_≡_}
 use mathlib.Core.Bool.{true}
 use mathlib.Core.List.{List, [], _∷_}
+use lib.Dec.{leb}
+use lib.ListN.{getD, replicate}
+use Rattle.area.specs.Limits.{width}
 use Rattle.area.specs.Tests.{pick}
+use Rattle.area.specs.Tables.{perRouter}
 use Rattle.sets.specs.Sets.{bit}
 
 -- A chain from r: r alone, or r and a chain from a router that it waits for.
@@ -45,3 +49,7 @@ pub record IsRank (w : ℕ → ℕ) (r k : ℕ) : Type 0 where
   pub chain : Chain w r
   pub exact : links chain ≡ k
   pub most : (c : Chain w r) → links c ≤ k
+
+-- The table of ranks by a table of the sets that routers wait for; zeros where n is above the width.
+unfoldable pub ranksOf : ℕ → List ℕ → List ℕ
+ranksOf n t = pick (leb n width) (perRouter width n (rank n (λ r. getD t r 0))) (replicate width 0)

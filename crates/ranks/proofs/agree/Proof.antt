@@ -7,8 +7,8 @@ use borrow.Author.Tests.{eq-eqb, ne-eqb}
 use lib.Dec.{eqb}
 use lib.ListN.{getD}
 use Rattle.area.specs.TestLaws.{all-true, all-false}
-use Rattle.order.proofs.rank.agree.Statement.{statement}
-use Rattle.order.proofs.rank.agree.Tie as tie
+use Rattle.ranks.proofs.agree.Statement.{statement}
+use Rattle.ranks.proofs.agree.Tie as tie
 
 abbrev Inv-loop : tie.InvT-loop
 Inv-loop n a b s₀ s = (s ≤ n) × ((k : ℕ) → k < s → getD a k 0 ≡ getD b k 0)

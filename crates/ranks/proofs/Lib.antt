@@ -1,0 +1,2 @@
+-- What several functions' proofs share, or what would make one too long.
+pub mod Rounds
