@@ -14,28 +14,28 @@ use Rattle.plan.specs.declared.Record.{Record}
 use Rattle.machine.specs.Answers.{ok, refused, gives}
 use Rattle.machine.specs.Machine.{ongoing, done, stateOf, waitingOf, dueOf, writtenOf, over, withTables, finish}
 use Rattle.machine.specs.StepLaws.{finish-state, finish-waiting, finish-unwritten, finish-ok}
-use Rattle.kinds.specs.Within.{within}
-use Rattle.kinds.specs.WithinLaws.{within-in, within-out}
-use Rattle.kinds.proofs.finish.Statement.{statement}
-use Rattle.kinds.proofs.finish.Tie as tie
+use Rattle.tables.specs.Within.{within}
+use Rattle.tables.specs.WithinLaws.{within-in, within-out}
+use Rattle.moves.proofs.finish.Statement.{statement}
+use Rattle.moves.proofs.finish.Tie as tie
 
-module _ (r : Record) (a s : ℕ) (h : a < width) (is : s ≡ stateOf r a) where
+module _ (r : Record) (a s : ℕ) (h : a < width) (known : a < width → s ≡ stateOf r a) where
   not-ongoing : s ≢ ongoing → gives r (refused 23) ≡ within r a (finish r a)
-  not-ongoing f = sym (within-in r a _ h ∙ finish-state r a (λ e. f (is ∙ e)))
+  not-ongoing f = sym (within-in r a _ h ∙ finish-state r a (λ e. f (known h ∙ e)))
 
-  module _ (at : s ≡ ongoing) (w : ℕ) (waits : w ≡ waitingOf r a) where
+  module _ (at : s ≡ ongoing) (w : ℕ) (waits : a < width → w ≡ waitingOf r a) where
     waiting : w ≢ 0 → gives r (refused 24) ≡ within r a (finish r a)
-    waiting f = sym (within-in r a _ h ∙ finish-waiting r a (sym is ∙ at) (λ e. f (waits ∙ e)))
+    waiting f = sym (within-in r a _ h ∙ finish-waiting r a (sym (known h) ∙ at) (λ e. f (waits h ∙ e)))
 
-    module _ (free : w ≡ 0) (whole : Bool) (d : ℕ) (is-due : d ≡ dueOf r a) (t : ℕ) (is-written : t ≡ writtenOf r a) (is-whole : whole ≡ subset width d t) where
+    module _ (free : w ≡ 0) (whole : Bool) (d : ℕ) (is-due : a < width → d ≡ dueOf r a) (t : ℕ) (is-written : a < width → t ≡ writtenOf r a) (is-whole : whole ≡ subset width d t) where
       is-subset : whole ≡ subset width (dueOf r a) (writtenOf r a)
-      is-subset = rw (sym is-due, sym is-written) is-whole
+      is-subset = rw (sym (is-due h), sym (is-written h)) is-whole
 
       unwritten : not whole ≡ true → gives r (refused 26) ≡ within r a (finish r a)
-      unwritten f = sym (within-in r a _ h ∙ finish-unwritten r a (sym is ∙ at) (sym waits ∙ free) (sym is-subset ∙ not-true whole f))
+      unwritten f = sym (within-in r a _ h ∙ finish-unwritten r a (sym (known h) ∙ at) (sym (waits h) ∙ free) (sym is-subset ∙ not-true whole f))
 
-      finishes : (states : List ℕ) → not whole ≡ false → states ≡ set (r .states) a done → gives (withTables r (r .waiting) states (r .written)) ok ≡ within r a (finish r a)
-      finishes states u e = rw e (sym (within-in r a _ h ∙ finish-ok r a (sym is ∙ at) (sym waits ∙ free) (sym is-subset ∙ not-false whole u)))
+      finishes : (states : List ℕ) → not whole ≡ false → (a < width → states ≡ set (r .states) a done) → gives (withTables r (r .waiting) states (r .written)) ok ≡ within r a (finish r a)
+      finishes states u e = rw (e h) (sym (within-in r a _ h ∙ finish-ok r a (sym (known h) ∙ at) (sym (waits h) ∙ free) (sym is-subset ∙ not-false whole u)))
 
 returns : tie.Need-returns
 returns c = λ (x : Record). sym (search within-out)
@@ -44,13 +44,13 @@ state-requires : tie.Need-state-requires
 state-requires c κs = search needs
 
 returns-2 : tie.Need-returns-2
-returns-2 c = λ (x : Record). search not-ongoing
+returns-2 c = λ (x : Record). not-ongoing _ _ _ (search needs) (c .before .state .ensures) (c .if2 .taken)
 
 entry-requires : tie.Need-entry-requires
 entry-requires c κs = search needs
 
 returns-3 : tie.Need-returns-3
-returns-3 c = λ (x : Record). search waiting
+returns-3 c = λ (x : Record). waiting _ _ _ (search needs) (c .before .before .before .state .ensures) (c .before .before .if2 .left) _ (c .before .entry .ensures) (c .if3 .taken)
 
 entry-requires-2 : tie.Need-entry-requires-2
 entry-requires-2 c κs = search needs

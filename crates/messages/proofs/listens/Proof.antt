@@ -7,8 +7,8 @@ use borrow.Author.Needs.{needs}
 use Rattle.area.specs.Sets.{bit}
 use Rattle.machine.specs.Machine.{holding, ongoing, listens}
 use Rattle.machine.specs.StepLaws.{listens-holding, listens-ongoing, listens-neither}
-use Rattle.kinds.proofs.listens.Statement.{statement}
-use Rattle.kinds.proofs.listens.Tie as tie
+use Rattle.messages.proofs.listens.Statement.{statement}
+use Rattle.messages.proofs.listens.Tie as tie
 
 module _ (s w a : ℕ) (t : Bool) (told : t ≡ bit w a) where
   is-holding : s ≡ holding → t ≡ listens s w a

@@ -15,32 +15,32 @@ use Rattle.plan.specs.declared.Record.{Record}
 use Rattle.machine.specs.Answers.{ok, ignored, refused, gives}
 use Rattle.machine.specs.Machine.{done, stateOf, waitingOf, tellingOf, over, withTables, listens, deliver}
 use Rattle.machine.specs.StepLaws.{deliver-not-done, deliver-not-told, deliver-lost, deliver-ok}
-use Rattle.kinds.specs.Within.{within}
-use Rattle.kinds.specs.WithinLaws.{within-in, within-out}
-use Rattle.kinds.proofs.deliver.Statement.{statement}
-use Rattle.kinds.proofs.deliver.Tie as tie
+use Rattle.tables.specs.Within.{within}
+use Rattle.tables.specs.WithinLaws.{within-in, within-out}
+use Rattle.messages.proofs.deliver.Statement.{statement}
+use Rattle.messages.proofs.deliver.Tie as tie
 
--- a member of a set of 32 bits has its place in every table
-fits : (t b : ℕ) (told : Bool) → t < 2 ^ width → told ≡ bit t b → not told ≡ false → b < width
-fits t b told l is-told u = bit-lt width t b l (sym is-told ∙ not-false told u)
-
-module _ (r : Record) (a b s : ℕ) (h : a < width) (is : s ≡ stateOf r a) where
+module _ (r : Record) (a b s : ℕ) (h : a < width) (known : a < width → s ≡ stateOf r a) where
   not-done : s ≢ done → gives r (refused 27) ≡ within r a (deliver r a b)
-  not-done f = sym (within-in r a _ h ∙ deliver-not-done r a b (λ e. f (is ∙ e)))
+  not-done f = sym (within-in r a _ h ∙ deliver-not-done r a b (λ e. f (known h ∙ e)))
 
-  module _ (at : s ≡ done) (told : Bool) (t : ℕ) (is-set : t ≡ tellingOf r a) (is-told : told ≡ bit t b) where
+  module _ (at : s ≡ done) (told : Bool) (t : ℕ) (l : t < 2 ^ width) (is-set : a < width → t ≡ tellingOf r a) (is-told : told ≡ bit t b) where
     not-told : not told ≡ true → gives r (refused 28) ≡ within r a (deliver r a b)
-    not-told f = sym (within-in r a _ h ∙ deliver-not-told r a b (sym is ∙ at) (rw is-set at (sym is-told ∙ not-true told f)))
+    not-told f = sym (within-in r a _ h ∙ deliver-not-told r a b (sym (known h) ∙ at) (rw (is-set h) at (sym is-told ∙ not-true told f)))
 
-    module _ (u : not told ≡ false) (heard : Bool) (w : ℕ) (waits : w ≡ waitingOf r b) (q : ℕ) (is-state : q ≡ stateOf r b) (is-heard : heard ≡ listens q w a) where
+    module _ (u : not told ≡ false) (heard : Bool) (w : ℕ) (waits : b < width → w ≡ waitingOf r b) (q : ℕ) (is-state : b < width → q ≡ stateOf r b) (is-heard : heard ≡ listens q w a) where
+      -- a member of a set of 32 bits has its place in every table
+      fits : b < width
+      fits = bit-lt width t b l (sym is-told ∙ not-false told u)
+
       listening : heard ≡ listens (stateOf r b) (waitingOf r b) a
-      listening = rw (sym is-state, sym waits) is-heard
+      listening = rw (sym (is-state fits), sym (waits fits)) is-heard
 
       lost : not heard ≡ true → gives r ignored ≡ within r a (deliver r a b)
-      lost f = sym (within-in r a _ h ∙ deliver-lost r a b (sym is ∙ at) (rw is-set at (sym is-told ∙ not-false told u)) (sym listening ∙ not-true heard f))
+      lost f = sym (within-in r a _ h ∙ deliver-lost r a b (sym (known h) ∙ at) (rw (is-set h) at (sym is-told ∙ not-false told u)) (sym listening ∙ not-true heard f))
 
-      strikes : (after : ℕ) (waiting : List ℕ) → not heard ≡ false → after ≡ removed width w a → waiting ≡ set (r .waiting) b after → gives (withTables r waiting (r .states) (r .written)) ok ≡ within r a (deliver r a b)
-      strikes after waiting v e k = rw (k, e, waits) (sym (within-in r a _ h ∙ deliver-ok r a b (sym is ∙ at) (rw is-set at (sym is-told ∙ not-false told u)) (sym listening ∙ not-false heard v)))
+      strikes : (after : ℕ) (waiting : List ℕ) → not heard ≡ false → after ≡ removed width w a → (b < width → waiting ≡ set (r .waiting) b after) → gives (withTables r waiting (r .states) (r .written)) ok ≡ within r a (deliver r a b)
+      strikes after waiting v e k = rw (k fits, e, waits fits) (sym (within-in r a _ h ∙ deliver-ok r a b (sym (known h) ∙ at) (rw (is-set h) at (sym is-told ∙ not-false told u)) (sym listening ∙ not-false heard v)))
 
 returns : tie.Need-returns
 returns c = λ (x : Record). sym (search within-out)
@@ -49,7 +49,7 @@ state-requires : tie.Need-state-requires
 state-requires c κs = search needs
 
 returns-2 : tie.Need-returns-2
-returns-2 c = λ (x : Record). search not-done
+returns-2 c = λ (x : Record). not-done _ _ _ _ (search needs) (c .before .state .ensures) (c .if2 .taken)
 
 entry-requires : tie.Need-entry-requires
 entry-requires c κs = search needs
@@ -61,10 +61,10 @@ returns-3 : tie.Need-returns-3
 returns-3 c = λ (x : Record). search not-told
 
 entry-requires-2 : tie.Need-entry-requires-2
-entry-requires-2 c κs = search fits
+entry-requires-2 c κs = search needs
 
 state-requires-2 : tie.Need-state-requires-2
-state-requires-2 c κs = search fits
+state-requires-2 c κs = search needs
 
 listens-requires : tie.Need-listens-requires
 listens-requires c κs = search needs
@@ -76,7 +76,7 @@ remove-requires : tie.Need-remove-requires
 remove-requires c κs = search needs
 
 set-entry-requires : tie.Need-set-entry-requires
-set-entry-requires c κs = search fits
+set-entry-requires c κs = search needs
 
 returns-5 : tie.Need-returns-5
 returns-5 c =

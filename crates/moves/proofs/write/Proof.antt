@@ -14,29 +14,29 @@ use Rattle.plan.specs.declared.Record.{Record}
 use Rattle.machine.specs.Answers.{ok, refused, gives}
 use Rattle.machine.specs.Machine.{ongoing, stateOf, waitingOf, dueOf, writtenOf, over, withTables, write}
 use Rattle.machine.specs.StepLaws.{write-state, write-waiting, write-not-due, write-again, write-ok}
-use Rattle.kinds.specs.Within.{within}
-use Rattle.kinds.specs.WithinLaws.{within-in, within-out}
-use Rattle.kinds.proofs.write.Statement.{statement}
-use Rattle.kinds.proofs.write.Tie as tie
+use Rattle.tables.specs.Within.{within}
+use Rattle.tables.specs.WithinLaws.{within-in, within-out}
+use Rattle.moves.proofs.write.Statement.{statement}
+use Rattle.moves.proofs.write.Tie as tie
 
-module _ (r : Record) (a b s : ℕ) (h : a < width) (is : s ≡ stateOf r a) where
+module _ (r : Record) (a b s : ℕ) (h : a < width) (known : a < width → s ≡ stateOf r a) where
   not-ongoing : s ≢ ongoing → gives r (refused 23) ≡ within r a (write r a b)
-  not-ongoing f = sym (within-in r a _ h ∙ write-state r a b (λ e. f (is ∙ e)))
+  not-ongoing f = sym (within-in r a _ h ∙ write-state r a b (λ e. f (known h ∙ e)))
 
-  module _ (at : s ≡ ongoing) (w : ℕ) (waits : w ≡ waitingOf r a) where
+  module _ (at : s ≡ ongoing) (w : ℕ) (waits : a < width → w ≡ waitingOf r a) where
     waiting : w ≢ 0 → gives r (refused 24) ≡ within r a (write r a b)
-    waiting f = sym (within-in r a _ h ∙ write-waiting r a b (sym is ∙ at) (λ e. f (waits ∙ e)))
+    waiting f = sym (within-in r a _ h ∙ write-waiting r a b (sym (known h) ∙ at) (λ e. f (waits h ∙ e)))
 
-    module _ (free : w ≡ 0) (due : Bool) (d : ℕ) (is-set : d ≡ dueOf r a) (is-due : due ≡ bit d b) where
+    module _ (free : w ≡ 0) (due : Bool) (d : ℕ) (is-set : a < width → d ≡ dueOf r a) (is-due : due ≡ bit d b) where
       not-due : not due ≡ true → gives r (refused 25) ≡ within r a (write r a b)
-      not-due f = sym (within-in r a _ h ∙ write-not-due r a b (sym is ∙ at) (sym waits ∙ free) (rw is-set at (sym is-due ∙ not-true due f)))
+      not-due f = sym (within-in r a _ h ∙ write-not-due r a b (sym (known h) ∙ at) (sym (waits h) ∙ free) (rw (is-set h) at (sym is-due ∙ not-true due f)))
 
-      module _ (t : not due ≡ false) (again : Bool) (before : ℕ) (is-before : before ≡ writtenOf r a) (is-again : again ≡ bit before b) where
+      module _ (t : not due ≡ false) (again : Bool) (before : ℕ) (is-before : a < width → before ≡ writtenOf r a) (is-again : again ≡ bit before b) where
         already : again ≡ true → gives r (refused 25) ≡ within r a (write r a b)
-        already u = sym (within-in r a _ h ∙ write-again r a b (sym is ∙ at) (sym waits ∙ free) (rw is-set at (sym is-due ∙ not-false due t)) (rw is-before at (sym is-again ∙ u)))
+        already u = sym (within-in r a _ h ∙ write-again r a b (sym (known h) ∙ at) (sym (waits h) ∙ free) (rw (is-set h) at (sym is-due ∙ not-false due t)) (rw (is-before h) at (sym is-again ∙ u)))
 
-        writes : (after : ℕ) (written : List ℕ) → again ≡ false → after ≡ added width before b → written ≡ set (r .written) a after → gives (withTables r (r .waiting) (r .states) written) ok ≡ within r a (write r a b)
-        writes after written u e k = rw (k, e, is-before) (sym (within-in r a _ h ∙ write-ok r a b (sym is ∙ at) (sym waits ∙ free) (rw is-set at (sym is-due ∙ not-false due t)) (rw is-before at (sym is-again ∙ u))))
+        writes : (after : ℕ) (written : List ℕ) → again ≡ false → after ≡ added width before b → (a < width → written ≡ set (r .written) a after) → gives (withTables r (r .waiting) (r .states) written) ok ≡ within r a (write r a b)
+        writes after written u e k = rw (k h, e, is-before h) (sym (within-in r a _ h ∙ write-ok r a b (sym (known h) ∙ at) (sym (waits h) ∙ free) (rw (is-set h) at (sym is-due ∙ not-false due t)) (rw (is-before h) at (sym is-again ∙ u))))
 
 returns : tie.Need-returns
 returns c = λ (x : Record). sym (search within-out)
@@ -45,13 +45,13 @@ state-requires : tie.Need-state-requires
 state-requires c κs = search needs
 
 returns-2 : tie.Need-returns-2
-returns-2 c = λ (x : Record). search not-ongoing
+returns-2 c = λ (x : Record). not-ongoing _ _ _ _ (search needs) (c .before .state .ensures) (c .if2 .taken)
 
 entry-requires : tie.Need-entry-requires
 entry-requires c κs = search needs
 
 returns-3 : tie.Need-returns-3
-returns-3 c = λ (x : Record). search waiting
+returns-3 c = λ (x : Record). waiting _ _ _ _ (search needs) (c .before .before .before .state .ensures) (c .before .before .if2 .left) _ (c .before .entry .ensures) (c .if3 .taken)
 
 entry-requires-2 : tie.Need-entry-requires-2
 entry-requires-2 c κs = search needs
