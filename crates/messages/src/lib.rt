@@ -1,16 +1,17 @@
 // A message between two routers, over the tables per router that it reads and changes. A sender that has no entry there is refused as an unknown router.
 use area::limits::WIDTH;
 use area::refusal::Refusal;
-use area::sets::member;
-use area::sets::remove;
 use machine::Answer;
 use machine::DONE;
 use machine::HOLDING;
 use machine::ONGOING;
-use tables::entry;
-use tables::set_entry;
+use tables::is_member;
+use tables::remove_member;
 use tables::state;
 ghost use mathlib.Core.Path.{_≡_};
+ghost use Prim.Native.Nat.{_<_};
+ghost use lib.ListN.{getD};
+ghost use Rattle.area.specs.Limits.{width};
 ghost use Rattle.plan.specs.declared.Record.{Record};
 ghost use Rattle.machine.specs.Answers.{replyOf, gives};
 ghost use Rattle.machine.specs.Machine.{over, listens, deliver};
@@ -33,28 +34,28 @@ pub fn deliver(
     if at != DONE {
         return Answer::Refused(Refusal::NotDone);
     }
-    let tells = member(entry(telling, sender), receiver);
+    let tells = is_member(telling, sender, receiver);
     if !tells {
         return Answer::Refused(Refusal::NotTold);
     }
-    let waits_for = entry(waiting, receiver);
-    let heard = listens(state(states, receiver), waits_for, sender);
+    let heard = listens(waiting, states, sender, receiver);
     if !heard {
         return Answer::Ignored;
     }
-    set_entry(waiting, receiver, remove(waits_for, sender));
+    remove_member(waiting, receiver, sender);
     Answer::Ok
 }
 
-// Does a router in this state, with this waiting set, listen for the message of this sender?
-fn listens(at: u8, waiting: u32, sender: usize) -> bool
-    ensures { λ r. ⌜ r ≡ listens at waiting sender ⌝ }
+// Does the receiver listen for the message of this sender?
+fn listens(waiting: &[u32; WIDTH], states: &[u8; WIDTH], sender: usize, receiver: usize) -> bool
+    ensures { λ r. ⌜ (receiver < width → r ≡ listens (getD (now (states .entry)) receiver 0) (getD (now (waiting .entry)) receiver 0) sender) ⌝ }
 {
+    let at = state(states, receiver);
     if at == HOLDING {
-        return member(waiting, sender);
+        return is_member(waiting, receiver, sender);
     }
     if at == ONGOING {
-        return member(waiting, sender);
+        return is_member(waiting, receiver, sender);
     }
     false
 }

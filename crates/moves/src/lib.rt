@@ -1,16 +1,15 @@
 // The moves of one router, over the tables per router that each reads and changes. A number that has no entry there is refused as an unknown router.
 use area::limits::WIDTH;
 use area::refusal::Refusal;
-use area::sets::add;
-use area::sets::is_subset;
-use area::sets::member;
 use machine::Answer;
 use machine::DONE;
 use machine::HOLDING;
 use machine::IDLE;
 use machine::ONGOING;
+use tables::add_member;
 use tables::entry;
-use tables::set_entry;
+use tables::is_member;
+use tables::is_subset_at;
 use tables::set_state;
 use tables::state;
 ghost use mathlib.Core.Path.{_≡_};
@@ -69,15 +68,14 @@ pub fn write(
     if waits_for != 0 {
         return Answer::Refused(Refusal::Waiting);
     }
-    let is_due = member(entry(due, i), d);
+    let is_due = is_member(due, i, d);
     if !is_due {
         return Answer::Refused(Refusal::NotDue);
     }
-    let before = entry(written, i);
-    if member(before, d) {
+    if is_member(written, i, d) {
         return Answer::Refused(Refusal::NotDue);
     }
-    set_entry(written, i, add(before, d));
+    add_member(written, i, d);
     Answer::Ok
 }
 
@@ -102,7 +100,7 @@ pub fn finish(
     if unheard != 0 {
         return Answer::Refused(Refusal::Waiting);
     }
-    let all_written = is_subset(entry(due, i), entry(written, i));
+    let all_written = is_subset_at(due, written, i);
     if !all_written {
         return Answer::Refused(Refusal::Unwritten);
     }

@@ -1,9 +1,15 @@
-// The entries of the tables per router. For a number that has no entry, 0 is given and nothing is changed, and no contract says so: no caller asks for one.
+// The entries of the tables per router. For a number that has no entry, 0 is read and nothing is changed, and no contract says so: no caller asks for one.
 use area::limits::WIDTH;
+use area::sets::add;
+use area::sets::is_subset;
+use area::sets::member;
+use area::sets::remove;
 ghost use mathlib.Core.Path.{_≡_};
+ghost use mathlib.Core.Bool.{true};
 ghost use Prim.Native.Nat.{_<_};
 ghost use lib.ListN.{getD, set};
 ghost use Rattle.area.specs.Limits.{width};
+ghost use Rattle.area.specs.Sets.{bit, added, removed, subset};
 
 // The state of router i.
 pub fn state(states: &[u8; WIDTH], i: usize) -> u8
@@ -36,11 +42,42 @@ pub fn entry(sets: &[u32; WIDTH], i: usize) -> u32
 }
 
 // Router i gets the set s.
-pub fn set_entry(sets: &mut [u32; WIDTH], i: usize, s: u32)
+fn set_entry(sets: &mut [u32; WIDTH], i: usize, s: u32)
     ensures { λ _. ⌜ (i < width → now (sets .exit) ≡ set (now (sets .entry)) i s) ⌝ }
 {
     if i >= WIDTH {
         return;
     }
     sets[i] = s;
+}
+
+// Is k in the set of router i? It is a router then.
+pub fn is_member(sets: &[u32; WIDTH], i: usize, k: usize) -> bool
+    ensures { λ r. ⌜ (i < width → r ≡ bit (getD (now (sets .entry)) i 0) k) ⌝ }
+    ensures fits { λ r. ⌜ (r ≡ true → k < width) ⌝ }
+{
+    member(entry(sets, i), k)
+}
+
+// k gets into the set of router i.
+pub fn add_member(sets: &mut [u32; WIDTH], i: usize, k: usize)
+    ensures { λ _. ⌜ (i < width → now (sets .exit) ≡ set (now (sets .entry)) i (added width (getD (now (sets .entry)) i 0) k)) ⌝ }
+{
+    let before = entry(sets, i);
+    set_entry(sets, i, add(before, k));
+}
+
+// k goes out of the set of router i.
+pub fn remove_member(sets: &mut [u32; WIDTH], i: usize, k: usize)
+    ensures { λ _. ⌜ (i < width → now (sets .exit) ≡ set (now (sets .entry)) i (removed width (getD (now (sets .entry)) i 0) k)) ⌝ }
+{
+    let before = entry(sets, i);
+    set_entry(sets, i, remove(before, k));
+}
+
+// Is the set of router i in one table a subset of its set in the other?
+pub fn is_subset_at(sets: &[u32; WIDTH], others: &[u32; WIDTH], i: usize) -> bool
+    ensures { λ r. ⌜ (i < width → r ≡ subset width (getD (now (sets .entry)) i 0) (getD (now (others .entry)) i 0)) ⌝ }
+{
+    is_subset(entry(sets, i), entry(others, i))
 }

@@ -24,23 +24,19 @@ module _ (r : Record) (a b s : ℕ) (h : a < width) (known : a < width → s ≡
   not-done : s ≢ done → gives r (refused 27) ≡ within r a (deliver r a b)
   not-done f = sym (within-in r a _ h ∙ deliver-not-done r a b (λ e. f (known h ∙ e)))
 
-  module _ (at : s ≡ done) (told : Bool) (t : ℕ) (l : t < 2 ^ width) (is-set : a < width → t ≡ tellingOf r a) (is-told : told ≡ bit t b) where
+  module _ (at : s ≡ done) (told : Bool) (is-told : a < width → told ≡ bit (tellingOf r a) b) (fits : told ≡ true → b < width) where
     not-told : not told ≡ true → gives r (refused 28) ≡ within r a (deliver r a b)
-    not-told f = sym (within-in r a _ h ∙ deliver-not-told r a b (sym (known h) ∙ at) (rw (is-set h) at (sym is-told ∙ not-true told f)))
+    not-told f = sym (within-in r a _ h ∙ deliver-not-told r a b (sym (known h) ∙ at) (sym (is-told h) ∙ not-true told f))
 
-    module _ (u : not told ≡ false) (heard : Bool) (w : ℕ) (waits : b < width → w ≡ waitingOf r b) (q : ℕ) (is-state : b < width → q ≡ stateOf r b) (is-heard : heard ≡ listens q w a) where
-      -- a member of a set of 32 bits has its place in every table
-      fits : b < width
-      fits = bit-lt width t b l (sym is-told ∙ not-false told u)
-
-      listening : heard ≡ listens (stateOf r b) (waitingOf r b) a
-      listening = rw (sym (is-state fits), sym (waits fits)) is-heard
+    module _ (u : not told ≡ false) (heard : Bool) (is-heard : b < width → heard ≡ listens (stateOf r b) (waitingOf r b) a) where
+      in-table : b < width
+      in-table = fits (not-false told u)
 
       lost : not heard ≡ true → gives r ignored ≡ within r a (deliver r a b)
-      lost f = sym (within-in r a _ h ∙ deliver-lost r a b (sym (known h) ∙ at) (rw (is-set h) at (sym is-told ∙ not-false told u)) (sym listening ∙ not-true heard f))
+      lost f = sym (within-in r a _ h ∙ deliver-lost r a b (sym (known h) ∙ at) (sym (is-told h) ∙ not-false told u) (sym (is-heard in-table) ∙ not-true heard f))
 
-      strikes : (after : ℕ) (waiting : List ℕ) → not heard ≡ false → after ≡ removed width w a → (b < width → waiting ≡ set (r .waiting) b after) → gives (withTables r waiting (r .states) (r .written)) ok ≡ within r a (deliver r a b)
-      strikes after waiting v e k = rw (k fits, e, waits fits) (sym (within-in r a _ h ∙ deliver-ok r a b (sym (known h) ∙ at) (rw (is-set h) at (sym is-told ∙ not-false told u)) (sym listening ∙ not-false heard v)))
+      strikes : (waiting : List ℕ) → not heard ≡ false → (b < width → waiting ≡ set (r .waiting) b (removed width (waitingOf r b) a)) → gives (withTables r waiting (r .states) (r .written)) ok ≡ within r a (deliver r a b)
+      strikes waiting v e = rw (e in-table) (sym (within-in r a _ h ∙ deliver-ok r a b (sym (known h) ∙ at) (sym (is-told h) ∙ not-false told u) (sym (is-heard in-table) ∙ not-false heard v)))
 
 returns : tie.Need-returns
 returns c = λ (x : Record). sym (search within-out)
@@ -51,20 +47,11 @@ state-requires c κs = search needs
 returns-2 : tie.Need-returns-2
 returns-2 c = λ (x : Record). not-done _ _ _ _ (search needs) (c .before .state .ensures) (c .if2 .taken)
 
-entry-requires : tie.Need-entry-requires
-entry-requires c κs = search needs
-
-member-requires : tie.Need-member-requires
-member-requires c κs = search needs
+is-member-requires : tie.Need-is-member-requires
+is-member-requires c κs = search needs
 
 returns-3 : tie.Need-returns-3
 returns-3 c = λ (x : Record). search not-told
-
-entry-requires-2 : tie.Need-entry-requires-2
-entry-requires-2 c κs = search needs
-
-state-requires-2 : tie.Need-state-requires-2
-state-requires-2 c κs = search needs
 
 listens-requires : tie.Need-listens-requires
 listens-requires c κs = search needs
@@ -72,15 +59,12 @@ listens-requires c κs = search needs
 returns-4 : tie.Need-returns-4
 returns-4 c = λ (x : Record). search lost
 
-remove-requires : tie.Need-remove-requires
-remove-requires c κs = search needs
-
-set-entry-requires : tie.Need-set-entry-requires
-set-entry-requires c κs = search needs
+remove-member-requires : tie.Need-remove-member-requires
+remove-member-requires c κs = search needs
 
 returns-5 : tie.Need-returns-5
 returns-5 c =
-    let a = c .before .before .before .before .before .before .before .before .before .before .before .before .before .before .args in
+    let a = c .before .before .before .before .before .before .before .before .before .before .args in
     λ (x : Record). search (strikes (over x (x .n) (now (a .waiting)) (now (a .telling)) (x .due) (now (a .states)) (x .written)) (a .sender) (a .receiver))
 
 pub deliver-spec : {M : Type 1} → statement M
@@ -90,13 +74,9 @@ deliver-spec =
     returns
     state-requires
     returns-2
-    entry-requires
-    member-requires
+    is-member-requires
     returns-3
-    entry-requires-2
-    state-requires-2
     listens-requires
     returns-4
-    remove-requires
-    set-entry-requires
+    remove-member-requires
     returns-5)

@@ -27,15 +27,12 @@ module _ (r : Record) (a s : ℕ) (h : a < width) (known : a < width → s ≡ s
     waiting : w ≢ 0 → gives r (refused 24) ≡ within r a (finish r a)
     waiting f = sym (within-in r a _ h ∙ finish-waiting r a (sym (known h) ∙ at) (λ e. f (waits h ∙ e)))
 
-    module _ (free : w ≡ 0) (whole : Bool) (d : ℕ) (is-due : a < width → d ≡ dueOf r a) (t : ℕ) (is-written : a < width → t ≡ writtenOf r a) (is-whole : whole ≡ subset width d t) where
-      is-subset : whole ≡ subset width (dueOf r a) (writtenOf r a)
-      is-subset = rw (sym (is-due h), sym (is-written h)) is-whole
-
+    module _ (free : w ≡ 0) (whole : Bool) (is-whole : a < width → whole ≡ subset width (dueOf r a) (writtenOf r a)) where
       unwritten : not whole ≡ true → gives r (refused 26) ≡ within r a (finish r a)
-      unwritten f = sym (within-in r a _ h ∙ finish-unwritten r a (sym (known h) ∙ at) (sym (waits h) ∙ free) (sym is-subset ∙ not-true whole f))
+      unwritten f = sym (within-in r a _ h ∙ finish-unwritten r a (sym (known h) ∙ at) (sym (waits h) ∙ free) (sym (is-whole h) ∙ not-true whole f))
 
       finishes : (states : List ℕ) → not whole ≡ false → (a < width → states ≡ set (r .states) a done) → gives (withTables r (r .waiting) states (r .written)) ok ≡ within r a (finish r a)
-      finishes states u e = rw (e h) (sym (within-in r a _ h ∙ finish-ok r a (sym (known h) ∙ at) (sym (waits h) ∙ free) (sym is-subset ∙ not-false whole u)))
+      finishes states u e = rw (e h) (sym (within-in r a _ h ∙ finish-ok r a (sym (known h) ∙ at) (sym (waits h) ∙ free) (sym (is-whole h) ∙ not-false whole u)))
 
 returns : tie.Need-returns
 returns c = λ (x : Record). sym (search within-out)
@@ -52,14 +49,8 @@ entry-requires c κs = search needs
 returns-3 : tie.Need-returns-3
 returns-3 c = λ (x : Record). waiting _ _ _ (search needs) (c .before .before .before .state .ensures) (c .before .before .if2 .left) _ (c .before .entry .ensures) (c .if3 .taken)
 
-entry-requires-2 : tie.Need-entry-requires-2
-entry-requires-2 c κs = search needs
-
-entry-requires-3 : tie.Need-entry-requires-3
-entry-requires-3 c κs = search needs
-
-is-subset-requires : tie.Need-is-subset-requires
-is-subset-requires c κs = search needs
+is-subset-at-requires : tie.Need-is-subset-at-requires
+is-subset-at-requires c κs = search needs
 
 returns-4 : tie.Need-returns-4
 returns-4 c = λ (x : Record). search unwritten
@@ -69,7 +60,7 @@ set-state-requires c κs = search needs
 
 returns-5 : tie.Need-returns-5
 returns-5 c =
-    let a = c .before .before .before .before .before .before .before .before .before .before .before .before .args in
+    let a = c .before .before .before .before .before .before .before .before .before .before .args in
     λ (x : Record). search (finishes (over x (x .n) (now (a .waiting)) (x .telling) (now (a .due)) (now (a .states)) (now (a .written))) (a .i))
 
 pub finish-spec : {M : Type 1} → statement M
@@ -81,9 +72,7 @@ finish-spec =
     returns-2
     entry-requires
     returns-3
-    entry-requires-2
-    entry-requires-3
-    is-subset-requires
+    is-subset-at-requires
     returns-4
     set-state-requires
     returns-5)

@@ -27,16 +27,16 @@ module _ (r : Record) (a b s : ℕ) (h : a < width) (known : a < width → s ≡
     waiting : w ≢ 0 → gives r (refused 24) ≡ within r a (write r a b)
     waiting f = sym (within-in r a _ h ∙ write-waiting r a b (sym (known h) ∙ at) (λ e. f (waits h ∙ e)))
 
-    module _ (free : w ≡ 0) (due : Bool) (d : ℕ) (is-set : a < width → d ≡ dueOf r a) (is-due : due ≡ bit d b) where
+    module _ (free : w ≡ 0) (due : Bool) (is-due : a < width → due ≡ bit (dueOf r a) b) where
       not-due : not due ≡ true → gives r (refused 25) ≡ within r a (write r a b)
-      not-due f = sym (within-in r a _ h ∙ write-not-due r a b (sym (known h) ∙ at) (sym (waits h) ∙ free) (rw (is-set h) at (sym is-due ∙ not-true due f)))
+      not-due f = sym (within-in r a _ h ∙ write-not-due r a b (sym (known h) ∙ at) (sym (waits h) ∙ free) (sym (is-due h) ∙ not-true due f))
 
-      module _ (t : not due ≡ false) (again : Bool) (before : ℕ) (is-before : a < width → before ≡ writtenOf r a) (is-again : again ≡ bit before b) where
+      module _ (t : not due ≡ false) (again : Bool) (is-again : a < width → again ≡ bit (writtenOf r a) b) where
         already : again ≡ true → gives r (refused 25) ≡ within r a (write r a b)
-        already u = sym (within-in r a _ h ∙ write-again r a b (sym (known h) ∙ at) (sym (waits h) ∙ free) (rw (is-set h) at (sym is-due ∙ not-false due t)) (rw (is-before h) at (sym is-again ∙ u)))
+        already u = sym (within-in r a _ h ∙ write-again r a b (sym (known h) ∙ at) (sym (waits h) ∙ free) (sym (is-due h) ∙ not-false due t) (sym (is-again h) ∙ u))
 
-        writes : (after : ℕ) (written : List ℕ) → again ≡ false → after ≡ added width before b → (a < width → written ≡ set (r .written) a after) → gives (withTables r (r .waiting) (r .states) written) ok ≡ within r a (write r a b)
-        writes after written u e k = rw (k h, e, is-before h) (sym (within-in r a _ h ∙ write-ok r a b (sym (known h) ∙ at) (sym (waits h) ∙ free) (rw (is-set h) at (sym is-due ∙ not-false due t)) (rw (is-before h) at (sym is-again ∙ u))))
+        writes : (written : List ℕ) → again ≡ false → (a < width → written ≡ set (r .written) a (added width (writtenOf r a) b)) → gives (withTables r (r .waiting) (r .states) written) ok ≡ within r a (write r a b)
+        writes written u e = rw (e h) (sym (within-in r a _ h ∙ write-ok r a b (sym (known h) ∙ at) (sym (waits h) ∙ free) (sym (is-due h) ∙ not-false due t) (sym (is-again h) ∙ u)))
 
 returns : tie.Need-returns
 returns c = λ (x : Record). sym (search within-out)
@@ -53,35 +53,26 @@ entry-requires c κs = search needs
 returns-3 : tie.Need-returns-3
 returns-3 c = λ (x : Record). waiting _ _ _ _ (search needs) (c .before .before .before .state .ensures) (c .before .before .if2 .left) _ (c .before .entry .ensures) (c .if3 .taken)
 
-entry-requires-2 : tie.Need-entry-requires-2
-entry-requires-2 c κs = search needs
-
-member-requires : tie.Need-member-requires
-member-requires c κs = search needs
+is-member-requires : tie.Need-is-member-requires
+is-member-requires c κs = search needs
 
 returns-4 : tie.Need-returns-4
 returns-4 c = λ (x : Record). search not-due
 
-entry-requires-3 : tie.Need-entry-requires-3
-entry-requires-3 c κs = search needs
-
-member-requires-2 : tie.Need-member-requires-2
-member-requires-2 c κs = search needs
+is-member-requires-2 : tie.Need-is-member-requires-2
+is-member-requires-2 c κs = search needs
 
 returns-5 : tie.Need-returns-5
 returns-5 c =
-    let a = c .before .before .before .before .before .before .before .before .before .before .before .before .args in
+    let a = c .before .before .before .before .before .before .before .before .before .before .args in
     λ (x : Record). search (already (over x (x .n) (now (a .waiting)) (x .telling) (now (a .due)) (now (a .states)) (now (a .written))) (a .i) (a .d))
 
-add-requires : tie.Need-add-requires
-add-requires c κs = search needs
-
-set-entry-requires : tie.Need-set-entry-requires
-set-entry-requires c κs = search needs
+add-member-requires : tie.Need-add-member-requires
+add-member-requires c κs = search needs
 
 returns-6 : tie.Need-returns-6
 returns-6 c =
-    let a = c .before .before .before .before .before .before .before .before .before .before .before .before .before .before .before .args in
+    let a = c .before .before .before .before .before .before .before .before .before .before .before .before .args in
     λ (x : Record). search (writes (over x (x .n) (now (a .waiting)) (x .telling) (now (a .due)) (now (a .states)) (now (a .written))) (a .i) (a .d))
 
 pub write-spec : {M : Type 1} → statement M
@@ -93,12 +84,9 @@ write-spec =
     returns-2
     entry-requires
     returns-3
-    entry-requires-2
-    member-requires
+    is-member-requires
     returns-4
-    entry-requires-3
-    member-requires-2
+    is-member-requires-2
     returns-5
-    add-requires
-    set-entry-requires
+    add-member-requires
     returns-6)
