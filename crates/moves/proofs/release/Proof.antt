@@ -3,6 +3,7 @@ use Prim.Native.Nat.{ℕ, _<_}
 use mathlib.Core.Path.{_≡_, sym, _∙_}
 use mathlib.Core.Logic.{_≢_}
 use mathlib.Core.List.{List}
+use native.Mathlib.Omega.{arith}
 use borrow.Author.Needs.{needs}
 use denote.Ref.{now}
 use lib.ListN.{set}
@@ -30,7 +31,7 @@ state-requires : tie.Need-state-requires
 state-requires c κs = search needs
 
 returns-2 : tie.Need-returns-2
-returns-2 c = λ (x : Record). not-holding _ _ _ (search needs) (c .before .state .ensures) (c .if2 .taken)
+returns-2 c = λ (x : Record). not-holding _ _ _ (search needs) (c .before .state .ensures) (λ e. absurd (omega arith))
 
 set-state-requires : tie.Need-set-state-requires
 set-state-requires c κs = search needs
