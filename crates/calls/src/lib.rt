@@ -1,17 +1,17 @@
 // A call over n and the tables per router that it reads and changes. Of a record's other fields it reads none, and it changes none of them.
 use area::limits::WIDTH;
 use area::refusal::Refusal;
-use kinds::deliver;
-use kinds::finish;
-use kinds::learn;
-use kinds::release;
-use kinds::write;
 use machine::Answer;
 use machine::DELIVER;
 use machine::DONE;
 use machine::LEARN;
 use machine::RELEASE;
 use machine::WRITE;
+use messages::deliver;
+use moves::finish;
+use moves::learn;
+use moves::release;
+use moves::write;
 ghost use mathlib.Core.Path.{_≡_};
 ghost use mathlib.Core.Bool.{true, false};
 ghost use Prim.Native.Nat.{ℕ, _<_};

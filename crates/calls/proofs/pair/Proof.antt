@@ -10,8 +10,8 @@ use Rattle.plan.specs.declared.Record.{Record}
 use Rattle.machine.specs.Answers.{Outcome}
 use Rattle.machine.specs.Machine.{over, write, deliver, readsB, callOf}
 use Rattle.machine.specs.StepLaws.{reads-true, call-write, call-deliver}
-use Rattle.kinds.specs.Within.{within}
-use Rattle.kinds.specs.WithinLaws.{within-in}
+use Rattle.tables.specs.Within.{within}
+use Rattle.tables.specs.WithinLaws.{within-in}
 use Rattle.calls.proofs.pair.Statement.{statement}
 use Rattle.calls.proofs.pair.Tie as tie
 

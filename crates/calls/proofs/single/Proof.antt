@@ -11,8 +11,8 @@ use Rattle.plan.specs.declared.Record.{Record}
 use Rattle.machine.specs.Answers.{Outcome}
 use Rattle.machine.specs.Machine.{over, learn, release, finish, isKind, readsB, callOf}
 use Rattle.machine.specs.StepLaws.{kind-range, reads-false, call-learn, call-release, call-finish}
-use Rattle.kinds.specs.Within.{within}
-use Rattle.kinds.specs.WithinLaws.{within-in}
+use Rattle.tables.specs.Within.{within}
+use Rattle.tables.specs.WithinLaws.{within-in}
 use Rattle.calls.proofs.single.Statement.{statement}
 use Rattle.calls.proofs.single.Tie as tie
 

@@ -5,7 +5,7 @@ use borrow.Author.Tests.{lt-ltb, le-ltb}
 use Rattle.area.specs.Limits.{width}
 use Rattle.plan.specs.declared.Record.{Record}
 use Rattle.machine.specs.Answers.{refused, Outcome, gives}
-use Rattle.kinds.specs.Within.{within}
+use Rattle.tables.specs.Within.{within}
 
 module _ (r : Record) (a : ℕ) (o : Outcome) where
   pub within-in : a < width → within r a o ≡ o

@@ -1,6 +1,4 @@
-// The five kinds of calls, over the tables per router that each reads and changes. A number that has no entry there is refused as an unknown router.
-mod tables;
-
+// The moves of one router, over the tables per router that each reads and changes. A number that has no entry there is refused as an unknown router.
 use area::limits::WIDTH;
 use area::refusal::Refusal;
 use machine::Answer;
@@ -8,19 +6,17 @@ use machine::DONE;
 use machine::HOLDING;
 use machine::IDLE;
 use machine::ONGOING;
-use sets::add;
-use sets::is_subset;
-use sets::member;
-use sets::remove;
+use tables::add_member;
 use tables::entry;
-use tables::set_entry;
+use tables::is_member;
+use tables::is_subset_at;
 use tables::set_state;
 use tables::state;
 ghost use mathlib.Core.Path.{_≡_};
 ghost use Rattle.plan.specs.declared.Record.{Record};
 ghost use Rattle.machine.specs.Answers.{replyOf, gives};
-ghost use Rattle.machine.specs.Machine.{over, learn, release, write, finish, listens, deliver};
-ghost use Rattle.kinds.specs.Within.{within};
+ghost use Rattle.machine.specs.Machine.{over, learn, release, write, finish};
+ghost use Rattle.tables.specs.Within.{within};
 
 // A router learns of the change.
 pub fn learn(states: &mut [u8; WIDTH], i: usize) -> Answer
@@ -72,15 +68,14 @@ pub fn write(
     if waits_for != 0 {
         return Answer::Refused(Refusal::Waiting);
     }
-    let is_due = member(entry(due, i), d);
+    let is_due = is_member(due, i, d);
     if !is_due {
         return Answer::Refused(Refusal::NotDue);
     }
-    let before = entry(written, i);
-    if member(before, d) {
+    if is_member(written, i, d) {
         return Answer::Refused(Refusal::NotDue);
     }
-    set_entry(written, i, add(before, d));
+    add_member(written, i, d);
     Answer::Ok
 }
 
@@ -105,53 +100,10 @@ pub fn finish(
     if unheard != 0 {
         return Answer::Refused(Refusal::Waiting);
     }
-    let all_written = is_subset(entry(due, i), entry(written, i));
+    let all_written = is_subset_at(due, written, i);
     if !all_written {
         return Answer::Refused(Refusal::Unwritten);
     }
     set_state(states, i, DONE);
     Answer::Ok
-}
-
-// The message that one router is done arrives at another.
-pub fn deliver(
-    waiting: &mut [u32; WIDTH],
-    telling: &[u32; WIDTH],
-    states: &[u8; WIDTH],
-    sender: usize,
-    receiver: usize,
-) -> Answer
-    ensures { λ r. ⌜ ((x : Record) → gives (over x (x .n) (now (waiting .exit)) (now (telling .entry)) (x .due) (now (states .entry)) (x .written)) (replyOf r) ≡ within (over x (x .n) (now (waiting .entry)) (now (telling .entry)) (x .due) (now (states .entry)) (x .written)) sender (deliver (over x (x .n) (now (waiting .entry)) (now (telling .entry)) (x .due) (now (states .entry)) (x .written)) sender receiver)) ⌝ }
-{
-    if sender >= WIDTH {
-        return Answer::Refused(Refusal::UnknownRouter);
-    }
-    let at = state(states, sender);
-    if at != DONE {
-        return Answer::Refused(Refusal::NotDone);
-    }
-    let tells = member(entry(telling, sender), receiver);
-    if !tells {
-        return Answer::Refused(Refusal::NotTold);
-    }
-    let waits_for = entry(waiting, receiver);
-    let heard = listens(state(states, receiver), waits_for, sender);
-    if !heard {
-        return Answer::Ignored;
-    }
-    set_entry(waiting, receiver, remove(waits_for, sender));
-    Answer::Ok
-}
-
-// Does a router in this state, with this waiting set, listen for the message of this sender?
-fn listens(at: u8, waiting: u32, sender: usize) -> bool
-    ensures { λ r. ⌜ r ≡ listens at waiting sender ⌝ }
-{
-    if at == HOLDING {
-        return member(waiting, sender);
-    }
-    if at == ONGOING {
-        return member(waiting, sender);
-    }
-    false
 }
