@@ -1,0 +1,2 @@
+-- What the choice of the next router promises.
+pub mod Nearest
