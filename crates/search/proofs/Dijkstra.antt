@@ -23,9 +23,9 @@ use Rattle.topology.specs.SumLaws.{Within}
 use Rattle.topology.specs.WalkLaws.{Graph, then, sum-then, links-then}
 use Rattle.topology.specs.DistanceLaws.{sum-bound, distance-le, distance-walk, distance-top, distance-self}
 use Rattle.topology.specs.NextHopLaws.{next-true, true-next, next-near, next-nearer, Over, direct, over, over-next, next-over}
-use Rattle.search.specs.Search.{Relaxed, no-link, linked}
 use Rattle.offers.specs.Offers.{firstHop}
 use Rattle.offers.specs.OfferLaws.{nearer, equal, farther}
+use Rattle.search.specs.Search.{Relaxed, no-link, linked}
 
 -- ---- how many routers below n are settled
 abbrev pub count : ℕ → ℕ → ℕ

@@ -16,7 +16,8 @@ use Rattle.topology.specs.Topology.{topology}
 use Rattle.topology.specs.Paths.{distanceCell, hopCell}
 use Rattle.topology.specs.TopologyLaws.{topology-graph}
 use Rattle.topology.specs.PathsLaws.{distance-in, distance-out, hops-in, hops-out}
-use Rattle.search.specs.Search.{Nearest, Relaxed}
+use Rattle.nearest.specs.Nearest.{Nearest}
+use Rattle.search.specs.Search.{Relaxed}
 use Rattle.search.proofs.Dijkstra.{Front, count, count-le, count-more, begin, small-bound, step, distances, nexts}
 
 -- d and h are the source's rows, and what they hold is a front

@@ -1,19 +1,9 @@
 -- How the search for one source goes on: what the contracts of the private functions cite. Nothing here is part of what the search promises.
-use Prim.Native.Nat.{ℕ, _+_, _<_, _≤_}
+use Prim.Native.Nat.{ℕ, _+_, _<_}
 use mathlib.Core.Path.{_≡_}
-use mathlib.Core.Bool.{false}
-use mathlib.Core.List.{List}
-use lib.ListN.{getD}
-use Rattle.area.specs.Limits.{unused, unreached}
-use Rattle.sets.specs.Sets.{bit}
+use Rattle.area.specs.Limits.{unused}
 use Rattle.offers.specs.Offers.{firstHop}
 use Rattle.offers.specs.OfferLaws.{Offered}
-
--- r is the nearest router that is reached and not in the set σ of those settled, or n where there is none; d holds the distances found so far
-pub record Nearest (n : ℕ) (d : List ℕ) (σ r : ℕ) : Type 0 where
-  pub within : r ≤ n
-  pub found : r < n → (bit σ r ≡ false) × (getD d r 0 < unreached)
-  pub first : (j : ℕ) → j < n → bit σ j ≡ false → getD d j 0 < unreached → (r < n) × (getD d r 0 ≤ getD d j 0)
 
 -- router j is at distance d with the next hops h; then the links from q are gone through, which is at distance `base` with the next hops `via`, and it has d′ and h′
 pub data Relaxed (g : ℕ → ℕ → ℕ) (s q base via j d h d′ h′ : ℕ) : Type 0 where

@@ -3,6 +3,7 @@ use area::limits::CELLS;
 use area::limits::UNREACHED;
 use area::limits::UNUSED;
 use area::limits::WIDTH;
+use nearest::nearest;
 use offers::first_hop;
 use offers::offer;
 ghost use mathlib.Core.Path.{_≡_};
@@ -13,7 +14,7 @@ ghost use Rattle.area.specs.Tables.{build};
 ghost use Rattle.topology.specs.Topology.{topology};
 ghost use Rattle.topology.specs.Paths.{distanceCell, hopCell};
 ghost use Rattle.search.specs.Rows.{areSizes, distanceRow, hopRow};
-ghost use Rattle.search.specs.Search.{Nearest, Relaxed};
+ghost use Rattle.search.specs.Search.{Relaxed};
 
 // The source's rows of distances and of next hops, or none where a size is wrong.
 pub fn search(n: usize, metric: &[u32], source: usize, dist: &mut [u32], hops: &mut [u32])
@@ -85,25 +86,6 @@ fn settle(n: usize, metric: &[u32], source: usize, dist: &mut [u32], hops: &mut 
         settled = sets::add(settled, q);
         relax(n, metric, source, q, dist, hops);
     }
-}
-
-// The nearest reached router that is not settled; n where there is none.
-fn nearest(n: usize, dist: &[u32], settled: u32) -> usize
-    requires { ⌜ (n ≤ width) × (length (now dist) ≡ width) ⌝ }
-    ensures { λ r. ⌜ Nearest n (now (dist .entry)) settled r ⌝ }
-{
-    let mut best = n;
-    let mut low = UNREACHED;
-    for k in 0..n {
-        let d = dist[k];
-        if d < low {
-            if !sets::member(settled, k) {
-                low = d;
-                best = k;
-            }
-        }
-    }
-    best
 }
 
 // Every router that has a link from the settled router q is offered the way by q.

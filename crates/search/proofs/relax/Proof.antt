@@ -8,11 +8,11 @@ use lib.ListN.{length}
 use denote.Ref.{now}
 use Rattle.topology.specs.Topology.{topology}
 use Rattle.topology.specs.TopologyLaws.{metric-link}
+use Rattle.offers.specs.OfferLaws.{offered, others}
 use Rattle.search.specs.Search.{Relaxed, no-link, linked}
 use Rattle.search.proofs.Sweep.{Swept, swept-none, swept-more, swept-same}
 use Rattle.search.proofs.relax.Statement.{statement}
 use Rattle.search.proofs.relax.Tie as tie
-use Rattle.offers.specs.OfferLaws.{offered, others}
 
 abbrev Inv-loop : tie.InvT-loop
 Inv-loop n metric source q dist₀ hops₀ base via j₀ dist hops j = (j ≤ n) × Swept (Relaxed (topology n metric) source q base via) dist₀ hops₀ dist hops j

@@ -21,7 +21,7 @@ abbrev start : tie.Else1 Inv-loop μ-loop → tie.Start Inv-loop μ-loop
 start e = e .before .before .before .before .before .before .before
 
 within : (e : tie.Else1 Inv-loop μ-loop) → e .before .nearest .result < start e .args .n
-within e = let l = e .if1 .left in let w = e .before .nearest .ensures .within in omega arith
+within e = let l = e .if1 .left in let w = e .before .nearest .ensures (omega arith) .within in omega arith
 
 mul-dist : tie.Need-mul-dist Inv-loop μ-loop
 mul-dist c = omega arith
@@ -47,7 +47,7 @@ returns : tie.Need-returns Inv-loop μ-loop
 returns c =
     let at = c .before .before .before in
     let a = at .before .before .before .before in
-    let near = c .before .nearest .ensures in
+    let near = c .before .nearest .ensures (omega arith) in
     let f = at .loop .inv in
     (S.distance-row (a .pre .0 .0) (a .pre .1 .0 .0) f near (c .if1 .taken), S.hop-row (a .pre .0 .0) (a .pre .1 .0 .0) f near (c .if1 .taken))
 
@@ -59,14 +59,14 @@ relax-requires c κs =
     let e = c .before .before .before in
     let a = start e in
     let f = e .before .before .before .loop .inv in
-    (a .pre .0, (within e, f .len, f .len-h, S.room (a .pre .0 .0) (a .pre .1 .0 .0) f (e .before .nearest .ensures) (within e)))
+    (a .pre .0, (within e, f .len, f .len-h, S.room (a .pre .0 .0) (a .pre .1 .0 .0) f (e .before .nearest .ensures (omega arith)) (within e)))
 
 loop-less : tie.Need-loop-less Inv-loop μ-loop
 loop-less c =
     let e = c .before .before .before .before .before .before .before .before in
     let a = start e in
     let f = e .before .before .before .loop .inv in
-    rw (c .before .before .before .before .before .before .before .add .ensures) (S.fewer (a .pre .0 .0) (a .pre .1 .0 .0) f (e .before .nearest .ensures) (within e))
+    rw (c .before .before .before .before .before .before .before .add .ensures) (S.fewer (a .pre .0 .0) (a .pre .1 .0 .0) f (e .before .nearest .ensures (omega arith)) (within e))
 
 loop-again : tie.Need-loop-again Inv-loop μ-loop
 loop-again c =
@@ -75,7 +75,7 @@ loop-again c =
     let f = e .before .before .before .loop .inv in
     let turn = c .before .before .before .before .relax in
     rw (c .before .before .before .before .before .before .before .add .ensures)
-    (S.more (a .pre .0 .0) (a .pre .1 .0 .0) f (e .before .nearest .ensures) (within e) (turn .kept .1 .1 .1 .1 .0 ∙ f .len) (turn .kept .1 .1 .1 .1 .1 .0 ∙ f .len-h) (λ j. c .slice-known4 .given j .fits) (turn .ensures))
+    (S.more (a .pre .0 .0) (a .pre .1 .0 .0) f (e .before .nearest .ensures (omega arith)) (within e) (turn .kept .1 .1 .1 .1 .0 ∙ f .len) (turn .kept .1 .1 .1 .1 .1 .0 ∙ f .len-h) (λ j. c .slice-known4 .given j .fits) (turn .ensures))
 
 pub settle-spec : {M : Type 1} → statement M
 settle-spec =

@@ -10,8 +10,8 @@ use borrow.Author.Tests.{not-true, not-false}
 use lib.ListN.{getD}
 use Rattle.area.specs.Limits.{unreached}
 use Rattle.sets.specs.Sets.{bit}
-use Rattle.search.proofs.nearest.Statement.{statement}
-use Rattle.search.proofs.nearest.Tie as tie
+use Rattle.nearest.proofs.nearest.Statement.{statement}
+use Rattle.nearest.proofs.nearest.Tie as tie
 
 -- of the routers below j: `low` is the least distance of one that is not settled, and `best` is that router
 record Seen (n : ℕ) (d : List ℕ) (σ : ℕ) (best low j : ℕ) : Type 0 where
@@ -38,6 +38,9 @@ Inv-loop n dist settled best₀ low₀ k₀ best low k = Seen n dist settled bes
 abbrev μ-loop : tie.MeasureT-loop
 μ-loop n dist settled best₀ low₀ k₀ best low k = n - k
 
+returns : tie.Need-returns Inv-loop μ-loop
+returns c = λ h. absurd (omega arith)
+
 loop-holds : tie.Need-loop-holds Inv-loop μ-loop
 loop-holds c = record { at = omega arith; cap = omega arith; first = below-none _; is = inl (refl, refl) }
 
@@ -63,12 +66,12 @@ loop-again c =
     ⊎-elim (λ w. rw (w .3, w .4) (takes _ _ _ _ _ _ s (omega arith) (sym (w .1 .ensures) ∙ not-true _ (w .2 .taken)) (omega arith)))
     (⊎-elim (λ w. rw (w .3, w .4) (skip _ _ _ _ _ _ s (omega arith) (λ f. absurd (false≢true (sym f ∙ sym (w .1 .ensures) ∙ not-false _ (w .2 .left))))))
     (λ w. rw (w .1, w .2) (skip _ _ _ _ _ _ s (omega arith) (λ f. omega arith))))
-    (c .if1 .came)
+    (c .if2 .came)
 
-returns : tie.Need-returns Inv-loop μ-loop
-returns c =
+returns-2 : tie.Need-returns-2 Inv-loop μ-loop
+returns-2 c =
     let s = c .before .loop .inv in
-    record {
+    λ h. record {
       within = ⊎-elim (λ w. omega arith) (λ w. omega arith) (s .is);
       found = λ l. ⊎-elim (λ w. absurd (let x : ⊥ = omega arith in x)) (λ w. (w .2, omega arith)) (s .is);
       first = λ j l f t. let x = s .first j (omega (arith, s .at)) f in ⊎-elim (λ w. absurd (let x : ⊥ = omega arith in x)) (λ w. omega arith) (s .is);
@@ -80,6 +83,7 @@ nearest-spec =
     (tie.spec
     Inv-loop
     μ-loop
+    returns
     loop-holds
     mul-d
     shared-slice-read-d
@@ -87,4 +91,4 @@ nearest-spec =
     add-k
     loop-less
     loop-again
-    returns)
+    returns-2)
