@@ -112,10 +112,7 @@ module _ (f m : List ℕ) where
         go (yes z) = ap (orThen (readRefusal f m)) (then-is z)
         go (no g) = then-some (readRefusal f m) then g ∙ sym (then-some (readRefusal f m) _ g)
 
-    -- Plan refuses what it is given exactly where the file is refused
-    plan-passed : refusal f m t ≡ 0 → then ≡ 0
-    plan-passed z = then-is (read-passed z) ∙ both z .1
-
+    -- where the file is refused, Plan refuses what it is given
     plan-refused : refusal f m t ≢ 0 → then ≢ 0
     plan-refused g e = go (ℕ-discrete (readRefusal f m) 0)
       where
