@@ -1,4 +1,5 @@
-# Builds the library, and the comparison over it. Sets `target`, `program` to the library's rehearsal and `compare` to the comparison.
+# Builds the library, and the comparison over it. Sets `target`, `program` to the library's rehearsal and `compare` to
+# the comparison.
 top=$(cd "$(dirname "$0")/.." && pwd -P)
 . "$top/bindings/build.sh"
 mkdir -p "$target/bench"

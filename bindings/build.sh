@@ -1,4 +1,5 @@
-# For scripts that set `top` to the repository's top: proves and builds the static library and the program `rehearse`, where that is not done yet, and sets `target` to the folder they are in.
+# For scripts that set `top` to the repository's top: proves and builds the static library and the program `rehearse`,
+# where that is not done yet, and sets `target` to the folder they are in.
 # OFIB_TARGET names another such folder, in which both are already.
 target=${OFIB_TARGET:-$top/target}
 # Where rustup puts rustc, which not every shell has on its PATH.

@@ -1,7 +1,7 @@
 -- The limits of 01, "The area and its paths".
 use Prim.Native.Nat.{ℕ, _*_, _-_}
 
--- An area has at most so many routers. A set has as many bits, and a table as many rows of as many cells: every other size below is this one.
+-- An area has at most so many routers. A set has as many bits, and a table as many rows of as many cells.
 abbrev pub width : ℕ
 width = 32
 

@@ -1,8 +1,10 @@
--- Laws of tables per router, once for every width w.
---     per-at, per-beyond, per-same     the entries of one, and when two are equal
---     zeros-at         the entries of a table of zeros
---     Filled w n f t   the entries of t before n are those of f, and the rest is 0
---     filled-none, filled-more, filled-all     it holds of zeros, of one entry more when that is written, and then t is the table of f
+-- Laws of tables per router, once for every width w. Two lists are equal where their entries are.
+--     per-length, per-at, per-beyond       the entries of a table
+--     is-per, per-same                     when a list is that table, and when two tables are equal
+--     zeros-at                             the entries of a table of zeros
+--     Filled w n f t                       the entries of t before n are those of f, and the rest is 0
+--     filled-none, filled-more             this holds of zeros, and of one entry more when that is written
+--     filled-all                           and then t is the table of f
 use Prim.Native.Nat.{ℕ, _+_, _≤_, _<_}
 use mathlib.Core.Path.{_≡_, refl, sym, _∙_}
 use mathlib.Core.List.{List}
@@ -36,16 +38,36 @@ module _ (w n : ℕ) (f : ℕ → ℕ) where
   per-beyond r a b = build-at w (λ r. pick (ltb r n) (f r) 0) r b ∙ entry-out r a
 
   -- a list of w entries is the table of f where each entry is f's
-  pub is-per : (t : List ℕ) → length t ≡ w → ((r : ℕ) → r < w → r < n → getD t r 0 ≡ f r) → ((r : ℕ) → r < w → n ≤ r → getD t r 0 ≡ 0) → t ≡ perRouter w n f
+  pub is-per :
+      (t : List ℕ)
+      → length t ≡ w
+      → ((r : ℕ) → r < w → r < n → getD t r 0 ≡ f r)
+      → ((r : ℕ) → r < w → n ≤ r → getD t r 0 ≡ 0)
+      → t ≡ perRouter w n f
   unfolding perRouter
-  is-per t e g h = is-build w (λ r. pick (ltb r n) (f r) 0) t e (λ r l. elim (decLt r n) [ yes a ↦ g r l a ∙ sym (entry-in r a) | no b ↦ h r l (omega arith) ∙ sym (entry-out r (omega arith)) ])
+  is-per t e g h =
+      is-build w (λ r. pick (ltb r n) (f r) 0) t e
+      (λ r l. elim (decLt r n) [
+        | yes a ↦ g r l a ∙ sym (entry-in r a)
+        | no b ↦ h r l (omega arith) ∙ sym (entry-out r (omega arith))
+      ])
 
-pub per-same : (w n : ℕ) (f g : ℕ → ℕ) → n ≤ w → ((r : ℕ) → r < n → f r ≡ g r) → perRouter w n f ≡ perRouter w n g
-per-same w n f g l e = is-per w n g (perRouter w n f) (per-length w n f) (λ r a b. per-at w n f r b l ∙ e r b) (λ r a b. per-beyond w n f r b a)
+pub per-same :
+    (w n : ℕ) (f g : ℕ → ℕ)
+    → n ≤ w
+    → ((r : ℕ) → r < n → f r ≡ g r)
+    → perRouter w n f ≡ perRouter w n g
+per-same w n f g l e =
+    is-per w n g (perRouter w n f) (per-length w n f)
+    (λ r a b. per-at w n f r b l ∙ e r b)
+    (λ r a b. per-beyond w n f r b a)
 
 -- ---- a table of zeros has no other entry, and none beyond its end
 pub zeros-at : (w r : ℕ) → getD {A = ℕ} (replicate w 0) r 0 ≡ 0
-zeros-at w r = elim (decLt r w) [ yes h ↦ getD-replicate w r 0 0 h | no f ↦ List·getD-eq-default (replicate {A = ℕ} w 0) 0 (omega (arith, length-replicate {A = ℕ} w 0)) ]
+zeros-at w r = elim (decLt r w) [
+  | yes h ↦ getD-replicate w r 0 0 h
+  | no f ↦ List·getD-eq-default (replicate {A = ℕ} w 0) 0 (omega (arith, length-replicate {A = ℕ} w 0))
+]
 
 -- ---- a loop that writes the entries from the first on
 pub record Filled (w n : ℕ) (f : ℕ → ℕ) (t : List ℕ) : Type 0 where
@@ -54,9 +76,18 @@ pub record Filled (w n : ℕ) (f : ℕ → ℕ) (t : List ℕ) : Type 0 where
   pub rest : (r : ℕ) → n ≤ r → r < w → getD t r 0 ≡ 0
 
 pub filled-none : (w : ℕ) (f : ℕ → ℕ) → Filled w 0 f (replicate w 0)
-filled-none w f = record { size = length-replicate w 0; done = front-none f (replicate w 0); rest = λ r a b. getD-replicate w r 0 0 b }
+filled-none w f = record {
+  size = length-replicate w 0;
+  done = front-none f (replicate w 0);
+  rest = λ r a b. getD-replicate w r 0 0 b;
+}
 
-pub filled-more : (w n : ℕ) (f : ℕ → ℕ) (t : List ℕ) (v : ℕ) → Filled w n f t → n < w → v ≡ f n → Filled w (n + 1) f (set t n v)
+pub filled-more :
+    (w n : ℕ) (f : ℕ → ℕ) (t : List ℕ) (v : ℕ)
+    → Filled w n f t
+    → n < w
+    → v ≡ f n
+    → Filled w (n + 1) f (set t n v)
 filled-more w n f t v i l e = record {
   size = simp length-set (i .size);
   done = front-more n f t v (i .done) (omega (arith, i .size)) e;

@@ -1,39 +1,49 @@
--- A refusal's number is never 0, and tells it from every other: an equation on an answer's number decides the answer.
---     refusal-positive, same-refusal, same-verdict
+-- An equation on an answer's number decides the answer: a refusal can be told from its number (`numbered`), and no
+-- refusal has the number 0, which is that of "accepted".
+--     refusal-positive     no refusal has the number 0
+--     same-refusal         refusals with the same number are the same
+--     same-verdict         and so are answers
 use Prim.Native.Nat.{ℕ, _≤_}
 use mathlib.Core.Path.{_≡_, refl, sym, ap, _∙_}
 use native.Mathlib.Omega.{arith}
 use lib.Dec.{eqb}
 use Rattle.area.specs.declared.refusal.Refusal.{Refusal}
-use Rattle.area.specs.declared.refusal.Refusal.the-variants.{Incomplete, Trailing, RouterCount, UnknownRouter, SelfLink, Metric, Repeated, TableSize, TooMany, NoChange, SameMetric, Mixed, NoCommonRouter, Record, Kind, State, Waiting, NotDue, Unwritten, NotDone, NotTold}
+use Rattle.area.specs.declared.refusal.Refusal.the-variants.{Incomplete, Trailing, RouterCount}
+use Rattle.area.specs.declared.refusal.Refusal.the-variants.{UnknownRouter, SelfLink, Metric, Repeated}
+use Rattle.area.specs.declared.refusal.Refusal.the-variants.{TableSize, TooMany, NoChange, SameMetric}
+use Rattle.area.specs.declared.refusal.Refusal.the-variants.{Mixed, NoCommonRouter, Record, Kind, State}
+use Rattle.area.specs.declared.refusal.Refusal.the-variants.{Waiting, NotDue, Unwritten, NotDone, NotTold}
 use Rattle.area.specs.declared.refusal.Verdict.{Verdict}
 use Rattle.area.specs.declared.refusal.Verdict.the-variants.{Accepted, Refused}
 use Rattle.area.specs.Tests.{pick}
 use Rattle.area.specs.Refusals.{refusalNumber, verdictNumber}
+use Rattle.area.specs.Refusals.{incomplete, trailing, routerCount, unknownRouter, selfLink, badMetric, repeated}
+use Rattle.area.specs.Refusals.{tableSize, tooMany, noChange, sameMetric, mixed, noCommonRouter, badRecord}
+use Rattle.area.specs.Refusals.{unknownKind, wrongState, stillWaiting, notDue, unwritten, notDone}
 
 -- the refusal of a number
 abbrev numbered : ℕ → Refusal
 numbered n =
-    pick (eqb n 1) Incomplete
-    (pick (eqb n 2) Trailing
-    (pick (eqb n 3) RouterCount
-    (pick (eqb n 4) UnknownRouter
-    (pick (eqb n 5) SelfLink
-    (pick (eqb n 6) Metric
-    (pick (eqb n 7) Repeated
-    (pick (eqb n 8) TableSize
-    (pick (eqb n 9) TooMany
-    (pick (eqb n 10) NoChange
-    (pick (eqb n 11) SameMetric
-    (pick (eqb n 12) Mixed
-    (pick (eqb n 13) NoCommonRouter
-    (pick (eqb n 20) Record
-    (pick (eqb n 21) Kind
-    (pick (eqb n 23) State
-    (pick (eqb n 24) Waiting
-    (pick (eqb n 25) NotDue
-    (pick (eqb n 26) Unwritten
-    (pick (eqb n 27) NotDone
+    pick (eqb n incomplete) Incomplete
+    (pick (eqb n trailing) Trailing
+    (pick (eqb n routerCount) RouterCount
+    (pick (eqb n unknownRouter) UnknownRouter
+    (pick (eqb n selfLink) SelfLink
+    (pick (eqb n badMetric) Metric
+    (pick (eqb n repeated) Repeated
+    (pick (eqb n tableSize) TableSize
+    (pick (eqb n tooMany) TooMany
+    (pick (eqb n noChange) NoChange
+    (pick (eqb n sameMetric) SameMetric
+    (pick (eqb n mixed) Mixed
+    (pick (eqb n noCommonRouter) NoCommonRouter
+    (pick (eqb n badRecord) Record
+    (pick (eqb n unknownKind) Kind
+    (pick (eqb n wrongState) State
+    (pick (eqb n stillWaiting) Waiting
+    (pick (eqb n notDue) NotDue
+    (pick (eqb n unwritten) Unwritten
+    (pick (eqb n notDone) NotDone
     NotTold)))))))))))))))))))
 
 of-number : (k : Refusal) → numbered (refusalNumber k) ≡ k

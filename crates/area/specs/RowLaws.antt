@@ -1,11 +1,14 @@
--- A table that is filled row by row, once for every width w: row r is lent, `&mut t[w * r..w * r + w]`, and comes back as ys.
---     lent-length      the part that is lent is a row long
---     Rows w f r t     the rows of t before row r are those of f
---     rows-none, rows-more, rows-all       it holds of no row, of one row more when that comes back as f's, and after the last row t is the table of f
+-- A table that is filled row by row, once for every width w: row r is lent, `&mut t[w * r..w * r + w]`, and comes back
+-- as ys. What is put back changes that row alone, so the rows before it stay.
+--     lentRow w r t, withRow w r t ys  the row that is lent, and the table with ys put back there
+--     lent-length                      what is lent is a row long
+--     Rows w f r t                     the rows of t before row r are those of f
+--     rows-none, rows-more             this holds of no row, and of one row more when that comes back as f's
+--     rows-all                         and after the last row t is the table of f
+use Prim.Native.Nat.{ℕ, _+_, _*_, _-_, _<_, _≤_}
 use mathlib.Core.Path.{_≡_, ap, _∙_, subst}
 use mathlib.Core.Logic.{⊎-elim}
 use mathlib.Core.List.{List, _++_}
-use Prim.Native.Nat.{ℕ, _+_, _*_, _-_, _<_, _≤_}
 use native.Mathlib.Omega.{arith}
 use native.Mathlib.Nat.{eq-or-lt-of-le}
 use lib.ListN.{length, getD, take, drop, length-take, length-drop, List·getD-append}
@@ -13,6 +16,13 @@ use lib.Seq.{getD-take, getD-append-add, length-take-le}
 use borrow.Rule.Slice.PartMut.{putMid, postOf, same-len-mid}
 use Rattle.area.specs.Tables.{build, cell, tabulate}
 use Rattle.area.specs.TableLaws.{build-at, rows-le, is-tabulate}
+
+-- Row r of t as it is lent, and t with ys put back there. The bounds are written as the code has them.
+abbrev pub lentRow : (w r : ℕ) (t : List ℕ) → List ℕ
+lentRow w r t = take (w * r + w - w * r) (drop (w * r) t)
+
+abbrev pub withRow : (w r : ℕ) (t ys : List ℕ) → List ℕ
+withRow w r t ys = putMid (w * r) (w * r + w - w * r) t ys
 
 -- ---- k elements of a list from place a on, lent and come back
 module _ (a k : ℕ) (xs : List ℕ) (fits : a + k ≤ length xs) where
@@ -24,11 +34,15 @@ module _ (a k : ℕ) (xs : List ℕ) (fits : a + k ≤ length xs) where
     front = length-take-le a xs (omega arith)
 
     put-before : (i : ℕ) → i < a → getD (putMid a k xs ys) i 0 ≡ getD xs i 0
-    put-before i l = List·getD-append (take a xs) (ys ++ postOf a k xs) 0 i (omega (arith, front)) ∙ getD-take a xs i 0 l
+    put-before i l =
+        List·getD-append (take a xs) (ys ++ postOf a k xs) 0 i (omega (arith, front))
+        ∙ getD-take a xs i 0 l
 
     put-in : (j : ℕ) → j < k → getD (putMid a k xs ys) (a + j) 0 ≡ getD ys j 0
     put-in j l =
-        subst (λ (n : ℕ). getD (putMid a k xs ys) (n + j) 0 ≡ getD (ys ++ postOf a k xs) j 0) front (getD-append-add (take a xs) (ys ++ postOf a k xs) j 0)
+        let tail : List ℕ = ys ++ postOf a k xs in
+        subst (λ (n : ℕ). getD (putMid a k xs ys) (n + j) 0 ≡ getD tail j 0) front
+        (getD-append-add (take a xs) tail j 0)
         ∙ List·getD-append ys (postOf a k xs) 0 j (omega arith)
 
 -- ---- row r of a table
@@ -36,21 +50,23 @@ module _ (w : ℕ) (t : List ℕ) (size : length t ≡ w * w) (r : ℕ) (within 
   fits : w * r + (w * r + w - w * r) ≤ length t
   fits = omega (arith, rows-le w r w within)
 
-  pub lent-length : length (take (w * r + w - w * r) (drop (w * r) t)) ≡ w
+  pub lent-length : length (lentRow w r t) ≡ w
   lent-length = part-length (w * r) (w * r + w - w * r) t fits ∙ omega arith
 
-  module _ (ys : List ℕ) (same : length ys ≡ length (take (w * r + w - w * r) (drop (w * r) t))) where
+  module _ (ys : List ℕ) (same : length ys ≡ length (lentRow w r t)) where
     row : length ys ≡ w * r + w - w * r
     row = same ∙ part-length (w * r) (w * r + w - w * r) t fits
 
-    back-length : length (putMid (w * r) (w * r + w - w * r) t ys) ≡ w * w
+    back-length : length (withRow w r t ys) ≡ w * w
     back-length = same-len-mid (w * r) (w * r + w - w * r) t ys same ∙ size
 
-    back-row : (j : ℕ) → j < w → cell w (putMid (w * r) (w * r + w - w * r) t ys) r j ≡ getD ys j 0
+    back-row : (j : ℕ) → j < w → cell w (withRow w r t ys) r j ≡ getD ys j 0
     back-row j l = put-in (w * r) (w * r + w - w * r) t fits ys row j (omega arith)
 
-    back-above : (i j : ℕ) → i < r → j < w → cell w (putMid (w * r) (w * r + w - w * r) t ys) i j ≡ cell w t i j
-    back-above i j b l = put-before (w * r) (w * r + w - w * r) t fits ys row (w * i + j) (omega (arith, rows-le w i r b))
+    back-above : (i j : ℕ) → i < r → j < w → cell w (withRow w r t ys) i j ≡ cell w t i j
+    back-above i j b l =
+        let above = rows-le w i r b in
+        put-before (w * r) (w * r + w - w * r) t fits ys row (w * i + j) (omega arith)
 
 -- ---- all rows, one after another
 pub record Rows (w : ℕ) (f : ℕ → ℕ → ℕ) (r : ℕ) (t : List ℕ) : Type 0 where
@@ -60,14 +76,28 @@ pub record Rows (w : ℕ) (f : ℕ → ℕ → ℕ) (r : ℕ) (t : List ℕ) : T
 pub rows-none : (w : ℕ) (f : ℕ → ℕ → ℕ) (t : List ℕ) → length t ≡ w * w → Rows w f 0 t
 rows-none w f t e = record { size = e; done = λ i j l h. absurd (let x : ⊥ = omega arith in x) }
 
-pub rows-more : (w : ℕ) (f : ℕ → ℕ → ℕ) (r : ℕ) (t : List ℕ) → Rows w f r t → r < w → (ys : List ℕ) → length ys ≡ length (take (w * r + w - w * r) (drop (w * r) t)) → ys ≡ build w (f r) → Rows w f (r + 1) (putMid (w * r) (w * r + w - w * r) t ys)
+pub rows-more :
+    (w : ℕ) (f : ℕ → ℕ → ℕ) (r : ℕ) (t : List ℕ)
+    → Rows w f r t
+    → r < w
+    → (ys : List ℕ)
+    → length ys ≡ length (lentRow w r t)
+    → ys ≡ build w (f r)
+    → Rows w f (r + 1) (withRow w r t ys)
 rows-more w f r t rows l ys same e = record {
   size = back-length w t (rows .size) r l ys same;
-  done = λ i j b h. ⊎-elim
-      (λ (q : i ≡ r). rw q (back-row w t (rows .size) r l ys same j h ∙ ap (λ (x : List ℕ). getD x j 0) e ∙ build-at w (f r) j h))
-      (λ (b : i < r). back-above w t (rows .size) r l ys same i j b h ∙ rows .done i j b h)
+  done = λ i j b h. ⊎-elim (λ (q : i ≡ r). rw q (last j h)) (λ (b : i < r). before i j b h)
       (eq-or-lt-of-le (let x : i ≤ r = omega arith in x));
 }
+  where
+    last : (j : ℕ) → j < w → cell w (withRow w r t ys) r j ≡ f r j
+    last j h =
+        back-row w t (rows .size) r l ys same j h
+        ∙ ap (λ (x : List ℕ). getD x j 0) e
+        ∙ build-at w (f r) j h
+
+    before : (i j : ℕ) → i < r → j < w → cell w (withRow w r t ys) i j ≡ f i j
+    before i j b h = back-above w t (rows .size) r l ys same i j b h ∙ rows .done i j b h
 
 pub rows-all : (w : ℕ) (f : ℕ → ℕ → ℕ) (t : List ℕ) → 0 < w → Rows w f w t → t ≡ tabulate w f
 rows-all w f t pos rows = is-tabulate w f t pos (rows .size) (rows .done)

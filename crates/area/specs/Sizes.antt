@@ -7,9 +7,9 @@ use lib.ListN.{length}
 use Rattle.area.specs.Limits.{width}
 
 -- An area has 1 to `width` routers.
-unfoldable pub isCount : ℕ → Bool
-isCount n = leb 1 n && leb n width
+unfoldable pub isRouterCount : (n : ℕ) → Bool
+isRouterCount n = leb 1 n && leb n width
 
 -- A table has `width` rows of `width` cells.
-unfoldable pub isTable : List ℕ → Bool
+unfoldable pub isTable : (t : List ℕ) → Bool
 isTable t = eqb (length t) (width * width)

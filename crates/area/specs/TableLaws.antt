@@ -1,12 +1,16 @@
--- Laws of tables, once for every width.
---     length-build, build-at, is-build         a list by its elements
---     Front, front-none, front-more                    a list that is written from its first element on
---     length-tabulate, cell-tabulate, is-tabulate, places-tabulate     a table by its cells, and by its places
+-- Laws of tables, once for every width w. The place of the cell (i, j) is w * i + j, and division by w gives i and j
+-- back: so a table is known by its cells.
+--     length-build, build-at, is-build     a list by its elements
+--     Front, front-none, front-more        a list that is written from its first element on
+--     rows-le, cell-in, row-of, column-of  the places of cells
+--     length-tabulate, cell-tabulate, is-tabulate, places-tabulate
+--                                          a table by its cells, and by its places
 use Prim.Native.Nat.{ℕ, zero, suc, _+_, _*_, _/_, _%_, _≤_, _<_}
 use mathlib.Core.Path.{_≡_, refl, sym, ap, ap₂, _∙_}
 use mathlib.Core.Logic.{⊎-elim}
 use mathlib.Core.List.{List}
-use native.Mathlib.Nat.{not-suc-le-zero, eq-or-lt-of-le, mul-le-mul-left, div-add-mod', div-lt-iff-lt-mul, mod-lt, add-mul-div-right, add-mul-mod-self-right, div-eq-of-lt, mod-eq-of-lt, mul-comm}
+use native.Mathlib.Nat.{not-suc-le-zero, eq-or-lt-of-le, mul-le-mul-left, mul-comm, div-add-mod', div-lt-iff-lt-mul}
+use native.Mathlib.Nat.{mod-lt, add-mul-div-right, add-mul-mod-self-right, div-eq-of-lt, mod-eq-of-lt}
 use native.Mathlib.Omega.{arith}
 use lib.ListN.{length, getD, set}
 use lib.Seq.{ext-getD, getD-set-same, getD-set-other}
@@ -23,23 +27,36 @@ build-at zero f k h = absurd (not-suc-le-zero h)
 build-at (suc n) f zero h = refl
 build-at (suc n) f (suc k) h = build-at n (λ x. f (suc x)) k (omega arith)
 
-pub is-build : (n : ℕ) (f : ℕ → ℕ) (l : List ℕ) → length l ≡ n → ((k : ℕ) → k < n → getD l k 0 ≡ f k) → l ≡ build n f
-is-build n f l e g = ext-getD 0 l (build n f) (e ∙ sym (length-build n f)) (λ k h. let x : k < n = omega arith in g k x ∙ sym (build-at n f k x))
+pub is-build :
+    (n : ℕ) (f : ℕ → ℕ) (l : List ℕ)
+    → length l ≡ n
+    → ((k : ℕ) → k < n → getD l k 0 ≡ f k)
+    → l ≡ build n f
+is-build n f l e g =
+    ext-getD 0 l (build n f) (e ∙ sym (length-build n f))
+    (λ k h. let x : k < n = omega arith in g k x ∙ sym (build-at n f k x))
 
 -- ---- a loop that writes the elements from the first on: those before k are f's
-abbrev pub Front : ℕ → (ℕ → ℕ) → List ℕ → Type 0
+abbrev pub Front : (k : ℕ) (f : ℕ → ℕ) (t : List ℕ) → Type 0
 Front k f t = (i : ℕ) → i < k → getD t i 0 ≡ f i
 
 pub front-none : (f : ℕ → ℕ) (t : List ℕ) → Front 0 f t
 front-none f t i h = absurd (not-suc-le-zero h)
 
-pub front-more : (k : ℕ) (f : ℕ → ℕ) (t : List ℕ) (v : ℕ) → Front k f t → k < length t → v ≡ f k → Front (k + 1) f (set t k v)
+pub front-more :
+    (k : ℕ) (f : ℕ → ℕ) (t : List ℕ) (v : ℕ)
+    → Front k f t
+    → k < length t
+    → v ≡ f k
+    → Front (k + 1) f (set t k v)
 front-more k f t v front l e i h =
-    ⊎-elim (λ (q : i ≡ k). rw q (getD-set-same t k v 0 l ∙ e)) (λ (b : i < k). getD-set-other t k i v 0 (λ q. let x : ⊥ = omega arith in x) ∙ front i b)
+    ⊎-elim
+    (λ (q : i ≡ k). rw q (getD-set-same t k v 0 l ∙ e))
+    (λ (b : i < k). getD-set-other t k i v 0 (λ q. let x : ⊥ = omega arith in x) ∙ front i b)
     (eq-or-lt-of-le (let x : i ≤ k = omega arith in x))
 
 -- ---- rows and columns
--- the rows before row i have w * i cells, so a cell of row i stands before row i + 1, and row i + 1 before the end
+-- the rows before row i have w * i cells, so row i ends before row r starts
 pub rows-le : (w i r : ℕ) → i < r → w * i + w ≤ w * r
 rows-le w i r h = omega (arith, mul-le-mul-left w h)
 
@@ -47,26 +64,47 @@ pub cell-in : (w i j : ℕ) → i < w → j < w → w * i + j < w * w
 cell-in w i j a b = omega (arith, rows-le w i w a)
 
 pub row-of : (w i j : ℕ) → j < w → (w * i + j) / w ≡ i
-row-of w i j h = ap (λ (x : ℕ). x / w) (omega (arith, mul-comm w i)) ∙ add-mul-div-right j i (omega arith) ∙ rw (div-eq-of-lt h) (omega arith)
+row-of w i j h =
+    ap (λ (x : ℕ). x / w) (omega (arith, mul-comm w i))
+    ∙ add-mul-div-right j i (omega arith)
+    ∙ rw (div-eq-of-lt h) (omega arith)
 
 pub column-of : (w i j : ℕ) → j < w → (w * i + j) % w ≡ j
-column-of w i j h = ap (λ (x : ℕ). x % w) (omega (arith, mul-comm w i)) ∙ add-mul-mod-self-right j i w ∙ mod-eq-of-lt h
+column-of w i j h =
+    ap (λ (x : ℕ). x % w) (omega (arith, mul-comm w i))
+    ∙ add-mul-mod-self-right j i w
+    ∙ mod-eq-of-lt h
 
 pub length-tabulate : (w : ℕ) (f : ℕ → ℕ → ℕ) → length (tabulate w f) ≡ w * w
 unfolding tabulate
 length-tabulate w f = length-build (w * w) (λ k. f (k / w) (k % w))
 
-pub cell-tabulate : (w : ℕ) (f : ℕ → ℕ → ℕ) (i j : ℕ) → i < w → j < w → cell w (tabulate w f) i j ≡ f i j
+pub cell-tabulate :
+    (w : ℕ) (f : ℕ → ℕ → ℕ) (i j : ℕ)
+    → i < w
+    → j < w
+    → cell w (tabulate w f) i j ≡ f i j
 unfolding tabulate
-cell-tabulate w f i j a b = build-at (w * w) (λ k. f (k / w) (k % w)) (w * i + j) (cell-in w i j a b) ∙ ap₂ f (row-of w i j b) (column-of w i j b)
+cell-tabulate w f i j a b =
+    build-at (w * w) (λ k. f (k / w) (k % w)) (w * i + j) (cell-in w i j a b)
+    ∙ ap₂ f (row-of w i j b) (column-of w i j b)
 
--- the same, place by place
-pub places-tabulate : (w : ℕ) (f : ℕ → ℕ → ℕ) (t : List ℕ) → length t ≡ w * w → Front (w * w) (λ k. f (k / w) (k % w)) t → t ≡ tabulate w f
+-- a list of w * w cells is the table of f where each place has what f gives
+pub places-tabulate :
+    (w : ℕ) (f : ℕ → ℕ → ℕ) (t : List ℕ)
+    → length t ≡ w * w
+    → Front (w * w) (λ k. f (k / w) (k % w)) t
+    → t ≡ tabulate w f
 unfolding tabulate
 places-tabulate w f t e g = is-build (w * w) (λ k. f (k / w) (k % w)) t e g
 
--- a list of w * w cells is the table of f where each cell is f's
-pub is-tabulate : (w : ℕ) (f : ℕ → ℕ → ℕ) (t : List ℕ) → 0 < w → length t ≡ w * w → ((i j : ℕ) → i < w → j < w → cell w t i j ≡ f i j) → t ≡ tabulate w f
+-- the same, cell by cell
+pub is-tabulate :
+    (w : ℕ) (f : ℕ → ℕ → ℕ) (t : List ℕ)
+    → 0 < w
+    → length t ≡ w * w
+    → ((i j : ℕ) → i < w → j < w → cell w t i j ≡ f i j)
+    → t ≡ tabulate w f
 is-tabulate w f t pos e g =
     places-tabulate w f t e
     (λ k h. ap (λ (x : ℕ). getD t x 0) (place k) ∙ g (k / w) (k % w) (div-lt-iff-lt-mul pos .1 h) (mod-lt k pos))

@@ -1,3 +1,7 @@
-// The vocabulary of the ordered FIB bench: limits and refusals. No routing in it.
+// The vocabulary of the ordered FIB bench, with no routing in it.
+//     limits       how many routers, changes and steps; the metric and the distance that stand for "none"
+//     refusal      why a call is refused, and the answer of a call
+// What 01 means by them is defined in specs/, and so are tests, tables and lists, which every layer shares: see the top
+// of specs/Lib.antt.
 pub mod limits;
 pub mod refusal;

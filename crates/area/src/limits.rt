@@ -24,7 +24,8 @@ pub const STEP: usize = 3;
 // Steps of a bench file.
 pub const MOST_STEPS: usize = 4096;
 
-// Bytes of the largest bench file: n, the three counts, and as many links, changes and steps as may be. Only programs use it, for their buffers, and no contract; report_test runs a file of this size.
+// Bytes of the largest bench file: n, the three counts, and as many links, changes and steps as may be. Only programs
+// use it, for their buffers, and no contract; report_test runs a file of this size.
 pub const LARGEST: usize = 6
     + ENTRY * WIDTH * (WIDTH - 1)
     + ENTRY * MOST_CHANGES

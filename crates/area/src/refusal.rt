@@ -1,50 +1,32 @@
-// Why a call is refused: a named case for each number of paper 01.
+// Why a call is refused: a named case for each number of paper 01. When each is given, specs/Refusals.antt says.
 ghost use mathlib.Core.Path.{_≡_};
 ghost use lib.Dec.{eqb};
 ghost use Rattle.area.specs.Refusals.{refusalNumber, verdictNumber};
 
 pub enum Refusal {
-    // 1: a file or a change list ends inside an entry.
+    // Of Paths, Plan and Read.
     Incomplete,
-    // 2: bytes follow the last section of a file.
     Trailing,
-    // 3: the number of routers is outside 1 to 32.
     RouterCount,
-    // 4: a router is not one of the area.
     UnknownRouter,
-    // 5: a link from a router to itself.
     SelfLink,
-    // 6: a metric is outside its range.
     Metric,
-    // 7: a pair of routers is listed twice.
     Repeated,
-    // 8: a table has not 1,024 cells.
     TableSize,
-    // 9: more entries than the format allows.
     TooMany,
-    // 10: an empty change list.
+    // Of Plan.
     NoChange,
-    // 11: a change to the metric that is already there.
     SameMetric,
-    // 12: metrics that rise together with metrics that fall.
     Mixed,
-    // 13: no router is an end of every change.
     NoCommonRouter,
-    // 20: a record with a number of routers or a state that is out of range.
+    // Of Step, which has UnknownRouter too.
     Record,
-    // 21: an unknown kind of step.
     Kind,
-    // 23: the router is not in the state that the step starts from.
     State,
-    // 24: the router still waits.
     Waiting,
-    // 25: the destination is not due, or already written.
     NotDue,
-    // 26: something due is not written.
     Unwritten,
-    // 27: the sender is not done.
     NotDone,
-    // 28: the sender does not tell the receiver.
     NotTold,
 }
 
@@ -57,7 +39,7 @@ pub enum Verdict {
 impl Refusal {
     // The paper's number.
     pub fn number(self) -> u8
-        ensures { λ r. ⌜ r ≡ refusalNumber self ⌝ }
+        ensures number { λ r. ⌜ r ≡ refusalNumber self ⌝ }
     {
         match self {
             Refusal::Incomplete => 1,
@@ -88,7 +70,7 @@ impl Refusal {
 impl Verdict {
     // The refusal's number, or 0 where the input was accepted.
     pub fn number(self) -> u8
-        ensures { λ r. ⌜ r ≡ verdictNumber self ⌝ }
+        ensures number { λ r. ⌜ r ≡ verdictNumber self ⌝ }
     {
         match self {
             Verdict::Accepted => 0,
@@ -98,7 +80,7 @@ impl Verdict {
 
     // Is the input accepted?
     pub fn is_accepted(self) -> bool
-        ensures { λ r. ⌜ r ≡ eqb (verdictNumber self) 0 ⌝ }
+        ensures answer { λ r. ⌜ r ≡ eqb (verdictNumber self) 0 ⌝ }
     {
         self.number() == 0
     }

@@ -1,4 +1,8 @@
 // Runs the functions on router sets, entries and refusals, and prints what they give.
+//     one_router    what a set says of a router, with it and without it
+//     two_sets      subsets and joined sets
+//     listed        the entries of a list
+//     refusals      the number of each refusal
 use area::refusal::Refusal;
 use area::refusal::Verdict;
 use cases::print;

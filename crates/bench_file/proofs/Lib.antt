@@ -1,2 +1,3 @@
--- What would make a function's proof too long.
+-- The arguments of the two loops over the links.
+pub mod Pairs
 pub mod Linking

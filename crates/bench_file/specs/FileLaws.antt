@@ -1,12 +1,16 @@
 -- Laws of Read, for its callers and its readers.
---     table-sized, file-passed, file-accepted       what is known where Read refuses nothing
---     link-cell, other-cell, cell-link     then the table holds the listed links, and nothing else
---     file-size, file-largest      the length of the file, by its counts, and at most
+--     table-sized, file-passed, file-accepted          what is known where Read refuses nothing
+--     link-cell, other-cell, cell-link                 then the table holds the listed links, and nothing else
+--     file-size, file-largest                          the length of the file, by its counts, and at most
 --     changes-length, steps-length, changes-count      the parts that Plan and Step get
 --     contents-n, contents-changes, contents-steps     what the file says of itself
---     nothing-n, nothing-changes       and what is handed back with a refusal
+--     no-contents-n, no-contents-changes               and what is handed back with a refusal
 --     long-refused     a file that is longer than the largest is refused
 --     first-bytes      the first bytes of a file, one more than the largest has, decide all that Read does
+--
+-- Why the first bytes decide: a file longer than `largest` is refused, and so is what is cut from it. Both have the
+-- same bytes up to `largest`; a count that is not refused leaves the next count below that place, so both go down the
+-- same ladder, and meet the same fault (same-first for the links, same-rest for what follows, same-refusal for all).
 use Prim.Native.Nat.{ℕ, _+_, _-_, _*_, _≤_, _<_}
 use mathlib.Core.Path.{_≡_, refl, sym, ap, ap₂, _∙_}
 use mathlib.Core.Bool.{true, false}
@@ -19,25 +23,38 @@ use lib.Seq.{length-take-le, take-all, getD-take, getD-drop}
 use Rattle.area.specs.Limits.{width, unused, mostChanges, mostSteps}
 use Rattle.area.specs.Tests.{first}
 use Rattle.area.specs.TestLaws.{look, first-same}
-use Rattle.area.specs.Sizes.{isCount}
-use Rattle.area.specs.SizeLaws.{count-most}
+use Rattle.area.specs.Sizes.{isRouterCount}
+use Rattle.area.specs.SizeLaws.{router-count-most}
 use Rattle.area.specs.Tables.{cell}
 use Rattle.area.specs.TableLaws.{cell-tabulate}
-use Rattle.entries.specs.Entries.{count, entryOf, from, to, metric, isOf, listed}
-use Rattle.entries.specs.EntryLaws.{count-is, count-least, entry-same, listed-same, given-none, given-cases, given-at}
-use Rattle.sections.specs.Sections.{two, routers, linkCount, links, changeCountAt, changeCount, changesAt, changes, stepCountAt, stepCount, stepsAt, steps, largest}
-use Rattle.sections.specs.Faults.{mostLinks, linkRefusal, restRefusal, fileRefusal}
-use Rattle.sections.specs.FaultLaws.{most-links-is, pairs-most, Accepted, accepted-of, link-whole, rest-many-changes, rest-many-steps, rest-more, file-count, file-many, file-link, file-rest}
-use Rattle.bench_file.specs.Read.{readRefusal, contents, nothing, contentsOf, linked, metricsOf}
-use Rattle.bench_file.specs.ReadLaws.{read-size, read-file, contents-refused, metrics-kept, metrics-refused, metrics-accepted}
+use Rattle.entries.specs.Entries.{entryCount, entryOf, from, to, metric, isForPair, listedMetric}
+use Rattle.entries.specs.EntryLaws.{entry-count-is, entry-count-least, entry-same, listed-same}
+use Rattle.entries.specs.EntryLaws.{given-none, given-cases, given-at}
+use Rattle.bench_file.specs.Sections.{two, routers, linkCount, links, changeCountAt, changeCount, changesAt}
+use Rattle.bench_file.specs.Sections.{changes, stepCountAt, stepCount, stepsAt, steps, largest}
+use Rattle.bench_file.specs.Faults.{mostLinks, linkRefusal, linksRefusal, restRefusal, fileRefusal}
+use Rattle.bench_file.specs.FaultLaws.{most-links-is, pairs-most, Accepted, accepted-of, link-whole}
+use Rattle.bench_file.specs.FaultLaws.{rest-many-changes, rest-many-steps, rest-more}
+use Rattle.bench_file.specs.FaultLaws.{file-count, file-many, file-link, file-rest}
+use Rattle.bench_file.specs.Read.{readRefusal, contents, noContents, contentsOf, linked, metricsOf}
+use Rattle.bench_file.specs.ReadLaws.{read-size, read-file, contents-refused}
+use Rattle.bench_file.specs.ReadLaws.{metrics-kept, metrics-refused, metrics-accepted}
 
 -- ---- the largest file
 -- so many links there are at most, where their count is not refused
-links-most : (f : List ℕ) → isCount (routers f) ≡ true → linkCount f ≤ mostLinks (routers f) → linkCount f ≤ width * (width - 1)
-links-most f a b = let most = pairs-most (routers f) (count-most (routers f) a) in omega (arith, most-links-is (routers f))
+links-most :
+    (f : List ℕ)
+    → isRouterCount (routers f) ≡ true
+    → linkCount f ≤ mostLinks (routers f)
+    → linkCount f ≤ width * (width - 1)
+links-most f a b =
+    let most = pairs-most (routers f) (router-count-most (routers f) a) in
+    omega (arith, most-links-is (routers f))
 
 pub accepted-largest : (f : List ℕ) → Accepted f → length f ≤ largest
-accepted-largest f good = omega (arith, good .size, good .most-changes, good .most-steps, links-most f (good .routers-in) (good .most-links))
+accepted-largest f good =
+    let few-links = links-most f (good .routers-in) (good .most-links) in
+    omega (arith, good .size, good .most-changes, good .most-steps, few-links)
 
 -- ---- a file that Read does not refuse
 module _ (f t : List ℕ) (z : readRefusal f t ≡ 0) where
@@ -57,26 +74,51 @@ module _ (f t : List ℕ) (z : readRefusal f t ≡ 0) where
   file-accepted = accepted-of f file-passed
 
   -- the cells of the table
-  cells : (i j : ℕ) → i < width → j < width → cell width (metricsOf f t) i j ≡ listed (links f) (linkCount f) i j unused
+  cells :
+      (i j : ℕ)
+      → i < width
+      → j < width
+      → cell width (metricsOf f t) i j ≡ listedMetric (links f) (linkCount f) i j unused
   unfolding linked
   cells i j a b =
-      ap (λ (m : List ℕ). cell width m i j) (metrics-accepted f t table-sized file-passed) ∙ cell-tabulate width (λ i j. listed (links f) (linkCount f) i j unused) i j a b
+      ap (λ (m : List ℕ). cell width m i j) (metrics-accepted f t table-sized file-passed)
+      ∙ cell-tabulate width (λ i j. listedMetric (links f) (linkCount f) i j unused) i j a b
 
   -- The links that the file lists are what the table holds: the cell of each listed pair has the metric of its link,
-  pub link-cell : (e : ℕ) → e < linkCount f → cell width (metricsOf f t) (from (links f) e) (to (links f) e) ≡ metric (links f) e
+  pub link-cell :
+      (e : ℕ)
+      → e < linkCount f
+      → cell width (metricsOf f t) (from (links f) e) (to (links f) e) ≡ metric (links f) e
   link-cell e h =
-      let most = count-most (routers f) (file-accepted .routers-in) in
+      let most = router-count-most (routers f) (file-accepted .routers-in) in
       let l = file-accepted .each-link e h .entry in
-      cells (from (links f) e) (to (links f) e) (omega (arith, l .from-in)) (omega (arith, l .to-in)) ∙ given-at (links f) (linkCount f) unused (λ d b. file-accepted .each-link d b .new) e h
+      cells (from (links f) e) (to (links f) e) (omega (arith, l .from-in)) (omega (arith, l .to-in))
+      ∙ given-at (links f) (linkCount f) unused (λ d b. file-accepted .each-link d b .new) e h
 
   -- the cell of every other pair is unused,
-  pub other-cell : (i j : ℕ) → i < width → j < width → ((e : ℕ) → e < linkCount f → isOf (links f) e i j ≡ false) → cell width (metricsOf f t) i j ≡ unused
+  pub other-cell :
+      (i j : ℕ)
+      → i < width
+      → j < width
+      → ((e : ℕ) → e < linkCount f → isForPair (links f) e i j ≡ false)
+      → cell width (metricsOf f t) i j ≡ unused
   other-cell i j a b none = cells i j a b ∙ given-none (links f) (linkCount f) i j unused none
 
   -- and so each used cell is that of a listed link.
-  pub cell-link : (i j : ℕ) → i < width → j < width → cell width (metricsOf f t) i j ≢ unused → (e : ℕ) × (e < linkCount f) × (isOf (links f) e i j ≡ true) × (cell width (metricsOf f t) i j ≡ metric (links f) e)
+  pub cell-link :
+      (i j : ℕ)
+      → i < width
+      → j < width
+      → cell width (metricsOf f t) i j ≢ unused
+      → (e : ℕ)
+      × (e < linkCount f)
+      × (isForPair (links f) e i j ≡ true)
+      × (cell width (metricsOf f t) i j ≡ metric (links f) e)
   cell-link i j a b used =
-      ⊎-elim (λ c. (c .0, c .1, c .2, cells i j a b ∙ c .3)) (λ u. absurd (used (cells i j a b ∙ u))) (given-cases (links f) (linkCount f) i j unused)
+      ⊎-elim
+      (λ c. (c .0, c .1, c .2, cells i j a b ∙ c .3))
+      (λ u. absurd (used (cells i j a b ∙ u)))
+      (given-cases (links f) (linkCount f) i j unused)
 
   -- the length is what the counts say
   pub file-size : length f ≡ 6 + 5 * linkCount f + 5 * changeCount f + 3 * stepCount f
@@ -87,13 +129,17 @@ module _ (f t : List ℕ) (z : readRefusal f t ≡ 0) where
 
   -- The parts that Plan and Step get lie in the file: they are as long as their counts say.
   pub changes-length : length (changes f) ≡ 5 * changeCount f
-  changes-length = length-take-le (5 * changeCount f) (drop (changesAt f) f) (omega (arith, file-size, length-drop (changesAt f) f))
+  changes-length =
+      let room = length-drop (changesAt f) f in
+      length-take-le (5 * changeCount f) (drop (changesAt f) f) (omega (arith, file-size, room))
 
   pub steps-length : length (steps f) ≡ 3 * stepCount f
-  steps-length = length-take-le (3 * stepCount f) (drop (stepsAt f) f) (omega (arith, file-size, length-drop (stepsAt f) f))
+  steps-length =
+      let room = length-drop (stepsAt f) f in
+      length-take-le (3 * stepCount f) (drop (stepsAt f) f) (omega (arith, file-size, room))
 
-  pub changes-count : count (changes f) ≡ changeCount f
-  changes-count = count-is (changes f) (changeCount f) changes-length
+  pub changes-count : entryCount (changes f) ≡ changeCount f
+  changes-count = entry-count-is (changes f) (changeCount f) changes-length
 
 -- ---- what an accepted file says of itself
 module _ (f : List ℕ) where
@@ -101,140 +147,177 @@ module _ (f : List ℕ) where
   unfolding contents
   contents-n = refl
 
-  pub contents-changes : (contents f .changes .at ≡ changesAt f) × (contents f .changes .count ≡ changeCount f)
+  pub contents-changes :
+      (contents f .changes .at ≡ changesAt f)
+      × (contents f .changes .count ≡ changeCount f)
   unfolding contents
   contents-changes = (refl, refl)
 
-  pub contents-steps : (contents f .steps .at ≡ stepsAt f) × (contents f .steps .count ≡ stepCount f)
+  pub contents-steps :
+      (contents f .steps .at ≡ stepsAt f)
+      × (contents f .steps .count ≡ stepCount f)
   unfolding contents
   contents-steps = (refl, refl)
 
 -- what is handed back with a refusal
-pub nothing-n : nothing .n ≡ 0
-unfolding nothing
-nothing-n = refl
+pub no-contents-n : noContents .n ≡ 0
+unfolding noContents
+no-contents-n = refl
 
-pub nothing-changes : (nothing .changes .at ≡ 0) × (nothing .changes .count ≡ 0)
-unfolding nothing
-nothing-changes = (refl, refl)
+pub no-contents-changes : (noContents .changes .at ≡ 0) × (noContents .changes .count ≡ 0)
+unfolding noContents
+no-contents-changes = (refl, refl)
 
 -- ---- a file that is longer than the largest
 pub long-refused : (f : List ℕ) → largest < length f → fileRefusal f ≢ 0
 long-refused f long z = let most = accepted-largest f (accepted-of f z) in let x : ⊥ = omega arith in x
 
 -- Read does the same with both files
-abbrev Alike : List ℕ → List ℕ → List ℕ → Type 0
-Alike f g t = (readRefusal f t ≡ readRefusal g t) × (contentsOf f t ≡ contentsOf g t) × (metricsOf f t ≡ metricsOf g t)
+abbrev pub Alike : (f g t : List ℕ) → Type 0
+Alike f g t =
+    (readRefusal f t ≡ readRefusal g t)
+    × (contentsOf f t ≡ contentsOf g t)
+    × (metricsOf f t ≡ metricsOf g t)
 
 -- two such files, with the same bytes at every place up to `largest`
-module _ (f g : List ℕ) (long-f : largest < length f) (long-g : largest < length g) (same : (i : ℕ) → i ≤ largest → getD f i 0 ≡ getD g i 0) where
-  same-two : (i : ℕ) → i < largest → two f i ≡ two g i
-  same-two i h = ap₂ (λ (x y : ℕ). 256 * x + y) (same i (omega arith)) (same (i + 1) (omega arith))
+module _
+    (f g : List ℕ)
+    (long-f : largest < length f)
+    (long-g : largest < length g)
+    (same : (i : ℕ) → i ≤ largest → getD f i 0 ≡ getD g i 0)
+  where
+    same-two : (i : ℕ) → i < largest → two f i ≡ two g i
+    same-two i h = ap₂ (λ (x y : ℕ). 256 * x + y) (same i (omega arith)) (same (i + 1) (omega arith))
 
-  same-routers : routers f ≡ routers g
-  same-routers = same 0 (omega arith)
+    same-routers : routers f ≡ routers g
+    same-routers = same 0 (omega arith)
 
-  same-count : linkCount f ≡ linkCount g
-  same-count = same-two 1 (omega arith)
+    same-count : linkCount f ≡ linkCount g
+    same-count = same-two 1 (omega arith)
 
-  -- the links and what follows them, where the count of the links is not refused
-  module _ (most : linkCount f ≤ width * (width - 1)) where
-    whole : (l : List ℕ) → largest < length l → (e : ℕ) → e < linkCount f → e < count (links l)
-    whole l long e h = let all = count-least (links l) (linkCount f) (omega (arith, length-drop 3 l)) in omega arith
+    -- the links and what follows them, where the count of the links is not refused
+    module _ (most : linkCount f ≤ width * (width - 1)) where
+      whole : (l : List ℕ) → largest < length l → (e : ℕ) → e < linkCount f → e < entryCount (links l)
+      whole l long e h =
+          let all = entry-count-least (links l) (linkCount f) (omega (arith, length-drop 3 l)) in
+          omega arith
 
-    same-entry : (e : ℕ) → e < linkCount f → entryOf (links f) e ≡ entryOf (links g) e
-    same-entry e h =
-        entry-same (links f) (links g) e (whole f long-f e h) (whole g long-g e h)
-        (λ i b. getD-drop 3 f i 0 ∙ same (3 + i) (omega arith) ∙ sym (getD-drop 3 g i 0))
+      same-entry : (e : ℕ) → e < linkCount f → entryOf (links f) e ≡ entryOf (links g) e
+      same-entry e h =
+          entry-same (links f) (links g) e (whole f long-f e h) (whole g long-g e h)
+          (λ i b. getD-drop 3 f i 0 ∙ same (3 + i) (omega arith) ∙ sym (getD-drop 3 g i 0))
 
-    same-link : (e : ℕ) → e < linkCount f → linkRefusal (routers f) (links f) e ≡ linkRefusal (routers g) (links g) e
-    same-link e h =
-        link-whole (routers f) (links f) e (whole f long-f e h)
-        ∙ listed-same (routers f) (links f) (links g) e (λ d b. same-entry d (omega arith))
-        ∙ sym (link-whole (routers f) (links g) e (whole g long-g e h))
-        ∙ ap (λ (n : ℕ). linkRefusal n (links g) e) same-routers
+      same-link :
+          (e : ℕ)
+          → e < linkCount f
+          → linkRefusal (routers f) (links f) e ≡ linkRefusal (routers g) (links g) e
+      same-link e h =
+          link-whole (routers f) (links f) e (whole f long-f e h)
+          ∙ listed-same (routers f) (links f) (links g) e (λ d b. same-entry d (omega arith))
+          ∙ sym (link-whole (routers f) (links g) e (whole g long-g e h))
+          ∙ ap (λ (n : ℕ). linkRefusal n (links g) e) same-routers
 
-    same-first : first (linkCount f) (linkRefusal (routers f) (links f)) ≡ first (linkCount g) (linkRefusal (routers g) (links g))
-    same-first =
-        first-same (linkCount f) (linkRefusal (routers f) (links f)) (linkRefusal (routers g) (links g)) same-link
-        ∙ ap (λ (k : ℕ). first k (linkRefusal (routers g) (links g))) same-count
+      same-first : linksRefusal f ≡ linksRefusal g
+      same-first =
+          first-same (linkCount f) (linkRefusal (routers f) (links f)) (linkRefusal (routers g) (links g)) same-link
+          ∙ ap (λ (k : ℕ). first k (linkRefusal (routers g) (links g))) same-count
 
-    same-changes : changeCount f ≡ changeCount g
-    same-changes = same (changeCountAt f) (omega arith) ∙ ap (λ (k : ℕ). getD g (3 + 5 * k) 0) same-count
+      same-changes : changeCount f ≡ changeCount g
+      same-changes = same (changeCountAt f) (omega arith) ∙ ap (λ (k : ℕ). getD g (3 + 5 * k) 0) same-count
 
-    same-steps : changeCount f ≤ mostChanges → stepCount f ≡ stepCount g
-    same-steps b = same-two (stepCountAt f) (omega arith) ∙ ap (two g) (omega (arith, same-count, same-changes))
+      same-steps : changeCount f ≤ mostChanges → stepCount f ≡ stepCount g
+      same-steps b = same-two (stepCountAt f) (omega arith) ∙ ap (two g) (omega (arith, same-count, same-changes))
 
-    same-rest : restRefusal f ≡ restRefusal g
-    same-rest = by-tests same-count same-changes (decLt mostChanges (changeCount f)) (decLt mostSteps (stepCount f))
-      where
-        by-tests : linkCount f ≡ linkCount g → changeCount f ≡ changeCount g → Dec (mostChanges < changeCount f) → Dec (mostSteps < stepCount f) → restRefusal f ≡ restRefusal g
-        by-tests k x (yes b) d = rest-many-changes f (omega arith) b ∙ sym (rest-many-changes g (omega arith) (omega arith))
-        by-tests k x (no b) (yes d) =
-            let y = same-steps (omega arith) in
-            rest-many-steps f (omega arith) (omega arith) (omega arith) d ∙ sym (rest-many-steps g (omega arith) (omega arith) (omega arith) (omega arith))
-        by-tests k x (no b) (no d) =
-            let y = same-steps (omega arith) in
-            rest-more f (omega arith) (omega arith) (omega arith) (omega arith) (omega arith) (omega arith)
-            ∙ sym (rest-more g (omega arith) (omega arith) (omega arith) (omega arith) (omega arith) (omega arith))
-
-  same-refusal : fileRefusal f ≡ fileRefusal g
-  same-refusal = by-tests (look (isCount (routers f))) (decLt (mostLinks (routers f)) (linkCount f))
-    where
-      same-range : isCount (routers g) ≡ isCount (routers f)
-      same-range = ap isCount (sym same-routers)
-
-      same-pairs : mostLinks (routers f) ≡ mostLinks (routers g)
-      same-pairs = ap mostLinks same-routers
-
-      by-tests : (isCount (routers f) ≡ true) ⊎ (isCount (routers f) ≡ false) → Dec (mostLinks (routers f) < linkCount f) → fileRefusal f ≡ fileRefusal g
-      by-tests (inr b) d = file-count f (omega arith) b ∙ sym (file-count g (omega arith) (same-range ∙ b))
-      by-tests (inl b) (yes d) =
-          file-many f (omega arith) b (omega arith) d ∙ sym (file-many g (omega arith) (same-range ∙ b) (omega arith) (omega (arith, same-pairs, same-count)))
-      by-tests (inl b) (no d) = by-links (ℕ-discrete (first (linkCount f) (linkRefusal (routers f) (links f))) 0)
+      same-rest : restRefusal f ≡ restRefusal g
+      same-rest = by-tests same-count same-changes (decLt mostChanges (changeCount f)) (decLt mostSteps (stepCount f))
         where
-          few-f : linkCount f ≤ mostLinks (routers f)
-          few-f = omega arith
+          by-tests :
+              linkCount f ≡ linkCount g
+              → changeCount f ≡ changeCount g
+              → Dec (mostChanges < changeCount f)
+              → Dec (mostSteps < stepCount f)
+              → restRefusal f ≡ restRefusal g
+          by-tests k x (yes b) d =
+              rest-many-changes f (omega arith) b
+              ∙ sym (rest-many-changes g (omega arith) (omega arith))
+          by-tests k x (no b) (yes d) =
+              let y = same-steps (omega arith) in
+              rest-many-steps f (omega arith) (omega arith) (omega arith) d
+              ∙ sym (rest-many-steps g (omega arith) (omega arith) (omega arith) (omega arith))
+          by-tests k x (no b) (no d) =
+              let y = same-steps (omega arith) in
+              rest-more f (omega arith) (omega arith) (omega arith) (omega arith) (omega arith) (omega arith)
+              ∙ sym (rest-more g (omega arith) (omega arith) (omega arith) (omega arith) (omega arith) (omega arith))
 
-          few-g : linkCount g ≤ mostLinks (routers g)
-          few-g = omega (arith, same-pairs, same-count)
+    same-refusal : fileRefusal f ≡ fileRefusal g
+    same-refusal = by-tests (look (isRouterCount (routers f))) (decLt (mostLinks (routers f)) (linkCount f))
+      where
+        same-range : isRouterCount (routers g) ≡ isRouterCount (routers f)
+        same-range = ap isRouterCount (sym same-routers)
 
-          most : linkCount f ≤ width * (width - 1)
-          most = links-most f b few-f
+        same-pairs : mostLinks (routers f) ≡ mostLinks (routers g)
+        same-pairs = ap mostLinks same-routers
 
-          by-links : Dec (first (linkCount f) (linkRefusal (routers f) (links f)) ≡ 0) → fileRefusal f ≡ fileRefusal g
-          by-links (yes e) =
-              file-rest f (omega arith) b (omega arith) few-f e
-              ∙ same-rest most
-              ∙ sym (file-rest g (omega arith) (same-range ∙ b) (omega arith) few-g (sym (same-first most) ∙ e))
-          by-links (no e) =
-              file-link f (omega arith) b (omega arith) few-f e
-              ∙ same-first most
-              ∙ sym (file-link g (omega arith) (same-range ∙ b) (omega arith) few-g (λ z. e (same-first most ∙ z)))
+        by-tests :
+            (isRouterCount (routers f) ≡ true) ⊎ (isRouterCount (routers f) ≡ false)
+            → Dec (mostLinks (routers f) < linkCount f)
+            → fileRefusal f ≡ fileRefusal g
+        by-tests (inr b) d = file-count f (omega arith) b ∙ sym (file-count g (omega arith) (same-range ∙ b))
+        by-tests (inl b) (yes d) =
+            let many-g : mostLinks (routers g) < linkCount g = omega (arith, same-pairs, same-count) in
+            file-many f (omega arith) b (omega arith) d
+            ∙ sym (file-many g (omega arith) (same-range ∙ b) (omega arith) many-g)
+        by-tests (inl b) (no d) = by-links (ℕ-discrete (linksRefusal f) 0)
+          where
+            few-f : linkCount f ≤ mostLinks (routers f)
+            few-f = omega arith
 
-  same-read : (t : List ℕ) → Alike f g t
-  same-read t = by-size (ℕ-discrete (length t) (width * width))
-    where
-      same-contents : readRefusal f t ≢ 0 → readRefusal f t ≡ readRefusal g t → contentsOf f t ≡ contentsOf g t
-      same-contents bad r = contents-refused f t bad ∙ sym (contents-refused g t (λ z. bad (r ∙ z)))
+            few-g : linkCount g ≤ mostLinks (routers g)
+            few-g = omega (arith, same-pairs, same-count)
 
-      by-size : Dec (length t ≡ width * width) → Alike f g t
-      by-size (yes a) =
-          let r = read-file f t a ∙ same-refusal ∙ sym (read-file g t a) in
-          (r, same-contents (λ z. long-refused f long-f (sym (read-file f t a) ∙ z)) r, metrics-refused f t a (long-refused f long-f) ∙ sym (metrics-refused g t a (long-refused g long-g)))
-      by-size (no a) =
-          let size = read-size f t a in
-          let r = size ∙ sym (read-size g t a) in
-          (r, same-contents (λ z. let x : ⊥ = omega arith in x) r, metrics-kept f t a ∙ sym (metrics-kept g t a))
+            most : linkCount f ≤ width * (width - 1)
+            most = links-most f b few-f
+
+            by-links : Dec (linksRefusal f ≡ 0) → fileRefusal f ≡ fileRefusal g
+            by-links (yes e) =
+                file-rest f (omega arith) b (omega arith) few-f e
+                ∙ same-rest most
+                ∙ sym (file-rest g (omega arith) (same-range ∙ b) (omega arith) few-g (sym (same-first most) ∙ e))
+            by-links (no e) =
+                file-link f (omega arith) b (omega arith) few-f e
+                ∙ same-first most
+                ∙ sym (file-link g (omega arith) (same-range ∙ b) (omega arith) few-g (λ z. e (same-first most ∙ z)))
+
+    same-read : (t : List ℕ) → Alike f g t
+    same-read t = by-size (ℕ-discrete (length t) (width * width))
+      where
+        same-contents : readRefusal f t ≢ 0 → readRefusal f t ≡ readRefusal g t → contentsOf f t ≡ contentsOf g t
+        same-contents bad r = contents-refused f t bad ∙ sym (contents-refused g t (λ z. bad (r ∙ z)))
+
+        by-size : Dec (length t ≡ width * width) → Alike f g t
+        by-size (yes a) =
+            let r = read-file f t a ∙ same-refusal ∙ sym (read-file g t a) in
+            let bad = long-refused f long-f in (
+              r,
+              same-contents (λ z. bad (sym (read-file f t a) ∙ z)) r,
+              metrics-refused f t a bad ∙ sym (metrics-refused g t a (long-refused g long-g)),
+            )
+        by-size (no a) =
+            let size = read-size f t a in
+            let r = size ∙ sym (read-size g t a) in
+            (r, same-contents (λ z. let x : ⊥ = omega arith in x) r, metrics-kept f t a ∙ sym (metrics-kept g t a))
 
 -- So the first bytes of an input are enough, if they are more than the largest file has.
-pub first-bytes : (f t : List ℕ) (k : ℕ) → largest < k → (readRefusal (take k f) t ≡ readRefusal f t) × (contentsOf (take k f) t ≡ contentsOf f t) × (metricsOf (take k f) t ≡ metricsOf f t)
+pub first-bytes : (f t : List ℕ) (k : ℕ) → largest < k → Alike (take k f) f t
 first-bytes f t k more = by-length (decLt k (length f))
   where
     by-length : Dec (k < length f) → Alike (take k f) f t
     by-length (no a) =
-        let all = take-all k f (omega arith) in
-        (ap (λ (l : List ℕ). readRefusal l t) all, ap (λ (l : List ℕ). contentsOf l t) all, ap (λ (l : List ℕ). metricsOf l t) all)
+        let all = take-all k f (omega arith) in (
+          ap (λ (l : List ℕ). readRefusal l t) all,
+          ap (λ (l : List ℕ). contentsOf l t) all,
+          ap (λ (l : List ℕ). metricsOf l t) all,
+        )
     by-length (yes a) =
         let size = length-take-le k f (omega arith) in
         same-read (take k f) f (omega arith) (omega arith) (λ i h. getD-take k f i 0 (omega arith)) t

@@ -1,22 +1,24 @@
--- Read (01, "The bench file"): its answer, what it says of the file, and what the metric table holds when it returns, for every file f and every table t.
+-- Read (01, "The bench file"), for every file f and every table t: its answer, what it says of the file, and what the
+-- metric table holds when it returns.
 use Prim.Native.Nat.{ℕ}
 use mathlib.Core.List.{List, []}
 use lib.Dec.{eqb}
 use Rattle.area.specs.Limits.{width, unused}
+use Rattle.area.specs.Refusals.{tableSize}
 use Rattle.area.specs.Tests.{pick}
 use Rattle.area.specs.Sizes.{isTable}
 use Rattle.area.specs.Tables.{tabulate}
-use Rattle.entries.specs.Entries.{listed}
-use Rattle.sections.specs.Sections.{routers, linkCount, links, changeCount, changesAt, stepCount, stepsAt}
-use Rattle.sections.specs.Faults.{fileRefusal}
+use Rattle.entries.specs.Entries.{listedMetric}
+use Rattle.bench_file.specs.Sections.{routers, linkCount, links, changeCount, changesAt, stepCount, stepsAt}
+use Rattle.bench_file.specs.Faults.{fileRefusal}
 use Rattle.bench_file.specs.declared.Contents.{Contents}
 
 -- the number of the answer: a table of the wrong size comes before every fault of the file
-unfoldable pub readRefusal : List ℕ → List ℕ → ℕ
-readRefusal f t = pick (isTable t) (fileRefusal f) 8
+unfoldable pub readRefusal : (f t : List ℕ) → ℕ
+readRefusal f t = pick (isTable t) (fileRefusal f) tableSize
 
 -- what an accepted file says of itself, and what is handed back with a refusal
-unfoldable pub contents : List ℕ → Contents
+unfoldable pub contents : (f : List ℕ) → Contents
 contents f =
     record {
       n = routers f;
@@ -25,16 +27,27 @@ contents f =
       steps = record { count = stepCount f; at = stepsAt f };
     }
 
-unfoldable pub nothing : Contents
-nothing = record { n = 0; links = 0; changes = record { count = 0; at = 0 }; steps = record { count = 0; at = 0 } }
+unfoldable pub noContents : Contents
+noContents =
+    record {
+      n = 0;
+      links = 0;
+      changes = record { count = 0; at = 0 };
+      steps = record { count = 0; at = 0 };
+    }
 
-unfoldable pub contentsOf : List ℕ → List ℕ → Contents
-contentsOf f t = pick (eqb (readRefusal f t) 0) (contents f) nothing
+unfoldable pub contentsOf : (f t : List ℕ) → Contents
+contentsOf f t = pick (eqb (readRefusal f t) 0) (contents f) noContents
 
 -- The metric table of the first k links of l: the cell of a pair that none of them lists is `unused`.
-unfoldable pub linked : List ℕ → ℕ → List ℕ
-linked l k = tabulate width (λ i j. listed l k i j unused)
+unfoldable pub linked : (l : List ℕ) (k : ℕ) → List ℕ
+linked l k = tabulate width (λ i j. listedMetric l k i j unused)
 
--- The table at exit: that of the links where the file is accepted, no link where it is refused, and as it was where its size is wrong.
-unfoldable pub metricsOf : List ℕ → List ℕ → List ℕ
-metricsOf f t = pick (isTable t) (pick (eqb (fileRefusal f) 0) (linked (links f) (linkCount f)) (linked [] 0)) t
+-- The table at exit: as it was where its size is wrong; and else that of the links where the file is accepted, and no
+-- link where it is refused.
+unfoldable pub metricsOf : (f t : List ℕ) → List ℕ
+metricsOf f t =
+    pick (isTable t)
+    (pick (eqb (fileRefusal f) 0) (linked (links f) (linkCount f))
+    (linked [] 0))
+    t

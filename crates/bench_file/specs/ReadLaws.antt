@@ -1,5 +1,10 @@
--- Laws of Read: those by which the code is proved.
---     read-size, .. metrics-accepted       what Read answers, hands back and leaves
+-- Laws of Read: those by which the code is proved. There are three cases, and in each of them the tests of the
+-- definitions compute.
+--     read-size, metrics-kept                  the table has the wrong size
+--     contents-refused, metrics-refused        the file is refused
+--     contents-accepted, metrics-accepted      it is accepted
+--     read-file                                a table of the right size leaves the answer to the file
+--     InTable                                  the links have their cells in the table
 use Prim.Native.Nat.{ℕ, _*_, _<_}
 use mathlib.Core.Path.{_≡_, refl}
 use mathlib.Core.Logic.{_≢_}
@@ -7,15 +12,15 @@ use mathlib.Core.List.{List, []}
 use lib.ListN.{length}
 use borrow.Author.Tests.{eq-eqb, ne-eqb}
 use Rattle.area.specs.Limits.{width}
+use Rattle.area.specs.Refusals.{tableSize}
 use Rattle.area.specs.SizeLaws.{table-true, table-false}
 use Rattle.entries.specs.Entries.{from, to}
-use Rattle.sections.specs.Sections.{linkCount, links}
-use Rattle.sections.specs.Faults.{fileRefusal}
-use Rattle.bench_file.specs.Read.{readRefusal, contents, nothing, contentsOf, linked, metricsOf}
+use Rattle.bench_file.specs.Sections.{linkCount, links}
+use Rattle.bench_file.specs.Faults.{fileRefusal}
+use Rattle.bench_file.specs.Read.{readRefusal, contents, noContents, contentsOf, linked, metricsOf}
 
--- ---- what Read answers, hands back and leaves
 module _ (f t : List ℕ) where
-  pub read-size : length t ≢ width * width → readRefusal f t ≡ 8
+  pub read-size : length t ≢ width * width → readRefusal f t ≡ tableSize
   unfolding readRefusal
   read-size a = rw (table-false t a) refl
 
@@ -23,7 +28,7 @@ module _ (f t : List ℕ) where
   unfolding readRefusal
   read-file a = rw (table-true t a) refl
 
-  pub contents-refused : readRefusal f t ≢ 0 → contentsOf f t ≡ nothing
+  pub contents-refused : readRefusal f t ≢ 0 → contentsOf f t ≡ noContents
   unfolding contentsOf
   contents-refused a = rw (ne-eqb (readRefusal f t) 0 a) refl
 
@@ -45,5 +50,5 @@ module _ (f t : List ℕ) where
     metrics-accepted b = rw (table-true t a, eq-eqb (fileRefusal f) 0 b) refl
 
 -- the ends of the first k links have a row and a column of a table
-abbrev pub InTable : List ℕ → ℕ → Type 0
+abbrev pub InTable : (l : List ℕ) (k : ℕ) → Type 0
 InTable l k = (e : ℕ) → e < k → (from l e < width) × (to l e < width)

@@ -1,18 +1,27 @@
-// The bench file: one area, one change and a list of steps, as bytes.
+// The bench file: one area, one change and a list of steps, as bytes. In the order in which a file goes through them:
+//     bytes        a byte, and two bytes, as a number
+//     faults       judge: the first fault in the order of the bytes
+//     metrics      clear and put: the metric table of the links
+//     read         Read: judges the file, fills the table, and says where changes and steps begin
+// Definitions, in reading order: specs/Sections.antt (what stands where), Faults.antt (the refusals), Read.antt (the
+// promise). What a caller may conclude from them is specs/FileLaws.antt; the loops' arguments are proofs/Pairs.antt
+// (repeated pairs) and proofs/Linking.antt (the table).
+mod bytes;
+mod faults;
 mod metrics;
 
 use area::limits::CELLS;
 use area::limits::ENTRY;
 use area::refusal::Refusal;
 use area::refusal::Verdict;
-use faults::byte;
+use bytes::byte;
+use bytes::two;
 use faults::judge;
-use faults::two;
 ghost use mathlib.Core.Path.{_≡_};
 ghost use lib.ListN.{length};
 ghost use Rattle.area.specs.Refusals.{verdictNumber};
-ghost use Rattle.sections.specs.Sections.{end};
-ghost use Rattle.bench_file.specs.Read.{readRefusal, contents, nothing, contentsOf, metricsOf};
+ghost use Rattle.bench_file.specs.Sections.{end};
+ghost use Rattle.bench_file.specs.Read.{readRefusal, contents, noContents, contentsOf, metricsOf};
 
 // How many entries or steps a section has, and the place of its first byte in the file.
 pub struct Section {
@@ -36,14 +45,20 @@ pub struct BenchFile {
 
 // Read: judges the file, and fills the metric table with its links.
 pub fn read(file: &[u8], table: &mut [u32]) -> BenchFile
-    ensures answer { λ r. ⌜ verdictNumber (r .answer) ≡ readRefusal (now (file .entry)) (now (table .entry)) ⌝ }
-    ensures contents { λ r. ⌜ r .contents ≡ contentsOf (now (file .entry)) (now (table .entry)) ⌝ }
-    ensures metrics { λ _. ⌜ now (table .exit) ≡ metricsOf (now (file .entry)) (now (table .entry)) ⌝ }
+    ensures answer { λ r. ⌜
+        verdictNumber (r .answer)
+        ≡ readRefusal (now (file .entry)) (now (table .entry)) ⌝ }
+    ensures contents { λ r. ⌜
+        r .contents
+        ≡ contentsOf (now (file .entry)) (now (table .entry)) ⌝ }
+    ensures metrics { λ _. ⌜
+        now (table .exit)
+        ≡ metricsOf (now (file .entry)) (now (table .entry)) ⌝ }
 {
     if table.len() != CELLS {
         return BenchFile {
             answer: Verdict::Refused(Refusal::TableSize),
-            contents: nothing(),
+            contents: no_contents(),
         };
     }
     metrics::clear(table);
@@ -51,7 +66,7 @@ pub fn read(file: &[u8], table: &mut [u32]) -> BenchFile
     if !answer.is_accepted() {
         return BenchFile {
             answer,
-            contents: nothing(),
+            contents: no_contents(),
         };
     }
     let contents = describe(file);
@@ -82,8 +97,9 @@ fn describe(file: &[u8]) -> Contents
     }
 }
 
-fn nothing() -> Contents
-    ensures { λ r. ⌜ r ≡ nothing ⌝ }
+// What is handed back with a refusal.
+fn no_contents() -> Contents
+    ensures { λ r. ⌜ r ≡ noContents ⌝ }
 {
     Contents {
         n: 0,

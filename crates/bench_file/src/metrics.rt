@@ -1,4 +1,6 @@
 // The metric table of a file's links.
+//     clear    no link is used
+//     put      then the links, one after another
 use area::limits::CELLS;
 use area::limits::UNUSED;
 use area::limits::WIDTH;
@@ -11,7 +13,6 @@ ghost use Rattle.area.specs.Limits.{width};
 ghost use Rattle.bench_file.specs.Read.{linked};
 ghost use Rattle.bench_file.specs.ReadLaws.{InTable};
 
-// No link is used.
 pub(crate) fn clear(table: &mut [u32])
     requires { ⌜ length (now table) ≡ width * width ⌝ }
     ensures { λ _. ⌜ now (table .exit) ≡ linked [] 0 ⌝ }
@@ -21,7 +22,7 @@ pub(crate) fn clear(table: &mut [u32])
     }
 }
 
-// Puts the first links of the list into a table in which no link is used.
+// `list` is the bytes from the first link on, and `links` their number.
 pub(crate) fn put(list: &[u8], links: usize, table: &mut [u32])
     requires { ⌜ now table ≡ linked [] 0 ⌝ }
     requires { ⌜ InTable (now list) links ⌝ }

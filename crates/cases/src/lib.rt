@@ -1,7 +1,15 @@
-// What the test programs share: reading a case from a line of text, filling the tables and lists that it names, and printing what a call gave.
-// A line is words, most of them a letter and numbers: `n3 0-1=7 c1>2=16777215`. The byte before a number is its mark.
+// What the test programs share: from the text of an input to a call, and from what a call gave to the output.
+//     lines      the lines of an input, and of a case its name and its words
+//     read       the numbers of a line, each with its mark, which is the byte before it
+//     metrics    the metric table that a line says
+//     lists      the change list that a line says
+//     compare    in how many cells two tables differ, and checksums
+//     print      texts and numbers
+// The words of a case are a letter and numbers, as n3, or a link or a change of one: 0-1=7, c1>2=16777215.
+// Nothing is promised but that each function is safe and ends, and that a place or a size is not above a bound.
 pub mod compare;
+pub mod lines;
 pub mod lists;
+pub mod metrics;
 pub mod print;
 pub mod read;
-pub mod tables;

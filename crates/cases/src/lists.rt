@@ -5,10 +5,15 @@ use crate::read::number;
 use crate::read::value;
 ghost use Prim.Native.Nat.{_<_, _≤_};
 
-// Puts the changes of a line at the start of the list, and gives how many bytes they have, or what b9 says. c0>1=7 gives the link from router 0 to router 1
-// the metric 7, and c0-1=7 first this link and then the other direction; H5=7 does so for all links of router 5; u61 takes back all changes but 61.
+// Puts the changes of a line at the start of the list, and gives how many bytes they have, by its words from left to
+// right:
+//     c0>1=7    the link from router 0 to router 1 gets the metric 7
+//     c0-1=7    first this link, and then the other direction
+//     H5=7      all links of router 5 in both directions, from the start of the list on
+//     u61       only the first 61 changes are left
+//     b9        only the first 9 bytes
 pub fn fill(list: &mut [u8; 320], line: &[u8]) -> usize
-    ensures { λ r. ⌜ r ≤ 320 ⌝ }
+    ensures at_most { λ r. ⌜ r ≤ 320 ⌝ }
 {
     let mut e = 0;
     for k in 0..MOST {

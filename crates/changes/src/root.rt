@@ -5,8 +5,8 @@ ghost use mathlib.Core.Path.{_≡_};
 ghost use Rattle.changes.specs.Root.{isCommon, root};
 
 // The far end of the first change where that is an end of every change, and else its near end.
-pub(crate) fn root(list: &[u8]) -> usize
-    ensures { λ r. ⌜ r ≡ root (now (list .entry)) ⌝ }
+pub fn root(list: &[u8]) -> usize
+    ensures answer { λ r. ⌜ r ≡ root (now (list .entry)) ⌝ }
 {
     let first = decode(list, 0);
     if is_common(list, first.to) {
@@ -17,8 +17,8 @@ pub(crate) fn root(list: &[u8]) -> usize
 }
 
 // Is router c an end of every change?
-pub(crate) fn is_common(list: &[u8], c: usize) -> bool
-    ensures { λ r. ⌜ r ≡ isCommon (now (list .entry)) c ⌝ }
+pub fn is_common(list: &[u8], c: usize) -> bool
+    ensures answer { λ r. ⌜ r ≡ isCommon (now (list .entry)) c ⌝ }
 {
     for e in 0..count(list) {
         let change = decode(list, e);

@@ -1,1 +1,1 @@
-// This crate has no code: its specs/ are the argument that the crate `loop_free` rests on.
+// This crate has no code: it is the argument that `loop_free` rests on. The way round is on top of specs/Lib.antt.

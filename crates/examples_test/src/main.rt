@@ -1,4 +1,10 @@
-// Prints the name of every example that standard input names, one in a line, and under it its rehearsal.
+// Prints the name of every example that standard input names, one in a line, and under it its rehearsal. What an
+// example says of its own rehearsal is held to this by the gate.
+//     run          the lines of the input
+//     open         the file of an example
+//     rehearse     from its hexadecimal to the text that is printed
+//     rehearsal    the rehearsal, in tables that hold nothing
+use cases::lines;
 use cases::print;
 use libc::STDIN_FILENO;
 ghost use mathlib.Core.Path.{_≡_};
@@ -8,20 +14,19 @@ ghost use lib.ListN.{length, take};
 fn main() {
     let mut input = [0u8; 4096];
     let length = io::read_full(STDIN_FILENO, &mut input);
-    examples(&input[..length]);
+    run(&input[..length]);
 }
 
-fn examples(names: &[u8]) {
-    let mut from = 0;
+fn run(names: &[u8]) {
     for at in 0..names.len() {
-        if names[at] == b'\n' {
-            example(&names[from..at]);
-            from = at + 1;
-        }
+        example(lines::line(names, at));
     }
 }
 
 fn example(name: &[u8]) {
+    if name.len() == 0 {
+        return;
+    }
     print::text(name);
     print::byte(b'\n');
     let fd = open(name);

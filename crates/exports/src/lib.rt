@@ -1,26 +1,41 @@
-// The bench for programs in C or Rust: each call under a plain name, with numbers, slices and arrays in place of structs and enums. A verdict is its number, 0 where nothing is refused. A record is lent field by field.
+// The bench for programs in C or Rust: each call under a plain name, with numbers, slices and arrays in place of
+// structs and enums. A refusal is its number, 0 where nothing is refused; a record is lent field by field.
+//     ofib_read                       Read: the file's metrics, and what it says of itself
+//     ofib_paths, ofib_plan           Paths and Plan
+//     ofib_step, ofib_run             one step, and all the steps of a list
+//     ofib_rehearse, ofib_routes      the texts that the programs print
+// Module `fields` takes a record from its fields and puts it back, and makes a number of a step's answer. Each function
+// promises what the call under it promises: the same definitions, over the numbers of specs/Fields.antt and
+// specs/Exports.antt. What the proofs have beside the contracts of those calls is proofs/Handing.antt.
+mod fields;
+
 use area::limits::WIDTH;
 use fields::hand_back;
-use fields::ran;
-use fields::step;
+use fields::record_from;
+use fields::reply_number;
 ghost use mathlib.Core.Path.{_≡_};
-ghost use Rattle.topology.specs.Paths.{refusalOf, distancesOf, hopsOf};
+ghost use Rattle.paths.specs.Paths.{pathsRefusal, distancesOf, hopsOf};
 ghost use Rattle.plan.specs.declared.Record.{Record};
-ghost use Rattle.plan.specs.Plan.{tables, areTables, planRefusal, recordOf, tablesOf};
+ghost use Rattle.plan.specs.Plan.{asTables, areTables, planRefusal, recordOf, tablesOf};
 ghost use Rattle.machine.specs.Machine.{over, stepOf};
 ghost use Rattle.machine.specs.Run.{run, callsOf};
 ghost use Rattle.bench_file.specs.Read.{readRefusal, contentsOf, metricsOf};
 ghost use Rattle.text.specs.Text.{Appended};
 ghost use Rattle.report.specs.Report.{rehearsal, routes};
-ghost use Rattle.fields.specs.Fields.{recordFrom, replyNumber};
+ghost use Rattle.exports.specs.Fields.{recordFrom, replyNumber};
 ghost use Rattle.exports.specs.Exports.{numbers};
 
-// Read. `contents` gets n, the number of links, the number of changes and where they begin, the number of steps and where they begin.
+// Read. `contents` gets n, the number of links, the number of changes and where they begin, the number of steps and
+// where they begin.
 #[no_mangle]
 pub extern "C" fn ofib_read(file: &[u8], table: &mut [u32], contents: &mut [usize; 6]) -> u8
     ensures answer { λ r. ⌜ r ≡ readRefusal (now (file .entry)) (now (table .entry)) ⌝ }
-    ensures contents { λ _. ⌜ now (contents .exit) ≡ numbers (contentsOf (now (file .entry)) (now (table .entry))) ⌝ }
-    ensures metrics { λ _. ⌜ now (table .exit) ≡ metricsOf (now (file .entry)) (now (table .entry)) ⌝ }
+    ensures contents { λ _. ⌜
+        now (contents .exit)
+        ≡ numbers (contentsOf (now (file .entry)) (now (table .entry))) ⌝ }
+    ensures metrics { λ _. ⌜
+        now (table .exit)
+        ≡ metricsOf (now (file .entry)) (now (table .entry)) ⌝ }
 {
     let found = bench_file::read(file, table);
     *contents = [
@@ -38,9 +53,14 @@ pub extern "C" fn ofib_read(file: &[u8], table: &mut [u32], contents: &mut [usiz
 // Paths.
 #[no_mangle]
 pub extern "C" fn ofib_paths(n: usize, metric: &[u32], dist: &mut [u32], hops: &mut [u32]) -> u8
-    ensures answer { λ r. ⌜ r ≡ refusalOf n (now (metric .entry)) (now (dist .entry)) (now (hops .entry)) ⌝ }
-    ensures distances { λ _. ⌜ now (dist .exit) ≡ distancesOf n (now (metric .entry)) (now (dist .entry)) (now (hops .entry)) ⌝ }
-    ensures hops { λ _. ⌜ now (hops .exit) ≡ hopsOf n (now (metric .entry)) (now (dist .entry)) (now (hops .entry)) ⌝ }
+    ensures answer { λ r. ⌜
+        r ≡ pathsRefusal n (now (metric .entry)) (now (dist .entry)) (now (hops .entry)) ⌝ }
+    ensures distances { λ _. ⌜
+        now (dist .exit)
+        ≡ distancesOf n (now (metric .entry)) (now (dist .entry)) (now (hops .entry)) ⌝ }
+    ensures hops { λ _. ⌜
+        now (hops .exit)
+        ≡ hopsOf n (now (metric .entry)) (now (dist .entry)) (now (hops .entry)) ⌝ }
 {
     let answer = paths::paths(n, metric, dist, hops);
     answer.number()
@@ -67,9 +87,23 @@ pub extern "C" fn ofib_plan(
     states: &mut [u8; WIDTH],
     written: &mut [u32; WIDTH],
 ) -> u8
-    ensures answer { λ r. ⌜ r ≡ planRefusal n (now (old .entry)) (now (list .entry)) (areTables (now (old .entry)) (tables (now (new .entry)) (now («old_dist» .entry)) (now («new_dist» .entry)) (now («old_hops» .entry)) (now («new_hops» .entry)))) ⌝ }
-    ensures record { λ _. ⌜ recordFrom (now (routers .exit)) (now (root .exit)) (now (direction .exit)) (now (ranks .exit)) (now (waiting .exit)) (now (telling .exit)) (now (due .exit)) (now (states .exit)) (now (written .exit)) ≡ recordOf n (now (old .entry)) (now (list .entry)) (tables (now (new .entry)) (now («old_dist» .entry)) (now («new_dist» .entry)) (now («old_hops» .entry)) (now («new_hops» .entry))) ⌝ }
-    ensures tables { λ _. ⌜ tables (now (new .exit)) (now («old_dist» .exit)) (now («new_dist» .exit)) (now («old_hops» .exit)) (now («new_hops» .exit)) ≡ tablesOf n (now (old .entry)) (now (list .entry)) (tables (now (new .entry)) (now («old_dist» .entry)) (now («new_dist» .entry)) (now («old_hops» .entry)) (now («new_hops» .entry))) ⌝ }
+    ensures answer { λ r.
+        let lent = asTables (now (new .entry))
+        (now («old_dist» .entry)) (now («new_dist» .entry)) (now («old_hops» .entry)) (now («new_hops» .entry)) in
+        ⌜ r ≡ planRefusal n (now (old .entry)) (now (list .entry)) (areTables (now (old .entry)) lent) ⌝ }
+    ensures record { λ _.
+        let lent = asTables (now (new .entry))
+        (now («old_dist» .entry)) (now («new_dist» .entry)) (now («old_hops» .entry)) (now («new_hops» .entry)) in
+        ⌜ recordFrom (now (routers .exit)) (now (root .exit)) (now (direction .exit))
+        (now (ranks .exit)) (now (waiting .exit)) (now (telling .exit)) (now (due .exit))
+        (now (states .exit)) (now (written .exit))
+        ≡ recordOf n (now (old .entry)) (now (list .entry)) lent ⌝ }
+    ensures tables { λ _.
+        let lent = asTables (now (new .entry))
+        (now («old_dist» .entry)) (now («new_dist» .entry)) (now («old_hops» .entry)) (now («new_hops» .entry)) in
+        ⌜ asTables (now (new .exit)) (now («old_dist» .exit)) (now («new_dist» .exit))
+        (now («old_hops» .exit)) (now («new_hops» .exit))
+        ≡ tablesOf n (now (old .entry)) (now (list .entry)) lent ⌝ }
 {
     let planned = plan::plan(n, old, list, new, old_dist, new_dist, old_hops, new_hops);
     hand_back(
@@ -88,7 +122,8 @@ pub extern "C" fn ofib_plan(
     answer.number()
 }
 
-// Step. n and five of the tables per router are all that it reads of a record, and three of these tables all that it changes. The answer is 0 for ok, 255 for ignored, and the number of a refusal.
+// Step. n and five of the tables per router are all that it reads of a record, and three of these tables all that it
+// changes. The answer is 0 for ok, 255 for ignored, and the number of a refusal.
 #[no_mangle]
 pub extern "C" fn ofib_step(
     n: u8,
@@ -101,10 +136,19 @@ pub extern "C" fn ofib_step(
     a: u8,
     b: u8,
 ) -> u8
-    ensures answer { λ r. ⌜ ((x : Record) → r ≡ replyNumber (stepOf (over x n (now (waiting .entry)) (now (telling .entry)) (now (due .entry)) (now (states .entry)) (now (written .entry))) kind a b .reply)) ⌝ }
-    ensures record { λ _. ⌜ ((x : Record) → over x n (now (waiting .exit)) (now (telling .entry)) (now (due .entry)) (now (states .exit)) (now (written .exit)) ≡ stepOf (over x n (now (waiting .entry)) (now (telling .entry)) (now (due .entry)) (now (states .entry)) (now (written .entry))) kind a b .next) ⌝ }
+    ensures answer { λ r. ⌜ ((x : Record) →
+        let before = over x n (now (waiting .entry)) (now (telling .entry)) (now (due .entry))
+        (now (states .entry)) (now (written .entry)) in
+        r ≡ replyNumber (stepOf before kind a b .reply)) ⌝ }
+    ensures record { λ _. ⌜ ((x : Record) →
+        let before = over x n (now (waiting .entry)) (now (telling .entry)) (now (due .entry))
+        (now (states .entry)) (now (written .entry)) in
+        over x n (now (waiting .exit)) (now (telling .entry)) (now (due .entry))
+        (now (states .exit)) (now (written .exit))
+        ≡ stepOf before kind a b .next) ⌝ }
 {
-    step(n, waiting, telling, due, states, written, kind, a, b)
+    let answer = steps::lent::step(n, waiting, telling, due, states, written, kind, a, b);
+    reply_number(answer)
 }
 
 // All the steps that the bytes stand for, three bytes each. The nine first places are the record, and get the last one.
@@ -121,9 +165,16 @@ pub extern "C" fn ofib_run(
     written: &mut [u32; WIDTH],
     bytes: &[u8],
 )
-    ensures { λ _. ⌜ recordFrom (now (routers .exit)) (now (root .exit)) (now (direction .exit)) (now (ranks .exit)) (now (waiting .exit)) (now (telling .exit)) (now (due .exit)) (now (states .exit)) (now (written .exit)) ≡ run (recordFrom (now (routers .entry)) (now (root .entry)) (now (direction .entry)) (now (ranks .entry)) (now (waiting .entry)) (now (telling .entry)) (now (due .entry)) (now (states .entry)) (now (written .entry))) (callsOf (now (bytes .entry))) ⌝ }
+    ensures record { λ _.
+        let first = recordFrom (now (routers .entry)) (now (root .entry)) (now (direction .entry))
+        (now (ranks .entry)) (now (waiting .entry)) (now (telling .entry)) (now (due .entry))
+        (now (states .entry)) (now (written .entry)) in
+        ⌜ recordFrom (now (routers .exit)) (now (root .exit)) (now (direction .exit))
+        (now (ranks .exit)) (now (waiting .exit)) (now (telling .exit)) (now (due .exit))
+        (now (states .exit)) (now (written .exit))
+        ≡ run first (callsOf (now (bytes .entry))) ⌝ }
 {
-    let last = ran(
+    let first = record_from(
         *routers,
         *root,
         *direction,
@@ -133,8 +184,8 @@ pub extern "C" fn ofib_run(
         due,
         states,
         written,
-        bytes,
     );
+    let last = steps::run(first, bytes);
     hand_back(
         last,
         routers,
@@ -161,7 +212,10 @@ pub extern "C" fn ofib_rehearse(
     new_hops: &mut [u32],
     out: &mut [u8],
 ) -> usize
-    ensures { λ r. ⌜ Appended (now (out .entry)) 0 (rehearsal (now (file .entry)) (now (old .entry)) (tables (now (new .entry)) (now («old_dist» .entry)) (now («new_dist» .entry)) (now («old_hops» .entry)) (now («new_hops» .entry)))) (now (out .exit)) r ⌝ }
+    ensures text { λ r.
+        let lent = asTables (now (new .entry))
+        (now («old_dist» .entry)) (now («new_dist» .entry)) (now («old_hops» .entry)) (now («new_hops» .entry)) in
+        ⌜ Appended (now (out .entry)) 0 (rehearsal (now (file .entry)) (now (old .entry)) lent) (now (out .exit)) r ⌝ }
 {
     report::rehearse(file, old, new, old_dist, new_dist, old_hops, new_hops, out)
 }
@@ -178,7 +232,10 @@ pub extern "C" fn ofib_routes(
     new_hops: &mut [u32],
     out: &mut [u8],
 ) -> usize
-    ensures { λ r. ⌜ Appended (now (out .entry)) 0 (routes (now (file .entry)) (now (old .entry)) (tables (now (new .entry)) (now («old_dist» .entry)) (now («new_dist» .entry)) (now («old_hops» .entry)) (now («new_hops» .entry)))) (now (out .exit)) r ⌝ }
+    ensures text { λ r.
+        let lent = asTables (now (new .entry))
+        (now («old_dist» .entry)) (now («new_dist» .entry)) (now («old_hops» .entry)) (now («new_hops» .entry)) in
+        ⌜ Appended (now (out .entry)) 0 (routes (now (file .entry)) (now (old .entry)) lent) (now (out .exit)) r ⌝ }
 {
     report::routes(file, old, new, old_dist, new_dist, old_hops, new_hops, out)
 }

@@ -1,5 +1,10 @@
 -- A text that is decoded up to a place.
---     Decoded t o p n at s     the buffer was o and is p; its first n bytes are what comes of the first `at` bytes of the text t, of which the last was read as s
+--     Decoded t o p n at s     the buffer was o and is p; its first n bytes are what comes of the first `at` bytes of
+--                              the text t, of which the last was read as s
+--     decoded-none                     nothing is read yet
+--     decoded-byte, decoded-quiet      the next byte of the text ends a byte, or it neither does nor is a fault
+--     decoded-bad, decoded-odd         it is the first fault: its line is all that is written
+--     decoded-all, decoded-lone        the text ends, and after a first digit that is a fault too
 use Prim.Native.Nat.{ℕ, _+_, _-_, _≤_, _<_}
 use mathlib.Core.Path.{_≡_, refl, sym, _∙_}
 use mathlib.Core.Logic.{⊎-elim}
@@ -14,12 +19,13 @@ use Rattle.text.specs.Text.{Appended, line}
 use Rattle.text.specs.TextLaws.{appended-none, appended-then, appended-anew}
 use Rattle.hex.specs.declared.Reading.{Reading}
 use Rattle.hex.specs.declared.Reading.the-variants.{Between, Comment, High, Byte, Bad, Odd}
-use Rattle.hex.specs.Hex.{digit, isSpace, first, second, next, byteOf, badDigit, oddDigit, unlessFault, decode, decoded}
+use Rattle.hex.specs.Hex.{digit, isSpace, first, second, next, byteOf, badDigit, oddDigit}
+use Rattle.hex.specs.Hex.{unlessFault, decode, decoded}
 use Rattle.hex.specs.ReadingLaws.{highHalf, first-not-odd, high-small}
 use Rattle.hex.proofs.Reading.{the-type}
 
 -- a reading that is no fault
-abbrev pub Fine : Reading → Type 0
+abbrev pub Fine : (s : Reading) → Type 0
 Fine s = (k : ℕ) (l : List ℕ) → unlessFault k s l ≡ l
 
 pub record Decoded (t o p : List ℕ) (n at : ℕ) (s : Reading) : Type 0 where
@@ -46,66 +52,101 @@ fine-byte : (r : Reading) (x : ℕ) → r ≡ Byte x → Fine r
 unfolding unlessFault
 fine-byte r x e k l = rw e refl
 
-fine-quiet : (r : Reading) → OneOf (0 ∷ 1 ∷ 2 ∷ []) (tagOf the-type r) → Fine r
+-- the tags of the others: no byte ends with them
+abbrev Quiet : (tag : ℕ) → Type 0
+Quiet tag = OneOf (0 ∷ 1 ∷ 2 ∷ []) tag
+
+loud : (tag : ℕ) → 2 < tag → Quiet tag → ⊥
+loud tag more h = ⊎-elim (λ e. omega arith) (⊎-elim (λ e. omega arith) (λ e. omega arith)) h
+
+fine-quiet : (r : Reading) → Quiet (tagOf the-type r) → Fine r
 unfolding unlessFault
 fine-quiet Between h k l = refl
 fine-quiet Comment h k l = refl
 fine-quiet (High x) h k l = refl
 fine-quiet (Byte x) h k l = refl
-fine-quiet Bad h k l = absurd (let x : ⊥ = ⊎-elim (λ e. omega arith) (λ g. ⊎-elim (λ e. omega arith) (λ e. omega arith) g) h in x)
-fine-quiet Odd h k l = absurd (let x : ⊥ = ⊎-elim (λ e. omega arith) (λ g. ⊎-elim (λ e. omega arith) (λ e. omega arith) g) h in x)
+fine-quiet Bad h k l = absurd (loud 4 (omega arith) h)
+fine-quiet Odd h k l = absurd (loud 5 (omega arith) h)
 
-no-byte : (r : Reading) → OneOf (0 ∷ 1 ∷ 2 ∷ []) (tagOf the-type r) → byteOf r ≡ []
+no-byte : (r : Reading) → Quiet (tagOf the-type r) → byteOf r ≡ []
 unfolding byteOf
 no-byte Between h = refl
 no-byte Comment h = refl
 no-byte (High x) h = refl
-no-byte (Byte x) h = absurd (let x : ⊥ = ⊎-elim (λ e. omega arith) (λ g. ⊎-elim (λ e. omega arith) (λ e. omega arith) g) h in x)
+no-byte (Byte x) h = absurd (loud 3 (omega arith) h)
 no-byte Bad h = refl
 no-byte Odd h = refl
 
 -- ---- the byte at place `at` is read as r
-module _ {t o p : List ℕ} {n at : ℕ} {s : Reading} (so-far : Decoded t o p n at s) (more : at < length t) (r : Reading) (is : r ≡ next s (getD t at 0)) where
-  byte-read : decoded t ≡ unlessFault at r (decode (so-far .done ++ byteOf r) (at + 1) r (drop (at + 1) t))
-  unfolding decode
-  byte-read = so-far .rest ∙ rw (drop-cons t at 0 more, add-one, is) refl
+module _
+    {t o p : List ℕ} {n at : ℕ} {s : Reading} (so-far : Decoded t o p n at s)
+    (more : at < length t) (r : Reading) (is : r ≡ next s (getD t at 0))
+  where
+    byte-read : decoded t ≡ unlessFault at r (decode (so-far .done ++ byteOf r) (at + 1) r (drop (at + 1) t))
+    unfolding decode
+    byte-read = so-far .rest ∙ rw (drop-cons t at 0 more, add-one, is) refl
 
-  decoded-more : {q : List ℕ} {m : ℕ} → Fine r → Appended p n (byteOf r) q m → Decoded t o q m (at + 1) r
-  decoded-more fine kept = record {
-    done = so-far .done ++ byteOf r;
-    rest = byte-read ∙ fine at (decode (so-far .done ++ byteOf r) (at + 1) r (drop (at + 1) t));
-    written = appended-then (so-far .written) kept;
-    small = rw is (high-small s (getD t at 0));
-    fine = fine;
-    started = λ b e. omega arith;
-  }
+    decoded-more : {q : List ℕ} {m : ℕ} → Fine r → Appended p n (byteOf r) q m → Decoded t o q m (at + 1) r
+    decoded-more fine kept = record {
+      done = so-far .done ++ byteOf r;
+      rest = byte-read ∙ fine at (decode (so-far .done ++ byteOf r) (at + 1) r (drop (at + 1) t));
+      written = appended-then (so-far .written) kept;
+      small = rw is (high-small s (getD t at 0));
+      fine = fine;
+      started = λ b e. omega arith;
+    }
 
-  pub decoded-byte : {q : List ℕ} {m : ℕ} (x : ℕ) → r ≡ Byte x → Appended p n (x ∷ []) q m → Decoded t o q m (at + 1) (Byte x)
-  unfolding byteOf
-  decoded-byte {q} {m} x e kept = let so : Decoded t o q m (at + 1) r = decoded-more (fine-byte r x e) (rw e kept) in rw e at so
+    pub decoded-byte :
+        {q : List ℕ} {m : ℕ} (x : ℕ)
+        → r ≡ Byte x
+        → Appended p n (x ∷ []) q m
+        → Decoded t o q m (at + 1) (Byte x)
+    unfolding byteOf
+    decoded-byte {q} {m} x e kept =
+        let so : Decoded t o q m (at + 1) r = decoded-more (fine-byte r x e) (rw e kept) in
+        rw e at so
 
-  pub decoded-quiet : OneOf (0 ∷ 1 ∷ 2 ∷ []) (tagOf the-type r) → Decoded t o p n (at + 1) r
-  decoded-quiet h = decoded-more (fine-quiet r h) (rw (no-byte r h) (appended-none p n (so-far .written .within)))
+    pub decoded-quiet : Quiet (tagOf the-type r) → Decoded t o p n (at + 1) r
+    decoded-quiet h = decoded-more (fine-quiet r h) (rw (no-byte r h) (appended-none p n (so-far .written .within)))
 
-  -- the first fault
-  pub decoded-bad : {q : List ℕ} {m : ℕ} → r ≡ Bad → Appended p 0 (line badDigit at) q m → Appended o 0 (decoded t) q m
-  unfolding unlessFault
-  decoded-bad e x = rw (byte-read, e) (appended-anew (so-far .written .size) x)
+    -- the first fault
+    pub decoded-bad :
+        {q : List ℕ} {m : ℕ}
+        → r ≡ Bad
+        → Appended p 0 (line badDigit at) q m
+        → Appended o 0 (decoded t) q m
+    unfolding unlessFault
+    decoded-bad e x = rw (byte-read, e) (appended-anew (so-far .written .size) x)
 
-  pub decoded-odd : {q : List ℕ} {m : ℕ} → r ≡ Odd → Appended p 0 (line oddDigit (at - 1)) q m → Appended o 0 (decoded t) q m
-  unfolding unlessFault
-  decoded-odd e x = rw (byte-read, e) (appended-anew (so-far .written .size) x)
+    pub decoded-odd :
+        {q : List ℕ} {m : ℕ}
+        → r ≡ Odd
+        → Appended p 0 (line oddDigit (at - 1)) q m
+        → Appended o 0 (decoded t) q m
+    unfolding unlessFault
+    decoded-odd e x = rw (byte-read, e) (appended-anew (so-far .written .size) x)
 
-  pub some-before : r ≡ Odd → 1 ≤ at
-  some-before e = so-far .started (getD t at 0) (sym is ∙ e)
+    pub some-before : r ≡ Odd → 1 ≤ at
+    some-before e = so-far .started (getD t at 0) (sym is ∙ e)
 
 -- ---- the end of the text, after s
-end-fine : (s : Reading) → Fine s → OneOf (0 ∷ 1 ∷ 3 ∷ 4 ∷ 5 ∷ []) (tagOf the-type s) → (k : ℕ) (l : List ℕ) → unlessFault k (next s 10) l ≡ l
+-- the tags of all readings but `High`
+abbrev Ended : (tag : ℕ) → Type 0
+Ended tag = OneOf (0 ∷ 1 ∷ 3 ∷ 4 ∷ 5 ∷ []) tag
+
+-- the tag of `High` is not among them
+not-ended : Ended 2 → ⊥
+not-ended h =
+    ⊎-elim
+    (λ e. omega arith)
+    (⊎-elim (λ e. omega arith) (⊎-elim (λ e. omega arith) (⊎-elim (λ e. omega arith) (λ e. omega arith))))
+    h
+
+end-fine : (s : Reading) → Fine s → Ended (tagOf the-type s) → (k : ℕ) (l : List ℕ) → unlessFault k (next s 10) l ≡ l
 unfolding unlessFault next first digit isSpace
 end-fine Between f h k l = refl
 end-fine Comment f h k l = refl
-end-fine (High x) f h k l =
-    absurd (let x : ⊥ = ⊎-elim (λ e. omega arith) (⊎-elim (λ e. omega arith) (⊎-elim (λ e. omega arith) (⊎-elim (λ e. omega arith) (λ e. omega arith)))) h in x)
+end-fine (High x) f h k l = absurd (not-ended h)
 end-fine (Byte x) f h k l = refl
 end-fine Bad f h k l = f k l
 end-fine Odd f h k l = f k l
@@ -115,7 +156,7 @@ module _ {t o p : List ℕ} {n at : ℕ} {s : Reading} (so-far : Decoded t o p n
   unfolding decode
   at-end = so-far .rest ∙ rw (drop-of-length-le t {i = at} (omega arith)) refl
 
-  pub decoded-all : OneOf (0 ∷ 1 ∷ 3 ∷ 4 ∷ 5 ∷ []) (tagOf the-type s) → Appended o 0 (decoded t) p n
+  pub decoded-all : Ended (tagOf the-type s) → Appended o 0 (decoded t) p n
   decoded-all h = rw (at-end, end-fine s (so-far .fine) h at (so-far .done)) (so-far .written)
 
   module _ (h : ℕ) (e : s ≡ High h) where
@@ -126,6 +167,9 @@ module _ {t o p : List ℕ} {n at : ℕ} {s : Reading} (so-far : Decoded t o p n
     pub some-text : 1 ≤ length t
     some-text = omega (arith, so-far .started 10 lone)
 
-    pub decoded-lone : {q : List ℕ} {m : ℕ} → Appended p 0 (line oddDigit (length t - 1)) q m → Appended o 0 (decoded t) q m
+    pub decoded-lone :
+        {q : List ℕ} {m : ℕ}
+        → Appended p 0 (line oddDigit (length t - 1)) q m
+        → Appended o 0 (decoded t) q m
     unfolding unlessFault
     decoded-lone x = rw (at-end, lone, ends) (appended-anew (so-far .written .size) x)

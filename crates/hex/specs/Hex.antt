@@ -1,4 +1,6 @@
--- A text in hexadecimal: pairs of digits, each pair a byte; white space between pairs; and comments, from `#` up to the end of the line. What a byte of the text is, by the bytes before it, is its reading: `Reading` is the enum of src/lib.rt.
+-- A text in hexadecimal: pairs of digits, each pair a byte; white space between pairs; and comments, from `#` up to the
+-- end of the line. What a byte of the text is, by the bytes before it, is its reading: `Reading` is the enum of
+-- src/lib.rt.
 use Prim.Native.Nat.{ℕ, _+_, _*_, _-_}
 use mathlib.Core.Bool.{Bool, cond, _&&_, _||_}
 use mathlib.Core.List.{List, [], _∷_, _++_}
@@ -13,11 +15,11 @@ abbrev pub most : ℕ
 most = 131072
 
 -- a byte from `low` up to `high`
-abbrev pub within : ℕ → ℕ → ℕ → Bool
+abbrev pub within : (low high b : ℕ) → Bool
 within low high b = leb low b && leb b high
 
 -- the value of a hexadecimal digit, `0` to `9`, `A` to `F` and `a` to `f`; 16 for every other byte
-unfoldable pub digit : ℕ → ℕ
+unfoldable pub digit : (b : ℕ) → ℕ
 digit b =
     cond (within 48 57 b) (b - 48)
     (cond (within 65 70 b) (b - 55)
@@ -25,11 +27,11 @@ digit b =
     16))
 
 -- white space: the bytes 9 to 13, and the space
-unfoldable pub isSpace : ℕ → Bool
+unfoldable pub isSpace : (b : ℕ) → Bool
 isSpace b = within 9 13 b || eqb b 32
 
 -- The reading of the byte b where a pair may start: a first digit, white space, the start of a comment, or a fault.
-unfoldable pub first : ℕ → Reading
+unfoldable pub first : (b : ℕ) → Reading
 first b =
     cond (ltb (digit b) 16) (High (digit b))
     (cond (isSpace b) Between
@@ -37,14 +39,14 @@ first b =
     Bad))
 
 -- The reading of the byte b after the first digit of a pair, h: a whole byte, or a fault.
-unfoldable pub second : ℕ → ℕ → Reading
+unfoldable pub second : (h b : ℕ) → Reading
 second h b =
     cond (ltb (digit b) 16) (Byte (16 * h + digit b))
     (cond (isSpace b || eqb b 35) Odd
     Bad)
 
 -- The reading of the byte b by that of the byte before it. A comment lasts up to the end of its line, byte 10.
-unfoldable pub next : Reading → ℕ → Reading
+unfoldable pub next : (before : Reading) (b : ℕ) → Reading
 next Between b = first b
 next Comment b = cond (eqb b 10) Between Comment
 next (High h) b = second h b
@@ -53,7 +55,7 @@ next Bad b = Bad
 next Odd b = Odd
 
 -- the byte that ends with a reading
-unfoldable pub byteOf : Reading → List ℕ
+unfoldable pub byteOf : (r : Reading) → List ℕ
 byteOf Between = []
 byteOf Comment = []
 byteOf (High h) = []
@@ -71,8 +73,9 @@ oddDigit = word "odd digit at "
 abbrev pub tooLong : List ℕ
 tooLong = word "too long\n"
 
--- The output, where the byte at place `at` was read so: the line of a fault, and without one what comes of the rest. A lone digit stands just before `at`.
-unfoldable pub unlessFault : ℕ → Reading → List ℕ → List ℕ
+-- The output, where the byte at place `at` was read so: the line of a fault, and without one what comes of the rest.
+-- A lone digit stands just before `at`.
+unfoldable pub unlessFault : (at : ℕ) (r : Reading) (rest : List ℕ) → List ℕ
 unlessFault at Between rest = rest
 unlessFault at Comment rest = rest
 unlessFault at (High h) rest = rest
@@ -80,15 +83,18 @@ unlessFault at (Byte x) rest = rest
 unlessFault at Bad rest = line badDigit at
 unlessFault at Odd rest = line oddDigit (at - 1)
 
--- The output of a text whose bytes from place `at` on are given, by the reading of the byte before them and the bytes decoded so far. The end of the text reads as the end of a line.
-unfoldable pub decode : List ℕ → ℕ → Reading → List ℕ → List ℕ
+-- The output of a text whose bytes from place `at` on are given, by the reading of the byte before them and the bytes
+-- decoded so far. The end of the text reads as the end of a line.
+unfoldable pub decode : (done : List ℕ) (at : ℕ) (before : Reading) (l : List ℕ) → List ℕ
 decode done at before [] = unlessFault at (next before 10) done
-decode done at before (b ∷ l) = unlessFault at (next before b) (decode (done ++ byteOf (next before b)) (at + 1) (next before b) l)
+decode done at before (b ∷ l) =
+    unlessFault at (next before b)
+    (decode (done ++ byteOf (next before b)) (at + 1) (next before b) l)
 
 -- The output of a text that is not too long.
-unfoldable pub decoded : List ℕ → List ℕ
+unfoldable pub decoded : (text : List ℕ) → List ℕ
 decoded text = decode [] 0 Between text
 
 -- Everything that is written for a text.
-unfoldable pub unhexed : List ℕ → List ℕ
+unfoldable pub unhexed : (text : List ℕ) → List ℕ
 unhexed text = cond (ltb most (length text)) tooLong (decoded text)

@@ -1,7 +1,9 @@
 -- Laws of texts in hexadecimal.
 --     unhexed-long, unhexed-decoded    what is written for a text that is too long, and for every other
---     unhexed-fits     65536 bytes have room for whatever is written
---     unhexed-hexed    every list of so many bytes at most is written for the text of its digits
+--     unhexed-fits     65536 bytes have room for whatever is written: each byte of the text is one digit at most, two
+--                      digits are a byte, and the line of a fault is short
+--     unhexed-hexed    every list of so many bytes at most is written for the text of its digits: the two digits of a
+--                      byte read as that byte, and after it a pair may start again
 use Prim.Native.Nat.{ℕ, suc, _+_, _*_, _-_, _/_, _%_, _≤_, _<_}
 use mathlib.Core.Path.{_≡_, refl, sym, _∙_}
 use mathlib.Core.Bool.{Bool, true, false, cond, _||_}
@@ -16,7 +18,8 @@ use Rattle.text.specs.Text.{line}
 use Rattle.text.specs.TextLaws.{line-most}
 use Rattle.hex.specs.declared.Reading.{Reading}
 use Rattle.hex.specs.declared.Reading.the-variants.{Between, Comment, High, Byte, Bad, Odd}
-use Rattle.hex.specs.Hex.{digit, isSpace, first, second, next, byteOf, badDigit, oddDigit, tooLong, unlessFault, decode, decoded, unhexed, most}
+use Rattle.hex.specs.Hex.{digit, isSpace, first, second, next, byteOf, badDigit, oddDigit, tooLong}
+use Rattle.hex.specs.Hex.{unlessFault, decode, decoded, unhexed, most}
 use Rattle.hex.specs.ReadingLaws.{digit-decimal, digit-lower, first-digit, second-digit}
 
 -- ---- a text that is decoded, and one that is too long for it
@@ -96,12 +99,17 @@ module _ (n : ℕ) (room : 24 ≤ n) where
   unless-fits at Bad rest h = omega (arith, line-fits badDigit at refl)
   unless-fits at Odd rest h = omega (arith, line-fits oddDigit (at - 1) refl)
 
-  decode-fits : (done : List ℕ) (at : ℕ) (s : Reading) (l : List ℕ) → 2 * length done + waits s + length l ≤ 2 * n → length (decode done at s l) ≤ n
+  decode-fits :
+      (done : List ℕ) (at : ℕ) (s : Reading) (l : List ℕ)
+      → 2 * length done + waits s + length l ≤ 2 * n
+      → length (decode done at s l) ≤ n
   unfolding decode taken
   decode-fits done at s [] h = unless-fits at (next s 10) done (omega arith)
   decode-fits done at s (b ∷ l) h =
-      unless-fits at (next s b) (decode (done ++ byteOf (next s b)) (at + 1) (next s b) l)
-      (decode-fits (done ++ byteOf (next s b)) (at + 1) (next s b) l (omega (arith, length-append done (byteOf (next s b)), next-taken b s)))
+      let r = next s b in
+      let size = length-append done (byteOf r) in
+      unless-fits at r (decode (done ++ byteOf r) (at + 1) r l)
+      (decode-fits (done ++ byteOf r) (at + 1) r l (omega (arith, size, next-taken b s)))
 
 pub unhexed-fits : (t : List ℕ) → length (unhexed t) ≤ 65536
 unfolding decoded waits
@@ -112,11 +120,11 @@ unhexed-fits t = elim (decLt most (length t)) [
 
 -- ---- the text of a list of bytes
 -- the lower-case digit of a number below 16
-unfoldable pub glyph : ℕ → ℕ
+unfoldable pub glyph : (d : ℕ) → ℕ
 glyph d = cond (ltb d 10) (48 + d) (87 + d)
 
 -- two digits for each byte
-unfoldable pub hexed : List ℕ → List ℕ
+unfoldable pub hexed : (l : List ℕ) → List ℕ
 hexed [] = []
 hexed (x ∷ l) = glyph (x / 16) ∷ glyph (x % 16) ∷ hexed l
 
@@ -143,18 +151,27 @@ unfolding first digit isSpace
 first-newline = refl
 
 -- from a reading on after which a pair may start
-decode-hexed : (l : List ℕ) → ((k : ℕ) → getD l k 0 < 256) → (done : List ℕ) (at : ℕ) (s : Reading) → ((b : ℕ) → next s b ≡ first b) → decode done at s (hexed l) ≡ done ++ l
+decode-hexed :
+    (l : List ℕ)
+    → ((k : ℕ) → getD l k 0 < 256)
+    → (done : List ℕ) (at : ℕ) (s : Reading)
+    → ((b : ℕ) → next s b ≡ first b)
+    → decode done at s (hexed l) ≡ done ++ l
 unfolding hexed decode unlessFault byteOf next
 decode-hexed [] small done at s f = rw (f 10, first-newline, append-nil done) refl
 decode-hexed (x ∷ l) small done at s f =
     let low : x < 256 = small 0 in
     let whole : 16 * (x / 16) + x % 16 ≡ x = omega arith in
-    rw (f (glyph (x / 16)), first-glyph (x / 16) (omega arith), second-glyph (x / 16) (x % 16) (omega arith), whole, append-nil done)
+    let high = first-glyph (x / 16) (omega arith) in
+    let byte = second-glyph (x / 16) (x % 16) (omega arith) in
+    rw (f (glyph (x / 16)), high, byte, whole, append-nil done)
     (decode-hexed l (λ k. small (suc k)) (done ++ (x ∷ [])) (at + 1 + 1) (Byte x) (λ b. refl) ∙ append-snoc done x l)
 
 pub unhexed-hexed : (l : List ℕ) → length l ≤ 65536 → ((k : ℕ) → getD l k 0 < 256) → unhexed (hexed l) ≡ l
 unfolding decoded next
-unhexed-hexed l h small = unhexed-decoded (hexed l) (omega (arith, length-hexed l)) ∙ decode-hexed l small [] 0 Between (λ b. refl)
+unhexed-hexed l h small =
+    unhexed-decoded (hexed l) (omega (arith, length-hexed l))
+    ∙ decode-hexed l small [] 0 Between (λ b. refl)
 
 -- ---- texts
 -- `0a fF#g` and a newline, `20`

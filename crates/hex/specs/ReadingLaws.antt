@@ -1,9 +1,11 @@
--- Laws of single bytes of a text in hexadecimal.
---     digit-decimal, digit-upper, digit-lower, digit-low, digit-middle, digit-between, digit-high      the value of a byte as a digit, by where the byte stands
+-- Laws of single bytes of a text in hexadecimal: one for each case of a definition, so that each return of the code has
+-- its law.
+--     digit-decimal, digit-upper, digit-lower              the value of a digit, by its kind
+--     digit-low, digit-middle, digit-between, digit-high   16 below, between and above the digits
 --     space-line, space-space, space-low, space-other      white space
 --     first-digit, first-space, first-hash, first-bad      a byte where a pair may start
 --     second-digit, second-space, second-hash, second-bad  a byte after the first digit of a pair
---     comment-ends, comment-lasts      a byte of a comment
+--     comment-ends, comment-lasts                          a byte of a comment
 --     first-not-odd, high-small        where a pair may start no digit is lone, and half a byte is below 16
 use Prim.Native.Nat.{ℕ, _+_, _*_, _-_, _≤_, _<_}
 use mathlib.Core.Path.{_≡_, refl}
@@ -139,7 +141,7 @@ first-not-odd b = by-tests (ltb (digit b) 16) (isSpace b) (eqb b 35) (digit b)
     by-tests false false false h e = let z : _≡_ {A = ℕ} 0 1 = cc in omega arith
 
 -- the high half that waits for its low half, and 0 where there is none
-unfoldable pub highHalf : Reading → ℕ
+unfoldable pub highHalf : (r : Reading) → ℕ
 highHalf Between = 0
 highHalf Comment = 0
 highHalf (High h) = h
@@ -149,7 +151,11 @@ highHalf Odd = 0
 
 first-small : (b : ℕ) → highHalf (first b) < 16
 unfolding first highHalf
-first-small b = elim (decLt (digit b) 16) [ yes h ↦ rw (lt-ltb (digit b) 16 h) h | no f ↦ rw (le-ltb (digit b) 16 (omega arith)) (by-tests (isSpace b) (eqb b 35)) ]
+first-small b =
+    elim (decLt (digit b) 16) [
+      | yes h ↦ rw (lt-ltb (digit b) 16 h) h
+      | no f ↦ rw (le-ltb (digit b) 16 (omega arith)) (by-tests (isSpace b) (eqb b 35))
+    ]
   where
     by-tests : (u v : Bool) → highHalf (cond u Between (cond v Comment Bad)) < 16
     by-tests true v = omega arith

@@ -1,4 +1,11 @@
 // Text in hexadecimal to bytes.
+//     unhex                what a text is in bytes, or the line that says its first fault, or that it is too long
+//     decode               the loop over the text: each byte gets its reading by that of the byte before it
+//     step                 the next reading: `first` where a pair may start, `second` after a first digit
+//     digit, is_space      what a byte is by itself
+//     put, bad, odd        what is written
+// What comes of a text is specs/Hex.antt. The laws of single bytes are specs/ReadingLaws.antt; that every list of bytes
+// has a text, and that ROOM is enough, is specs/HexLaws.antt; the loop's argument is proofs/Decoding.antt.
 use text::append;
 use text::line;
 ghost use mathlib.Core.Path.{_≡_};
@@ -31,9 +38,10 @@ enum Reading {
     Odd,
 }
 
-// Writes what `text` is in bytes, or the line that says its first fault, to the start of `out`, as far as that has room, and gives the number of bytes written.
+// Writes what `text` is in bytes, or the line that says its first fault, to the start of `out`, as far as that has
+// room, and gives the number of bytes written.
 pub fn unhex(text: &[u8], out: &mut [u8]) -> usize
-    ensures { λ r. ⌜ Appended (now (out .entry)) 0 (unhexed (now (text .entry))) (now (out .exit)) r ⌝ }
+    ensures written { λ r. ⌜ Appended (now (out .entry)) 0 (unhexed (now (text .entry))) (now (out .exit)) r ⌝ }
 {
     if MOST < text.len() {
         return append(out, 0, b"too long\n");

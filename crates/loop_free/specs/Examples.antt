@@ -1,6 +1,13 @@
--- Demand 3 on three routers: two changes that Plan accepts, calls in order, and the loops that the order rules out. All of it is computed from the definitions.
--- C1 is a rise: links 0–1 at 1, 1–2 at 1 and 0–2 at 3, of which 1–2 goes down. C2 is a fall: links 0–1 at 1 and 0–2 at 3, and 1–2 comes up at 1.
--- Every link goes both ways, and the root is 2 in both.
+-- Demand 3 on three routers: two changes that Plan accepts, calls in order, and the loops that the order rules out. All
+-- of it is computed from the definitions. C1 is a rise, 1–2 goes down; C2 is a fall, 1–2 comes up at 1. Every link goes
+-- both ways, and the root is 2 in both.
+--
+--         0               0
+--      1 / \ 3         1 / \ 3
+--       /   \           /   \
+--      1 --- 2         1     2
+--         1
+--       C1              C2
 use Prim.Native.Nat.{ℕ, _+_, _-_, _*_}
 use mathlib.Core.Path.{_≡_, refl, sym, subst}
 use mathlib.Core.Bool.{true, false}
@@ -11,25 +18,25 @@ use lib.ListN.{replicate, set}
 use Rattle.area.specs.Limits.{width, unused}
 use Rattle.area.specs.Tests.{all, first}
 use Rattle.area.specs.Tables.{build, tabulate, perRouter}
-use Rattle.area.specs.Sizes.{isCount, isTable}
+use Rattle.area.specs.Sizes.{isRouterCount, isTable}
 use Rattle.sets.specs.Sets.{bit, setOf, added, removed, subset}
-use Rattle.entries.specs.Entries.{count, entryOf, isFree, entryRefusal, listedRefusal, listed}
+use Rattle.entries.specs.Entries.{entryCount, entryOf, isFree, entryRefusal, listedRefusal, listedMetric}
 use Rattle.topology.specs.Topology.{isLink, topology}
 use Rattle.topology.specs.Distance.{sums, least, distance}
 use Rattle.topology.specs.NextHops.{isNext, nextHops}
-use Rattle.topology.specs.Pigeonhole.{Distinct}
-use Rattle.topology.specs.Paths.{isMetric, areMetrics}
+use Rattle.area.specs.Lists.{Distinct}
+use Rattle.paths.specs.Paths.{isMetric, areMetrics}
 use Rattle.ranks.specs.Rank.{greatest, above, longest, rank}
 use Rattle.changes.specs.Changes.{changeRefusal, isRise, isFall}
 use Rattle.changes.specs.Root.{isCommon, root}
-use Rattle.changes.specs.Judging.{faultRefusal, commonRefusal, listRefusal}
 use Rattle.plan.specs.declared.Record.{Record}
 use Rattle.plan.specs.NewMetrics.{newCell, newMetrics}
 use Rattle.plan.specs.Waiting.{oldHops, newHops, waiting, telling, due}
-use Rattle.plan.specs.Plan.{Tables, tables, areTables, planRefusal, isPlanned, fresh, recordOf}
+use Rattle.plan.specs.Plan.{Tables, asTables, areTables, planRefusal, isPlanned, fresh, recordOf}
 use Rattle.convergence.specs.Pointers.{pointers, Along}
 use Rattle.machine.specs.Answers.{ok, ignored, refused}
-use Rattle.machine.specs.Machine.{learn, release, ready, write, finish, listens, deliver, isSound, isKind, readsB, areRouters, callOf, stepOf}
+use Rattle.machine.specs.Machine.{learn, release, ready, write, finish, listens, deliver, isSound, isKind, readsB}
+use Rattle.machine.specs.Machine.{areRouters, callOf, stepOf}
 use Rattle.machine.specs.Run.{Call, call, replies, hasWritten}
 use Rattle.loop_free.specs.LoopFree.{LoopFree}
 use Rattle.loop_free.specs.LoopFreeLaws.{loop-free}
@@ -55,18 +62,41 @@ comesUp = 1 ∷ 2 ∷ 0 ∷ 0 ∷ 1 ∷ 2 ∷ 1 ∷ 0 ∷ 0 ∷ 1 ∷ []
 
 -- tables of the right size to lend to Plan
 lent : Tables
-lent = tables metricsUp metricsUp metricsUp metricsUp metricsUp
+lent = asTables metricsUp metricsUp metricsUp metricsUp metricsUp
 
 -- an entry for each of the three routers, and 0 for the rest
 abbrev three : ℕ → ℕ → ℕ → List ℕ
 three x y z = x ∷ y ∷ z ∷ replicate (width - 3) 0
 
--- the records: 1 waits for 0 and 2 for 1 in the rise, 0 for 1 and 1 for 2 in the fall; destination 2 is due at 0 and at 1, and both others are due at 2
+-- the records: 1 waits for 0 and 2 for 1 in the rise, 0 for 1 and 1 for 2 in the fall; destination 2 is due at 0 and at
+-- 1, and both others are due at 2
 beforeRise : Record
-beforeRise = record { n = 3; root = 2; direction = 1; ranks = three 0 1 2; waiting = three 0 1 2; telling = three 2 4 0; due = three 4 4 3; states = three 0 0 0; written = three 0 0 0 }
+beforeRise =
+    record {
+      n = 3;
+      root = 2;
+      direction = 1;
+      ranks = three 0 1 2;
+      waiting = three 0 1 2;
+      telling = three 2 4 0;
+      due = three 4 4 3;
+      states = three 0 0 0;
+      written = three 0 0 0;
+    }
 
 beforeFall : Record
-beforeFall = record { n = 3; root = 2; direction = 2; ranks = three 2 1 0; waiting = three 2 4 0; telling = three 0 1 2; due = three 4 4 3; states = three 0 0 0; written = three 0 0 0 }
+beforeFall =
+    record {
+      n = 3;
+      root = 2;
+      direction = 2;
+      ranks = three 2 1 0;
+      waiting = three 2 4 0;
+      telling = three 0 1 2;
+      due = three 4 4 3;
+      states = three 0 0 0;
+      written = three 0 0 0;
+    }
 
 -- Plan accepts the changes l of the metrics m, and hands back the record r.
 record Accepts (m l : List ℕ) (r : Record) : Type 0 where
@@ -74,9 +104,11 @@ record Accepts (m l : List ℕ) (r : Record) : Type 0 where
   given : recordOf 3 m l lent ≡ r
 
 planned : Accepts metricsUp goesDown beforeRise × Accepts metricsDown comesUp beforeFall
-unfolding metricsDown metricsUp goesDown comesUp lent beforeRise beforeFall recordOf isPlanned fresh perRouter build rank longest above greatest
-    waiting telling due oldHops newHops nextHops isNext bit setOf distance sums least topology isLink newMetrics tabulate newCell listed planRefusal
-    areTables isTable isCount areMetrics isMetric all faultRefusal commonRefusal listRefusal changeRefusal first listedRefusal entryRefusal isFree isRise isFall isCommon root count entryOf
+unfolding metricsDown metricsUp goesDown comesUp lent beforeRise beforeFall recordOf isPlanned fresh perRouter build
+    rank longest above greatest waiting telling due oldHops newHops nextHops isNext bit setOf distance sums least
+    topology isLink newMetrics tabulate newCell listedMetric planRefusal areTables isTable isRouterCount areMetrics
+    isMetric all changeRefusal first listedRefusal entryRefusal isFree isRise isFall isCommon root entryCount
+    entryOf
 planned = (record { accepted = refl; given = refl }, record { accepted = refl; given = refl })
 
 -- ---- calls in order
@@ -90,7 +122,9 @@ riseRest = call 4 0 0 ∷ call 5 0 1 ∷ call 5 0 1 ∷ call 3 1 2 ∷ []
 
 -- Fall: 0 may not write 2 before 1 is done. 2 writes both others, is done and tells 1, and 1 writes 2.
 fallCalls : List Call
-fallCalls = call 1 0 0 ∷ call 2 0 0 ∷ call 3 0 2 ∷ call 1 2 0 ∷ call 2 2 0 ∷ call 3 2 0 ∷ call 3 2 1 ∷ call 4 2 0 ∷ call 1 1 0 ∷ call 2 1 0 ∷ call 5 2 1 ∷ call 3 1 2 ∷ []
+fallCalls =
+    call 1 0 0 ∷ call 2 0 0 ∷ call 3 0 2 ∷ call 1 2 0 ∷ call 2 2 0 ∷ call 3 2 0 ∷
+    call 3 2 1 ∷ call 4 2 0 ∷ call 1 1 0 ∷ call 2 1 0 ∷ call 5 2 1 ∷ call 3 1 2 ∷ []
 
 -- the answers to the calls, and that one of the routers 0 and 1 has written 2 and the other has not
 record RiseAnswers (r : Record) : Type 0 where
@@ -104,8 +138,8 @@ record FallAnswers (r : Record) : Type 0 where
   has-not : hasWritten r fallCalls 0 2 ≡ false
 
 answered : RiseAnswers (recordOf 3 metricsUp goesDown lent) × FallAnswers (recordOf 3 metricsDown comesUp lent)
-unfolding beforeRise beforeFall riseCalls riseRest fallCalls replies hasWritten stepOf callOf areRouters readsB isKind isSound isCount all
-    deliver listens finish write ready release learn bit setOf added removed subset
+unfolding beforeRise beforeFall riseCalls riseRest fallCalls replies hasWritten stepOf callOf areRouters readsB
+    isKind isSound isRouterCount all deliver listens finish write ready release learn bit setOf added removed subset
 answered = (
   subst RiseAnswers (sym (planned .0 .given)) (record { all-ten = refl; has-written = refl; has-not = refl }),
   subst FallAnswers (sym (planned .1 .given)) (record { all-twelve = refl; has-written = refl; has-not = refl }),
@@ -125,8 +159,8 @@ Loops m l x = Along (pointers (λ r. oldHops 3 m r 2) (λ r. newHops 3 m l r 2) 
 
 -- in the rise if 1 writes before 0, and in the fall if 0 writes before 1: the two writes that are refused above
 loops : Loops metricsUp goesDown 1 × Loops metricsDown comesUp 0
-unfolding metricsDown metricsUp goesDown comesUp oldHops newHops nextHops isNext bit setOf distance sums least topology isLink newMetrics tabulate build
-    newCell listed count entryOf
+unfolding metricsDown metricsUp goesDown comesUp oldHops newHops nextHops isNext bit setOf distance sums least
+    topology isLink newMetrics tabulate build newCell listedMetric entryCount entryOf
 loops = ((refl, (refl, tt)), (refl, (refl, tt)))
 
 -- that walk meets 0 twice

@@ -1,4 +1,4 @@
--- Demand 3, as 01 means it: first the statement, then its proof, last an example.
+-- Demand 3, as 01 means it: first the claim, then the theorem, last an example.
 pub mod LoopFree
 pub mod LoopFreeLaws
 mod Examples

@@ -1,13 +1,15 @@
--- Demand 3, as a statement about a whole list of calls (01, "The steps"). It is proved in LoopFreeLaws.antt, `loop-free`, for every input that Plan accepts and every list of calls.
--- n routers, the old metrics m and the change list l; `first` is the record that the first call gets.
+-- Demand 3, as a statement about a whole list of calls (01, "The steps"): `LoopFree`. It is proved in LoopFreeLaws.antt
+-- (`loop-free`) for every input that Plan accepts and every list of calls.
+-- There are n routers, the old metrics m and the change list l; `first` is the record that the first call gets.
 use Prim.Native.Nat.{ℕ, _-_, _<_}
 use mathlib.Core.Path.{_≡_}
+use mathlib.Core.Logic.{_≢_}
 use mathlib.Core.List.{List, _∷_}
 use Rattle.area.specs.Limits.{unreached}
 use Rattle.sets.specs.Sets.{setOf}
 use Rattle.topology.specs.Topology.{topology}
 use Rattle.topology.specs.Distance.{distance}
-use Rattle.topology.specs.Pigeonhole.{Distinct}
+use Rattle.area.specs.Lists.{Distinct}
 use Rattle.plan.specs.declared.Record.{Record}
 use Rattle.plan.specs.NewMetrics.{newMetrics}
 use Rattle.plan.specs.Waiting.{oldHops, newHops}
@@ -15,18 +17,27 @@ use Rattle.convergence.specs.Pointers.{pointers, Along, Prolonged}
 use Rattle.machine.specs.Machine.{writtenOf}
 use Rattle.machine.specs.Run.{Call, run, hasWritten}
 
--- Where each router points toward d after the calls: to its new next hops if it has written d, and to its old ones if not.
-abbrev pub pointsTo : ℕ → List ℕ → List ℕ → Record → List Call → ℕ → ℕ → ℕ
-pointsTo n m l first calls d = pointers (λ r. oldHops n m r d) (λ r. newHops n m l r d) (λ r. hasWritten first calls r d)
+-- Where each router points toward d after the calls: to its new next hops if it has written d, to its old ones if not.
+abbrev pub pointsTo : (n : ℕ) (m l : List ℕ) (first : Record) (calls : List Call) (d : ℕ) → ℕ → ℕ
+pointsTo n m l first calls d =
+    pointers (λ r. oldHops n m r d) (λ r. newHops n m l r d) (λ r. hasWritten first calls r d)
 
--- router x reaches d in the topology of the metrics m
-abbrev pub Reaches : ℕ → List ℕ → ℕ → ℕ → Type 0
-Reaches n m x d = distance n (topology n m) x d < unreached
+-- Router x reaches d in the topology of the metrics m: its distance there is not 4,294,967,295.
+abbrev pub Reaches : (n : ℕ) (m : List ℕ) (x d : ℕ) → Type 0
+Reaches n m x d = distance n (topology n m) x d ≢ unreached
 
-pub record LoopFree (n : ℕ) (m l : List ℕ) (first : Record) (calls : List Call) : Type 0 where
+pub record LoopFree (n : ℕ) (metrics changes : List ℕ) (first : Record) (calls : List Call) : Type 0 where
   -- the written set of each router in the last record holds exactly the destinations that it has written
   pub written : (r : ℕ) → writtenOf (run first calls) r ≡ setOf n (hasWritten first calls r)
   -- no walk along the pointers meets a router twice
-  pub no-router-twice : (d x : ℕ) (walk : List ℕ) → d < n → Along (pointsTo n m l first calls d) x walk → Distinct (x ∷ walk)
+  pub no-router-twice : (d x : ℕ) (walk : List ℕ)
+      → d < n
+      → Along (pointsTo n metrics changes first calls d) x walk
+      → Distinct (x ∷ walk)
   -- a walk that starts where d is reached in both topologies can be prolonged to d, with at most n - 1 links in all
-  pub arrives : (d x : ℕ) (walk : List ℕ) → d < n → Reaches n m x d → Reaches n (newMetrics n m l) x d → Along (pointsTo n m l first calls d) x walk → Prolonged (pointsTo n m l first calls d) (n - 1) d x walk
+  pub arrives : (d x : ℕ) (walk : List ℕ)
+      → d < n
+      → Reaches n metrics x d
+      → Reaches n (newMetrics n metrics changes) x d
+      → Along (pointsTo n metrics changes first calls d) x walk
+      → Prolonged (pointsTo n metrics changes first calls d) (n - 1) d x walk

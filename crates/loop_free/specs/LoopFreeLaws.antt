@@ -1,5 +1,13 @@
--- Demand 3 is met: `loop-free`.
--- The waiting sets and written sets of the record give the order that the crate convergence asks for, and the plan gives the two topologies and the next hops in both.
+-- Demand 3 is met: `loop-free`, at the end of this file.
+-- The argument over two topologies is made in the crate convergence. It asks for three things, for one destination d:
+--     Change       the two topologies differ only at links of the root, and one has no metric above the other's there.
+--                  Plan's judgement of the change list gives this: `rises`, `falls`.
+--     Sets         the old and the new pointers hold exactly the next hops in the two topologies: `old-exact`,
+--                  `new-exact`.
+--     Ordered      of a router that has written d, or is done, those that it waited for are done; and one that is done
+--                  has written d, where its next hops to d change. The machine keeps this: `ordered`.
+-- `safe` puts them together, for a rise and for a fall. `fresh-free` says it of the fresh record, and that is what an
+-- accepted plan hands back.
 use Prim.Native.Nat.{ℕ, _≤_, _<_}
 use mathlib.Core.Path.{_≡_, sym, ap, _∙_}
 use mathlib.Core.Bool.{true, false}
@@ -10,12 +18,14 @@ use native.Mathlib.Omega.{arith}
 use borrow.Author.Tests.{eqb-true, eq-eqb}
 use lib.Dec.{eqb}
 use lib.ListN.{getD}
-use Rattle.area.specs.Limits.{width, unused}
+use Rattle.area.specs.Limits.{width, unused, unreached}
 use Rattle.area.specs.TestLaws.{look, same-test}
 use Rattle.sets.specs.Sets.{bit, setOf}
 use Rattle.sets.specs.SetLaws.{same-members, member-some}
 use Rattle.topology.specs.Topology.{topology}
 use Rattle.topology.specs.TopologyLaws.{topology-graph}
+use Rattle.topology.specs.Distance.{distance}
+use Rattle.topology.specs.DistanceLaws.{distance-top}
 use Rattle.topology.specs.NextHops.{Next}
 use Rattle.changes.specs.Changes.{isRise}
 use Rattle.changes.specs.Root.{root}
@@ -31,21 +41,30 @@ use Rattle.convergence.specs.Convergence.{Safe, rise, fall}
 use Rattle.machine.specs.Machine.{done, stateOf, waitingOf, dueOf, writtenOf}
 use Rattle.machine.specs.Run.{Call, run, hasWritten}
 use Rattle.machine.specs.RunLaws.{Kept, run-kept, run-bit, run-written, fresh-start}
-use Rattle.loop_free.specs.LoopFree.{pointsTo, LoopFree}
+use Rattle.loop_free.specs.LoopFree.{pointsTo, Reaches, LoopFree}
+
+-- a distance that is not `unreached` is below it
+reaches-below : (n : ℕ) (m : List ℕ) (x d : ℕ) → Reaches n m x d → distance n (topology n m) x d < unreached
+reaches-below n m x d f = omega (arith, distance-top n (topology n m) x d)
 
 -- ---- sets that hold exactly the next hops toward d
-abbrev Exact : ℕ → ℕ → (ℕ → ℕ → ℕ) → (ℕ → ℕ) → Type 0
+abbrev Exact : (n d : ℕ) (g : ℕ → ℕ → ℕ) (f : ℕ → ℕ) → Type 0
 Exact n d g f = (r k : ℕ) → (bit (f r) k ≡ true) ↔ Next n g r d k
 
 exact-part : {n d : ℕ} {g : ℕ → ℕ → ℕ} {f : ℕ → ℕ} → Exact n d g f → Part n d g f
 exact-part a = record { next = λ r k. a r k .0; some = λ r k x. (k, a r k .1 x) }
 
-exact-sets : {n d : ℕ} {lo hi : ℕ → ℕ → ℕ} {at-lo at-hi : ℕ → ℕ} → Exact n d lo at-lo → Exact n d hi at-hi → Sets n d lo hi at-lo at-hi
+exact-sets : {n d : ℕ} {lo hi : ℕ → ℕ → ℕ} {at-lo at-hi : ℕ → ℕ}
+    → Exact n d lo at-lo
+    → Exact n d hi at-hi
+    → Sets n d lo hi at-lo at-hi
 exact-sets {at-lo} {at-hi} a b = record {
   in-lo = exact-part a;
   in-hi = exact-part b;
   same = λ r q. same-members (at-lo r) (at-hi r)
-      (λ k. same-test (bit (at-lo r) k) (bit (at-hi r) k) (λ t. b r k .1 (q k .0 (a r k .0 t))) (λ t. a r k .1 (q k .1 (b r k .0 t))));
+      (λ k. same-test (bit (at-lo r) k) (bit (at-hi r) k)
+      (λ t. b r k .1 (q k .0 (a r k .0 t)))
+      (λ t. a r k .1 (q k .1 (b r k .0 t))));
 }
 
 -- `Safe` asks the same of both topologies
@@ -82,7 +101,9 @@ module _ (n : ℕ) (m l : List ℕ) (p : Plan n m l) where
 
     -- no router beyond the area has a next hop, before the change or after it
     hops-beyond : (r : ℕ) → n ≤ r → oldHops n m r d ≡ newHops n m l r d
-    hops-beyond r b = exact-sets old-exact new-exact .same r (λ k. ((λ x. absurd (none m k (x .uses))), (λ x. absurd (none (newMetrics n m l) k (x .uses)))))
+    hops-beyond r b =
+        exact-sets old-exact new-exact .same r
+        (λ k. ((λ x. absurd (none m k (x .uses))), (λ x. absurd (none (newMetrics n m l) k (x .uses)))))
       where
         none : (o : List ℕ) (k : ℕ) → topology n o r k < unused → ⊥
         none o k u = omega (arith, topology-graph n o most .inside r k u .0)
@@ -99,50 +120,71 @@ module _ (n : ℕ) (m l : List ℕ) (p : Plan n m l) where
     waited : (r w : ℕ) → waitingOf now r ≡ 0 → bit (waiting n m l r) w ≡ true → stateOf now w ≡ done
     waited r w z e =
         let i = waits-inside n m l most r w e in
+        let waits-first = ap (λ (s : ℕ). bit s w) (fresh-waiting n m l most r (i .0)) ∙ e in
         ⊎-elim (λ b. absurd (member-some (waitingOf now r) w b z)) (λ q. q)
-        (kept .waits r w (omega (arith, i .1, most)) (ap (λ (s : ℕ). bit s w) (fresh-waiting n m l most r (i .0)) ∙ e))
+        (kept .waits r w (omega (arith, i .1, most)) waits-first)
 
     module _ (d : ℕ) (d-in : d < n) where
       -- a destination to which the next hops of r change is due at r
       is-due : (r : ℕ) → oldHops n m r d ≢ newHops n m l r d → bit (dueOf now r) d ≡ true
       is-due r f = elim (decLt r n) [
-        | yes h ↦ ap (λ (s : ℕ). bit s d) (ap (λ (t : List ℕ). getD t r 0) (kept .due) ∙ fresh-due n m l most r h) ∙ due-at n m l most r d d-in .1 f
+        | yes h ↦
+            let entry = ap (λ (t : List ℕ). getD t r 0) (kept .due) ∙ fresh-due n m l most r h in
+            ap (λ (s : ℕ). bit s d) entry ∙ due-at n m l most r d d-in .1 f
         | no g ↦ absurd (f (hops-beyond d r (omega arith)))
       ]
 
       -- the order in which routers write and are done, where `waits r w` puts w into the fresh waiting set of r
-      ordered : (waits : ℕ → ℕ → Type 0) → ((r w : ℕ) → waits r w → bit (waiting n m l r) w ≡ true)
-          → Ordered waits (λ r. oldHops n m r d) (λ r. newHops n m l r d) (λ r. hasWritten (fresh n m l) calls r d) (λ r. eqb (stateOf now r) done)
+      ordered : (waits : ℕ → ℕ → Type 0)
+          → ((r w : ℕ) → waits r w → bit (waiting n m l r) w ≡ true)
+          → Ordered waits (λ r. oldHops n m r d) (λ r. newHops n m l r d)
+          (λ r. hasWritten (fresh n m l) calls r d) (λ r. eqb (stateOf now r) done)
       ordered waits f = record {
-        wrote-after = λ r w e x. eq-eqb (stateOf now w) done (waited r w (kept .wrote-free r d (wrote-bit r ∙ e)) (f r w x));
-        done-after = λ r w e x. eq-eqb (stateOf now w) done (waited r w (kept .done-free r (eqb-true (stateOf now r) done e)) (f r w x));
-        done-wrote = λ r e x. sym (wrote-bit r) ∙ kept .done-wrote r d (omega (arith, most)) (eqb-true (stateOf now r) done e) (is-due r x);
+        wrote-after = λ r w e x.
+            eq-eqb (stateOf now w) done (waited r w (kept .wrote-free r d (wrote-bit r ∙ e)) (f r w x));
+        done-after = λ r w e x.
+            let free = kept .done-free r (eqb-true (stateOf now r) done e) in
+            eq-eqb (stateOf now w) done (waited r w free (f r w x));
+        done-wrote = λ r e x.
+            let is-done = eqb-true (stateOf now r) done e in
+            sym (wrote-bit r) ∙ kept .done-wrote r d (omega (arith, most)) is-done (is-due r x);
       }
         where
           wrote-bit : (r : ℕ) → bit (writtenOf now r) d ≡ hasWritten (fresh n m l) calls r d
           wrote-bit r = run-bit (fresh n m l) calls (fresh-start n m l) r d (omega (arith, most))
 
-      safe : Safe n d (topology n m) (topology n (newMetrics n m l)) (pointsTo n m l (fresh n m l) calls d)
+      abbrev Demand : Type 0
+      Demand = Safe n d (topology n m) (topology n (newMetrics n m l)) (pointsTo n m l (fresh n m l) calls d)
+
+      safe : Demand
       safe = ⊎-elim by-rise by-fall (look (isRise m l))
         where
-          by-rise : isRise m l ≡ true → Safe n d (topology n m) (topology n (newMetrics n m l)) (pointsTo n m l (fresh n m l) calls d)
+          by-rise : isRise m l ≡ true → Demand
           by-rise t =
               rise (rises t) d-in (exact-sets (old-exact d) (new-exact d))
               (ordered (WaitsRise n (root l) (topology n m)) (λ r w. waits-rise n m l most t r w .1))
 
-          by-fall : isRise m l ≡ false → Safe n d (topology n m) (topology n (newMetrics n m l)) (pointsTo n m l (fresh n m l) calls d)
+          by-fall : isRise m l ≡ false → Demand
           by-fall f =
+              let waits = WaitsFall n (root l) (topology n (newMetrics n m l)) in
               swapped (fall (falls f) d-in (exact-sets (new-exact d) (old-exact d))
-              (ordered (WaitsFall n (root l) (topology n (newMetrics n m l))) (λ r w. waits-fall n m l most f r w .1)))
+              (ordered waits (λ r w. waits-fall n m l most f r w .1)))
 
     fresh-free : LoopFree n m l (fresh n m l) calls
     fresh-free = record {
-      written = λ r. run-written (fresh n m l) calls (fresh-start n m l) (omega (arith, fresh-count n m l, most)) r
+      written = λ r.
+          run-written (fresh n m l) calls (fresh-start n m l) (omega (arith, fresh-count n m l, most)) r
           ∙ ap (λ (k : ℕ). setOf k (hasWritten (fresh n m l) calls r)) (fresh-count n m l);
       no-router-twice = λ d x walk h. safe d h .no-router-twice x walk;
-      arrives = λ d x walk h. safe d h .arrives x walk;
+      arrives = λ d x walk h old new.
+          safe d h .arrives x walk (reaches-below n m x d old) (reaches-below n (newMetrics n m l) x d new);
     }
 
 -- Demand 3: for every input that Plan accepts and every list of calls.
-pub loop-free : (n : ℕ) (m l : List ℕ) (t : Tables) → planRefusal n m l (areTables m t) ≡ 0 → (calls : List Call) → LoopFree n m l (recordOf n m l t) calls
-loop-free n m l t z calls = rw (record-planned n m l t (planned-true n m l t z)) (fresh-free n m l (plan-of n m l t z) calls)
+pub loop-free :
+    (n : ℕ) (metrics changes : List ℕ) (lent : Tables)
+    → planRefusal n metrics changes (areTables metrics lent) ≡ 0
+    → (calls : List Call)
+    → LoopFree n metrics changes (recordOf n metrics changes lent) calls
+loop-free n m l t z calls =
+    rw (record-planned n m l t (planned-true n m l t z)) (fresh-free n m l (plan-of n m l t z) calls)

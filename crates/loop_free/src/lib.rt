@@ -1,1 +1,5 @@
-// This crate has no code: its specs/ state and prove demand 3, that packets never circle while the machine runs.
+// Demand 3: packets never circle while the machine runs. There is no code here: specs/ state the claim and prove it.
+//     LoopFree         the claim about a list of calls: `LoopFree`
+//     LoopFreeLaws     the theorem: `loop-free`, for every input that Plan accepts and every list of calls
+//     Examples         two changes on three routers, and the loops that the order of writes rules out
+// The argument over any two topologies is in the crate convergence; what a list of calls keeps, in the crate machine.

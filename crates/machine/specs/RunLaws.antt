@@ -1,4 +1,5 @@
--- What every list of calls keeps.
+-- What every list of calls keeps. A call sets one entry of one table (MoveLaws.antt), so each line of `Kept` is shown
+-- for three changes: of a state, of a written set, of a waiting set. Lists of calls follow by induction.
 --     Start, fresh-start       a record before the first call, and that the fresh record is one
 --     Kept, run-kept           what holds of each record that comes after it, whatever the calls
 --     run-bit, run-written     the written sets hold exactly what was written
@@ -22,11 +23,13 @@ use Rattle.plan.specs.declared.Record.{Record}
 use Rattle.plan.specs.Plan.{fresh}
 use Rattle.plan.specs.FreshLaws.{fresh-size, fresh-state, fresh-written}
 use Rattle.machine.specs.Answers.{Outcome}
-use Rattle.machine.specs.Machine.{idle, holding, ongoing, done, stateOf, waitingOf, dueOf, writtenOf, withState, withWaiting, withWritten}
+use Rattle.machine.specs.Machine.{idle, holding, ongoing, done, writeKind}
+use Rattle.machine.specs.Machine.{stateOf, waitingOf, dueOf, writtenOf, withState, withWaiting, withWritten}
 use Rattle.machine.specs.Run.{Call, call, step, run, isWrite, hasWritten}
-use Rattle.machine.specs.MoveLaws.{Entry, entry, Finishes, Move, stays, learned, released, wrote, finished, delivered, moves}
+use Rattle.machine.specs.MoveLaws.{Entry, entry, MayFinish, moves}
+use Rattle.machine.specs.MoveLaws.{Move, stays, learned, released, wrote, finished, delivered}
 
--- Every router is idle and has written nothing. The table of written sets has its size, so that a set can be put into it.
+-- Every router is idle and has written nothing. The table of written sets has its size, so a set can be put into it.
 pub record Start (first : Record) : Type 0 where
   pub state : (x : ℕ) → stateOf first x ≡ idle
   pub written : (x : ℕ) → writtenOf first x ≡ 0
@@ -39,12 +42,14 @@ pub record Kept (first now : Record) : Type 0 where
   pub due : now .due ≡ first .due
   pub written-size : length (now .written) ≡ length (first .written)
   -- a router that x waited for at first is done, or x still waits for it
-  pub waits : (x w : ℕ) → w < width → bit (waitingOf first x) w ≡ true → (bit (waitingOf now x) w ≡ true) ⊎ (stateOf now w ≡ done)
+  pub waits : (x w : ℕ) → w < width → bit (waitingOf first x) w ≡ true
+      → (bit (waitingOf now x) w ≡ true) ⊎ (stateOf now w ≡ done)
   -- a router that has written, and one that is done, waits for none
   pub wrote-free : (x d : ℕ) → bit (writtenOf now x) d ≡ true → waitingOf now x ≡ 0
   pub done-free : (x : ℕ) → stateOf now x ≡ done → waitingOf now x ≡ 0
   -- a router that is done has written all that is due
-  pub done-wrote : (x d : ℕ) → d < width → stateOf now x ≡ done → bit (dueOf now x) d ≡ true → bit (writtenOf now x) d ≡ true
+  pub done-wrote : (x d : ℕ) → d < width → stateOf now x ≡ done → bit (dueOf now x) d ≡ true
+      → bit (writtenOf now x) d ≡ true
   -- what is written is a set of routers of the area
   pub below : (x : ℕ) → writtenOf now x < 2 ^ first .n
 
@@ -66,19 +71,25 @@ start-kept first s = record {
 -- ---- one call: it changes one entry of one table
 module _ {first r : Record} (kept : Kept first r) where
   -- the state of a, which is not done, becomes s; where s is done, a waits for none and has written all that is due
-  state-kept : (a s : ℕ) → stateOf r a ≢ done → (s ≡ done → Finishes r a) → Kept first (withState r a s)
+  state-kept : (a s : ℕ) → stateOf r a ≢ done → (s ≡ done → MayFinish r a) → Kept first (withState r a s)
   state-kept a s f ends = record {
     count = kept .count;
     due = kept .due;
     written-size = kept .written-size;
-    waits = λ x w h e. ⊎-elim inl (λ q. inr (getD-set-other (r .states) a w s 0 (λ p. f (ap (stateOf r) (sym p) ∙ q)) ∙ q)) (kept .waits x w h e);
+    waits = λ x w h e.
+        ⊎-elim inl (λ q. inr (getD-set-other (r .states) a w s 0 (λ p. f (ap (stateOf r) (sym p) ∙ q)) ∙ q))
+        (kept .waits x w h e);
     wrote-free = kept .wrote-free;
-    done-free = λ x e. ⊎-elim (λ p. ap (waitingOf r) (p .0) ∙ ends (sym (p .1) ∙ e) .free) (λ q. kept .done-free x (sym q ∙ e)) (entry (r .states) a s x);
-    done-wrote = λ x d h e. ⊎-elim (λ p. whole x d h (p .0) (ends (sym (p .1) ∙ e))) (λ q. kept .done-wrote x d h (sym q ∙ e)) (entry (r .states) a s x);
+    done-free = λ x e.
+        ⊎-elim (λ p. ap (waitingOf r) (p .0) ∙ ends (sym (p .1) ∙ e) .free) (λ q. kept .done-free x (sym q ∙ e))
+        (entry (r .states) a s x);
+    done-wrote = λ x d h e.
+        ⊎-elim (λ p. whole x d h (p .0) (ends (sym (p .1) ∙ e))) (λ q. kept .done-wrote x d h (sym q ∙ e))
+        (entry (r .states) a s x);
     below = kept .below;
   }
     where
-      whole : (x d : ℕ) → d < width → x ≡ a → Finishes r a → bit (dueOf r x) d ≡ true → bit (writtenOf r x) d ≡ true
+      whole : (x d : ℕ) → d < width → x ≡ a → MayFinish r a → bit (dueOf r x) d ≡ true → bit (writtenOf r x) d ≡ true
       whole x d h e t = rw e (subset-at width (dueOf r a) (writtenOf r a) (t .whole) d h)
 
   -- the written set of a, which waits for none and is not done, becomes s
@@ -88,14 +99,23 @@ module _ {first r : Record} (kept : Kept first r) where
     due = kept .due;
     written-size = length-set (r .written) a s ∙ kept .written-size;
     waits = kept .waits;
-    wrote-free = λ x d e. ⊎-elim (λ p. ap (waitingOf r) (p .0) ∙ z) (λ q. kept .wrote-free x d (ap (λ (t : ℕ). bit t d) (sym q) ∙ e)) (entry (r .written) a s x);
+    wrote-free = λ x d e.
+        ⊎-elim (λ p. ap (waitingOf r) (p .0) ∙ z) (λ q. kept .wrote-free x d (ap (λ (t : ℕ). bit t d) (sym q) ∙ e))
+        (entry (r .written) a s x);
     done-free = kept .done-free;
-    done-wrote = λ x d h e u. ⊎-elim (λ p. absurd (f (ap (stateOf r) (sym (p .0)) ∙ e))) (λ q. ap (λ (t : ℕ). bit t d) q ∙ kept .done-wrote x d h e u) (entry (r .written) a s x);
+    done-wrote = λ x d h e u.
+        ⊎-elim
+        (λ p. absurd (f (ap (stateOf r) (sym (p .0)) ∙ e)))
+        (λ q. ap (λ (t : ℕ). bit t d) q ∙ kept .done-wrote x d h e u)
+        (entry (r .written) a s x);
     below = λ x. ⊎-elim (λ p. omega (arith, p .1)) (λ q. omega (arith, q, kept .below x)) (entry (r .written) a s x);
   }
 
   -- the waiting set of b, which has a member, becomes s, and those of its members that are not in s are done
-  waiting-kept : (b s : ℕ) → waitingOf r b ≢ 0 → ((w : ℕ) → w < width → bit (waitingOf r b) w ≡ true → (bit s w ≡ true) ⊎ (stateOf r w ≡ done)) → Kept first (withWaiting r b s)
+  waiting-kept : (b s : ℕ)
+      → waitingOf r b ≢ 0
+      → ((w : ℕ) → w < width → bit (waitingOf r b) w ≡ true → (bit s w ≡ true) ⊎ (stateOf r w ≡ done))
+      → Kept first (withWaiting r b s)
   waiting-kept b s f told = record {
     count = kept .count;
     due = kept .due;
@@ -110,20 +130,30 @@ module _ {first r : Record} (kept : Kept first r) where
       free : (x : ℕ) → waitingOf r x ≡ 0 → getD (set (r .waiting) b s) x 0 ≡ 0
       free x z = ⊎-elim (λ p. absurd (f (ap (waitingOf r) (sym (p .0)) ∙ z))) (λ q. q ∙ z) (entry (r .waiting) b s x)
 
-      still : (x w : ℕ) → w < width → Entry (r .waiting) b s x → bit (waitingOf r x) w ≡ true → (bit (getD (set (r .waiting) b s) x 0) w ≡ true) ⊎ (stateOf r w ≡ done)
-      still x w h (inl p) e = ⊎-elim (λ t. inl (ap (λ (t : ℕ). bit t w) (p .1) ∙ t)) inr (told w h (ap (λ (y : ℕ). bit (waitingOf r y) w) (sym (p .0)) ∙ e))
+      still : (x w : ℕ) → w < width → Entry (r .waiting) b s x → bit (waitingOf r x) w ≡ true
+          → (bit (getD (set (r .waiting) b s) x 0) w ≡ true) ⊎ (stateOf r w ≡ done)
+      still x w h (inl p) e =
+          ⊎-elim (λ t. inl (ap (λ (t : ℕ). bit t w) (p .1) ∙ t)) inr
+          (told w h (ap (λ (y : ℕ). bit (waitingOf r y) w) (sym (p .0)) ∙ e))
       still x w h (inr q) e = inl (ap (λ (t : ℕ). bit t w) q ∙ e)
 
 -- a member of s is one of s without a, or it is a
 removed-cases : (w s a k : ℕ) → k < w → bit s k ≡ true → (bit (removed w s a) k ≡ true) ⊎ (k ≡ a)
-removed-cases w s a k h e = elim (ℕ-discrete k a) [ yes q ↦ inr q | no f ↦ inl (bit-removed w s a k h ∙ rw (e, ne-eqb k a f)) ]
+removed-cases w s a k h e = elim (ℕ-discrete k a) [
+  | yes q ↦ inr q
+  | no f ↦ inl (bit-removed w s a k h ∙ rw (e, ne-eqb k a f))
+]
 
 move-kept : {first r : Record} {kind a b : ℕ} {o : Outcome} → Kept first r → Move r kind a b o → Kept first (o .next)
 move-kept {first} kept (stays e f) = subst (Kept first) (sym e) kept
-move-kept {a} kept (learned k at e) = rw e (state-kept kept a holding (λ q. omega (arith, at .state)) (λ q. absurd (omega arith)))
-move-kept {a} kept (released k at e) = rw e (state-kept kept a ongoing (λ q. omega (arith, at .state)) (λ q. absurd (omega arith)))
+move-kept {a} kept (learned k at e) =
+    rw e (state-kept kept a holding (λ q. omega (arith, at .state)) (λ q. absurd (omega arith)))
+move-kept {a} kept (released k at e) =
+    rw e (state-kept kept a ongoing (λ q. omega (arith, at .state)) (λ q. absurd (omega arith)))
 move-kept {first} {r} {a} {b} kept (wrote k at t e) =
-    let l = added-below width (first .n) (writtenOf r a) b (omega (arith, kept .count, at .most)) (kept .below a) (omega (arith, kept .count, t .inside)) in
+    let most : first .n ≤ width = omega (arith, kept .count, at .most) in
+    let inside : b < first .n = omega (arith, kept .count, t .inside) in
+    let l = added-below width (first .n) (writtenOf r a) b most (kept .below a) inside in
     rw e (written-kept kept a (added width (writtenOf r a) b) (t .free) (λ q. omega (arith, at .state)) l)
 move-kept {a} kept (finished k at t e) = rw e (state-kept kept a done (λ q. omega (arith, at .state)) (λ q. t))
 move-kept {r} {a} {b} kept (delivered k at t e) =
@@ -141,20 +171,30 @@ run-kept first calls s = calls-kept calls (start-kept first s)
 
 -- ---- the written sets, destination by destination
 eqb-swap : (x y : ℕ) → eqb x y ≡ eqb y x
-eqb-swap x y = same-test (eqb x y) (eqb y x) (λ e. eq-eqb y x (sym (eqb-true x y e))) (λ e. eq-eqb x y (sym (eqb-true y x e)))
+eqb-swap x y =
+    same-test (eqb x y) (eqb y x)
+    (λ e. eq-eqb y x (sym (eqb-true x y e)))
+    (λ e. eq-eqb x y (sym (eqb-true y x e)))
 
 module _ {r : Record} {kind a b : ℕ} {o : Outcome} (size : length (r .written) ≡ width) (x d : ℕ) (h : d < width) where
   -- such a write adds d to the written set of x, and no other call does
-  move-written : Move r kind a b o → bit (writtenOf (o .next) x) d ≡ (bit (writtenOf r x) d || isWrite (call kind a b) o x d)
-  move-written (stays e f) = rw (e, f, and-false (eqb kind 3 && (eqb a x && eqb b d)) false refl) (sym (or-none (bit (writtenOf r x) d)))
+  move-written : Move r kind a b o
+      → bit (writtenOf (o .next) x) d ≡ (bit (writtenOf r x) d || isWrite (call kind a b) o x d)
+  move-written (stays e f) =
+      rw (e, f, and-false (eqb kind writeKind && (eqb a x && eqb b d)) false refl)
+      (sym (or-none (bit (writtenOf r x) d)))
   move-written (learned k at e) = rw (k, e) (sym (or-none (bit (writtenOf r x) d)))
   move-written (released k at e) = rw (k, e) (sym (or-none (bit (writtenOf r x) d)))
   move-written (wrote k at t e) = rw (k, e) (by-writer (ℕ-discrete x a))
     where
-      by-writer : Dec (x ≡ a) → bit (getD (set (r .written) a (added width (writtenOf r a) b)) x 0) d ≡ (bit (writtenOf r x) d || ((eqb a x && eqb b d) && true))
+      by-writer : Dec (x ≡ a)
+          → bit (getD (set (r .written) a (added width (writtenOf r a) b)) x 0) d
+          ≡ (bit (writtenOf r x) d || ((eqb a x && eqb b d) && true))
       by-writer (yes q) =
+          let new = added width (writtenOf r a) b in
+          let inside : a < length (r .written) = omega (arith, at .most, at .inside) in
           rw q
-          (ap (λ (s : ℕ). bit s d) (getD-set-same (r .written) a (added width (writtenOf r a) b) 0 (omega (arith, at .most, at .inside)))
+          (ap (λ (s : ℕ). bit s d) (getD-set-same (r .written) a new 0 inside)
           ∙ bit-added width (writtenOf r a) b d h ∙ rw (eq-eqb a a refl, eqb-swap d b, and-one))
       by-writer (no f) =
           ap (λ (s : ℕ). bit s d) (getD-set-other (r .written) a x (added width (writtenOf r a) b) 0 f)
@@ -163,7 +203,9 @@ module _ {r : Record} {kind a b : ℕ} {o : Outcome} (size : length (r .written)
   move-written (delivered k at t e) = rw (k, e) (sym (or-none (bit (writtenOf r x) d)))
 
 module _ {first : Record} (size : length (first .written) ≡ width) (x d : ℕ) (h : d < width) where
-  calls-written : {r : Record} (calls : List Call) → Kept first r → bit (writtenOf (run r calls) x) d ≡ (bit (writtenOf r x) d || hasWritten r calls x d)
+  calls-written : {r : Record} (calls : List Call)
+      → Kept first r
+      → bit (writtenOf (run r calls) x) d ≡ (bit (writtenOf r x) d || hasWritten r calls x d)
   unfolding run hasWritten
   calls-written {r} [] kept = sym (or-none (bit (writtenOf r x) d))
   calls-written {r} (c ∷ cs) kept =
@@ -176,9 +218,12 @@ module _ (first : Record) (calls : List Call) (s : Start first) where
   pub run-bit : (x d : ℕ) → d < width → bit (writtenOf (run first calls) x) d ≡ hasWritten first calls x d
   run-bit x d h = calls-written (s .size) x d h calls (start-kept first s) ∙ rw (s .written x, bit-zero d)
 
-  pub run-written : first .n ≤ width → (x : ℕ) → writtenOf (run first calls) x ≡ setOf (first .n) (hasWritten first calls x)
+  pub run-written : first .n ≤ width
+      → (x : ℕ)
+      → writtenOf (run first calls) x ≡ setOf (first .n) (hasWritten first calls x)
   run-written most x =
-      is-setOf (first .n) (writtenOf (run first calls) x) (hasWritten first calls x) (run-kept first calls s .below x) (λ d h. run-bit x d (omega arith))
+      is-setOf (first .n) (writtenOf (run first calls) x) (hasWritten first calls x)
+      (run-kept first calls s .below x) (λ d h. run-bit x d (omega arith))
 
 -- ---- the fresh record
 pub fresh-start : (n : ℕ) (m l : List ℕ) → Start (fresh n m l)

@@ -1,4 +1,13 @@
-// The words of the machine that code uses: its answers, the states of a router, and the kinds of calls. The machine itself is defined in specs/.
+// The machine of the steps. Here stand the words that code uses: answers, the states of a router, the kinds of calls.
+// The machine itself is a definition, in specs/, in reading order:
+//     Answers      what a call gives: a record and a reply
+//     Machine      Step, for every record and all three bytes: `stepOf`
+//     Run          lists of calls, and what a router has written by them: `run`, `replies`, `hasWritten`
+//     StepLaws     a law for each way that a call can end; the proofs of the crate steps cite them
+//     MoveLaws     the ways in which a call changes the record: `Move`
+//     CallLaws     bytes and the calls that they stand for
+//     RunLaws      what every list of calls keeps: `Kept`; crate loop_free builds on it
+// The code of Step is in the crate steps.
 use area::refusal::Refusal;
 
 pub enum Answer {

@@ -13,20 +13,21 @@ use Rattle.sets.specs.Sets.{bit, setOf}
 use Rattle.ranks.specs.Rank.{rank}
 use Rattle.order.specs.declared.Order.{Order}
 
--- The routers that r waits for. In a rise: those whose old next hops to the root hold r. In a fall: its own new next hops to the root.
-abbrev pub waitingBy : ℕ → ℕ → Bool → (ℕ → ℕ → ℕ) → (ℕ → ℕ → ℕ) → ℕ → ℕ
+-- The routers that r waits for. In a rise: those whose old next hops to the root hold r. In a fall: its own new next
+-- hops to the root.
+abbrev pub waitingBy : (n c : ℕ) (rising : Bool) (o p : ℕ → ℕ → ℕ) (r : ℕ) → ℕ
 waitingBy n c rising o p r = pick rising (setOf n (λ s. bit (o s c) r)) (p r c)
 
 -- The routers that r tells: those that wait for it. w s is the set of routers that s waits for.
-abbrev pub tellingBy : ℕ → (ℕ → ℕ) → ℕ → ℕ
+abbrev pub tellingBy : (n : ℕ) (w : ℕ → ℕ) (r : ℕ) → ℕ
 tellingBy n w r = setOf n (λ s. bit (w s) r)
 
 -- the destinations that are due at r: those to which its next hops change
-abbrev pub dueBy : ℕ → (ℕ → ℕ → ℕ) → (ℕ → ℕ → ℕ) → ℕ → ℕ
+abbrev pub dueBy : (n : ℕ) (o p : ℕ → ℕ → ℕ) (r : ℕ) → ℕ
 dueBy n o p r = setOf n (λ d. not (eqb (o r d) (p r d)))
 
 -- The order by two next-hop tables, as the struct of src/lib.rt: each array is a list.
-unfoldable pub ordered : ℕ → ℕ → Bool → List ℕ → List ℕ → Order
+unfoldable pub ordered : (n c : ℕ) (rising : Bool) (old new : List ℕ) → Order
 ordered n c rising old new =
     record {
       waiting = perRouter width n (waitingBy n c rising (cell width old) (cell width new));
@@ -36,12 +37,17 @@ ordered n c rising old new =
     }
 
 -- 0 for every router
-unfoldable pub nothing : Order
-nothing = record { waiting = replicate width 0; telling = replicate width 0; ranks = replicate width 0; due = replicate width 0 }
+unfoldable pub noOrder : Order
+noOrder = record {
+  waiting = replicate width 0;
+  telling = replicate width 0;
+  ranks = replicate width 0;
+  due = replicate width 0;
+}
 
--- n, the root and the tables are those of an area
-unfoldable pub isOrdered : ℕ → ℕ → List ℕ → List ℕ → Bool
-isOrdered n c old new = leb n width && (ltb c width && (isTable old && isTable new))
+-- The tables can be read for every router and the root: these are below the width, and both tables have their size.
+unfoldable pub isOrderable : (n c : ℕ) (old new : List ℕ) → Bool
+isOrderable n c old new = leb n width && (ltb c width && (isTable old && isTable new))
 
-unfoldable pub orderOf : ℕ → ℕ → Bool → List ℕ → List ℕ → Order
-orderOf n c rising old new = pick (isOrdered n c old new) (ordered n c rising old new) nothing
+unfoldable pub orderOf : (n c : ℕ) (rising : Bool) (old new : List ℕ) → Order
+orderOf n c rising old new = pick (isOrderable n c old new) (ordered n c rising old new) noOrder

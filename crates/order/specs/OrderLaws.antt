@@ -1,8 +1,10 @@
 -- Laws of the order by two next-hop tables.
 --     telling-same, ranks-same         the sets of n routers decide who tells whom, and the ranks
---     order-of, order-none     it is taken from the tables, or nothing, by `isOrdered`
---     order-waiting, order-telling, order-ranks, order-due     its parts, where n, the root and the tables are those of an area
---     ordered-many, ordered-root, ordered-old, ordered-last, ordered-sizes     the tests of `isOrdered`, one after another, and what is known where all hold
+--     order-of, order-none     it is taken from the tables, or nothing, by `isOrderable`
+--     order-waiting, order-telling, order-ranks, order-due     its parts, where n, the root and the tables are those of
+--                                      an area
+--     orderable-many, orderable-root, orderable-old, orderable-last, orderable-sizes       the tests of `isOrderable`,
+--                                      one after another, and what is known where all hold
 use Prim.Native.Nat.{ℕ, _*_, _≤_, _<_}
 use mathlib.Core.Path.{_≡_, refl, ap}
 use mathlib.Core.Bool.{Bool, true, false}
@@ -22,39 +24,43 @@ use Rattle.sets.specs.SetLaws.{setOf-same}
 use Rattle.ranks.specs.Rank.{rank}
 use Rattle.ranks.specs.RankLaws.{rank-same}
 use Rattle.order.specs.declared.Order.{Order}
-use Rattle.order.specs.Order.{waitingBy, tellingBy, dueBy, isOrdered, ordered, nothing, orderOf}
+use Rattle.order.specs.Order.{waitingBy, tellingBy, dueBy, isOrderable, ordered, noOrder, orderOf}
 
 -- ---- what the sets of n routers decide
 module _ (w n : ℕ) (f g : ℕ → ℕ) (most : n ≤ w) (same : (s : ℕ) → s < n → f s ≡ g s) where
   pub telling-same : perRouter w n (tellingBy n f) ≡ perRouter w n (tellingBy n g)
-  telling-same = per-same w n (tellingBy n f) (tellingBy n g) most (λ r a. setOf-same n (λ s. bit (f s) r) (λ s. bit (g s) r) (λ s h. ap (λ (x : ℕ). bit x r) (same s h)))
+  telling-same =
+      per-same w n (tellingBy n f) (tellingBy n g) most
+      (λ r a. setOf-same n (λ s. bit (f s) r) (λ s. bit (g s) r) (λ s h. ap (λ (x : ℕ). bit x r) (same s h)))
 
   pub ranks-same : perRouter w n (rank n f) ≡ perRouter w n (rank n g)
   ranks-same = per-same w n (rank n f) (rank n g) most (rank-same n f g same)
 
 -- ---- the tests, one after another
 module _ (n c : ℕ) (old new : List ℕ) where
-  pub ordered-many : width < n → isOrdered n c old new ≡ false
-  unfolding isOrdered
-  ordered-many a = rw (lt-leb n width a) refl
+  pub orderable-many : width < n → isOrderable n c old new ≡ false
+  unfolding isOrderable
+  orderable-many a = rw (lt-leb n width a) refl
 
   module _ (a : n ≤ width) where
-    pub ordered-root : width ≤ c → isOrdered n c old new ≡ false
-    unfolding isOrdered
-    ordered-root b = rw (le-leb n width a, le-ltb c width b) refl
+    pub orderable-root : width ≤ c → isOrderable n c old new ≡ false
+    unfolding isOrderable
+    orderable-root b = rw (le-leb n width a, le-ltb c width b) refl
 
     module _ (b : c < width) where
-      pub ordered-old : length old ≢ width * width → isOrdered n c old new ≡ false
-      unfolding isOrdered
-      ordered-old f = rw (le-leb n width a, lt-ltb c width b, table-false old f) refl
+      pub orderable-old : length old ≢ width * width → isOrderable n c old new ≡ false
+      unfolding isOrderable
+      orderable-old f = rw (le-leb n width a, lt-ltb c width b, table-false old f) refl
 
-      pub ordered-last : length old ≡ width * width → isOrdered n c old new ≡ eqb (length new) (width * width)
-      unfolding isOrdered
-      ordered-last e = rw (le-leb n width a, lt-ltb c width b, table-true old e, table-is new) refl
+      pub orderable-last : length old ≡ width * width → isOrderable n c old new ≡ eqb (length new) (width * width)
+      unfolding isOrderable
+      orderable-last e = rw (le-leb n width a, lt-ltb c width b, table-true old e, table-is new) refl
 
-  pub ordered-sizes : isOrdered n c old new ≡ true → (n ≤ width) × (c < width) × (length old ≡ width * width) × (length new ≡ width * width)
-  unfolding isOrdered
-  ordered-sizes e =
+  pub orderable-sizes :
+      isOrderable n c old new ≡ true
+      → (n ≤ width) × (c < width) × (length old ≡ width * width) × (length new ≡ width * width)
+  unfolding isOrderable
+  orderable-sizes e =
       let p = both-true (leb n width) _ e in
       let q = both-true (ltb c width) _ (p .1) in
       let r = both-true (isTable old) (isTable new) (q .1) in
@@ -62,31 +68,40 @@ module _ (n c : ℕ) (old new : List ℕ) where
 
   -- ---- the order where they hold, and where one does not
   module _ (rising : Bool) where
-    pub order-of : isOrdered n c old new ≡ true → orderOf n c rising old new ≡ ordered n c rising old new
+    pub order-of : isOrderable n c old new ≡ true → orderOf n c rising old new ≡ ordered n c rising old new
     unfolding orderOf
     order-of e = rw e refl
 
-    pub order-none : isOrdered n c old new ≡ false → orderOf n c rising old new ≡ nothing
+    pub order-none : isOrderable n c old new ≡ false → orderOf n c rising old new ≡ noOrder
     unfolding orderOf
     order-none e = rw e refl
 
-    module _ (a : n ≤ width) (b : c < width) (x : length old ≡ width * width) (y : length new ≡ width * width) where
+    module _
+        (a : n ≤ width) (b : c < width) (x : length old ≡ width * width) (y : length new ≡ width * width) where
       order-is : orderOf n c rising old new ≡ ordered n c rising old new
-      unfolding isOrdered
+      unfolding isOrderable
       order-is = order-of (rw (le-leb n width a, lt-ltb c width b, table-true old x) (table-true new y))
 
-      pub order-waiting : orderOf n c rising old new .waiting ≡ perRouter width n (waitingBy n c rising (cell width old) (cell width new))
+      pub order-waiting :
+          orderOf n c rising old new .waiting
+          ≡ perRouter width n (waitingBy n c rising (cell width old) (cell width new))
       unfolding ordered
       order-waiting = ap (λ (o : Order). o .waiting) order-is
 
-      pub order-telling : orderOf n c rising old new .telling ≡ perRouter width n (tellingBy n (waitingBy n c rising (cell width old) (cell width new)))
+      pub order-telling :
+          orderOf n c rising old new .telling
+          ≡ perRouter width n (tellingBy n (waitingBy n c rising (cell width old) (cell width new)))
       unfolding ordered
       order-telling = ap (λ (o : Order). o .telling) order-is
 
-      pub order-ranks : orderOf n c rising old new .ranks ≡ perRouter width n (rank n (waitingBy n c rising (cell width old) (cell width new)))
+      pub order-ranks :
+          orderOf n c rising old new .ranks
+          ≡ perRouter width n (rank n (waitingBy n c rising (cell width old) (cell width new)))
       unfolding ordered
       order-ranks = ap (λ (o : Order). o .ranks) order-is
 
-      pub order-due : orderOf n c rising old new .due ≡ perRouter width n (dueBy n (cell width old) (cell width new))
+      pub order-due :
+          orderOf n c rising old new .due
+          ≡ perRouter width n (dueBy n (cell width old) (cell width new))
       unfolding ordered
       order-due = ap (λ (o : Order). o .due) order-is

@@ -1,4 +1,5 @@
-// What is due: the destinations to which next hops change. `old` and `new` are the next-hop tables of the two topologies.
+// What is due: the destinations to which next hops change. `old` and `new` are the next-hop tables of the two
+// topologies.
 use area::limits::WIDTH;
 use sets::add;
 ghost use mathlib.Core.Path.{_≡_};

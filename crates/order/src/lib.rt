@@ -1,4 +1,10 @@
 // Who waits for whom, who tells whom, ranks, and what is due, from the next hops before a change and after it.
+//     order_of    all of it, for every input
+//     ordered     the same, from tables that can be read
+//     waiting     the waiting sets, and from them the telling sets (`converse`)
+//     due         the destinations that are due
+// Ranks are found by crate ranks. What is promised is specs/Order.antt; proofs/Converse.antt says why the table of
+// waiting sets is all that telling sets and ranks need.
 mod due;
 mod waiting;
 
@@ -8,7 +14,7 @@ ghost use mathlib.Core.Path.{_≡_};
 ghost use Prim.Native.Nat.{_≤_, _<_, _*_};
 ghost use lib.ListN.{length};
 ghost use Rattle.area.specs.Limits.{width};
-ghost use Rattle.order.specs.Order.{isOrdered, ordered, nothing, orderOf};
+ghost use Rattle.order.specs.Order.{isOrderable, ordered, noOrder, orderOf};
 
 // Entry r of each table belongs to router r, and is 0 from n on.
 pub struct Order {
@@ -18,19 +24,20 @@ pub struct Order {
     pub due: [u32; WIDTH],
 }
 
-// The order of a change: `old` and `new` are the next-hop tables of the two topologies. All is 0 where n, the root or a table is not one of an area.
+// The order of a change: `old` and `new` are the next-hop tables of the two topologies. All is 0 where n, the root or a
+// table is not one of an area.
 pub fn order_of(n: usize, root: usize, rising: bool, old: &[u32], new: &[u32]) -> Order
-    ensures { λ r. ⌜ r ≡ orderOf n root rising (now (old .entry)) (now (new .entry)) ⌝ }
+    ensures order { λ r. ⌜ r ≡ orderOf n root rising (now (old .entry)) (now (new .entry)) ⌝ }
 {
-    if !is_ordered(n, root, old, new) {
-        return nothing();
+    if !is_orderable(n, root, old, new) {
+        return no_order();
     }
     ordered(n, root, rising, old, new)
 }
 
 // Are there at most WIDTH routers, is the root below WIDTH, and has each table its size?
-fn is_ordered(n: usize, root: usize, old: &[u32], new: &[u32]) -> bool
-    ensures { λ r. ⌜ r ≡ isOrdered n root (now (old .entry)) (now (new .entry)) ⌝ }
+fn is_orderable(n: usize, root: usize, old: &[u32], new: &[u32]) -> bool
+    ensures { λ r. ⌜ r ≡ isOrderable n root (now (old .entry)) (now (new .entry)) ⌝ }
 {
     if WIDTH < n {
         return false;
@@ -45,8 +52,8 @@ fn is_ordered(n: usize, root: usize, old: &[u32], new: &[u32]) -> bool
 }
 
 // No router waits, tells or has anything due.
-fn nothing() -> Order
-    ensures { λ r. ⌜ r ≡ nothing ⌝ }
+fn no_order() -> Order
+    ensures { λ r. ⌜ r ≡ noOrder ⌝ }
 {
     Order {
         waiting: [0; WIDTH],
@@ -56,6 +63,7 @@ fn nothing() -> Order
     }
 }
 
+// The order by tables of this size.
 fn ordered(n: usize, root: usize, rising: bool, old: &[u32], new: &[u32]) -> Order
     requires { ⌜ (n ≤ width) × (root < width) ⌝ }
     requires { ⌜ (length (now old) ≡ width * width) × (length (now new) ≡ width * width) ⌝ }

@@ -9,11 +9,14 @@ ghost use Rattle.area.specs.Limits.{width};
 ghost use Rattle.area.specs.Tables.{cell, perRouter};
 ghost use Rattle.order.specs.Order.{waitingBy, tellingBy};
 
-// The routers that each waits for: in a rise those for which it is an old next hop to the root, in a fall its own new next hops to the root.
+// The routers that each waits for: in a rise those for which it is an old next hop to the root, in a fall its own new
+// next hops to the root.
 pub(crate) fn waiting(n: usize, root: usize, rising: bool, old: &[u32], new: &[u32]) -> [u32; WIDTH]
     requires { ⌜ (n ≤ width) × (root < width) ⌝ }
     requires { ⌜ (length (now old) ≡ width * width) × (length (now new) ≡ width * width) ⌝ }
-    ensures { λ w. ⌜ w ≡ perRouter width n (waitingBy n root rising (cell width (now (old .entry))) (cell width (now (new .entry)))) ⌝ }
+    ensures { λ w. ⌜
+        w ≡ perRouter width n
+        (waitingBy n root rising (cell width (now (old .entry))) (cell width (now (new .entry)))) ⌝ }
 {
     if rising {
         converse(n, toward(n, root, old))

@@ -1,4 +1,10 @@
-// Distances and next hops of one topology, by the metrics of its links.
+// Paths: distances and next hops of one topology, by the metrics of its links.
+//     paths        the refusals in their order, and then both tables
+//     is_area      the refusals that ask for no tables, for a caller that has lent none yet
+//     fill         both tables, the rows of one source at a time, each by crate search
+//     are_valid    are the metrics such as Paths takes? (metrics.rt)
+// What it promises is specs/Paths.antt; that a cell is then the least sum of a walk, and a set all next hops of equal
+// cost, is at the end of specs/PathsLaws.antt.
 mod metrics;
 
 use area::limits::CELLS;
@@ -12,13 +18,20 @@ ghost use lib.ListN.{length};
 ghost use Rattle.area.specs.Limits.{width};
 ghost use Rattle.area.specs.Refusals.{verdictNumber};
 ghost use Rattle.area.specs.Tables.{tabulate};
-ghost use Rattle.topology.specs.Paths.{isArea, refusalOf, distancesOf, hopsOf, distanceCell, hopCell};
+ghost use Rattle.paths.specs.Paths.{isArea, pathsRefusal, distancesOf, hopsOf};
+ghost use Rattle.topology.specs.Cells.{distanceCell, hopCell};
 
 // Paths: the distance and the next-hop set of every ordered pair of the n routers, or a refusal that writes no cell.
 pub fn paths(n: usize, metric: &[u32], dist: &mut [u32], hops: &mut [u32]) -> Verdict
-    ensures answer { λ r. ⌜ verdictNumber r ≡ refusalOf n (now (metric .entry)) (now (dist .entry)) (now (hops .entry)) ⌝ }
-    ensures distances { λ _. ⌜ now (dist .exit) ≡ distancesOf n (now (metric .entry)) (now (dist .entry)) (now (hops .entry)) ⌝ }
-    ensures hops { λ _. ⌜ now (hops .exit) ≡ hopsOf n (now (metric .entry)) (now (dist .entry)) (now (hops .entry)) ⌝ }
+    ensures answer { λ r. ⌜
+        verdictNumber r
+        ≡ pathsRefusal n (now (metric .entry)) (now (dist .entry)) (now (hops .entry)) ⌝ }
+    ensures distances { λ _. ⌜
+        now (dist .exit)
+        ≡ distancesOf n (now (metric .entry)) (now (dist .entry)) (now (hops .entry)) ⌝ }
+    ensures hops { λ _. ⌜
+        now (hops .exit)
+        ≡ hopsOf n (now (metric .entry)) (now (dist .entry)) (now (hops .entry)) ⌝ }
 {
     if n < 1 {
         return Verdict::Refused(Refusal::RouterCount);
@@ -42,9 +55,10 @@ pub fn paths(n: usize, metric: &[u32], dist: &mut [u32], hops: &mut [u32]) -> Ve
     Verdict::Accepted
 }
 
-// Are these n routers with a metric table of the right size and valid metrics? Where they are, Paths refuses no tables of the right size.
+// Are these n routers with a metric table of the right size and valid metrics? Where they are, Paths refuses no tables
+// of the right size.
 pub fn is_area(n: usize, metric: &[u32]) -> bool
-    ensures { λ r. ⌜ r ≡ isArea n (now (metric .entry)) ⌝ }
+    ensures answer { λ r. ⌜ r ≡ isArea n (now (metric .entry)) ⌝ }
 {
     if n < 1 {
         return false;

@@ -2,13 +2,10 @@
 use area::limits::UNUSED;
 use area::limits::WIDTH;
 ghost use mathlib.Core.Path.{_≡_};
-ghost use mathlib.Core.Bool.{_||_};
 ghost use Prim.Native.Nat.{_<_, _≤_, _*_};
-ghost use lib.Dec.{eqb};
 ghost use lib.ListN.{length};
 ghost use Rattle.area.specs.Limits.{width};
-ghost use Rattle.area.specs.Tests.{all};
-ghost use Rattle.topology.specs.Paths.{isMetric, areMetrics};
+ghost use Rattle.paths.specs.Paths.{areMetricsFrom, areMetrics};
 
 // Is the metric of every ordered pair of different routers 1 to 16,777,215?
 pub(crate) fn are_valid(n: usize, metric: &[u32]) -> bool
@@ -26,7 +23,7 @@ pub(crate) fn are_valid(n: usize, metric: &[u32]) -> bool
 // The same of the links from router i.
 fn is_valid_row(n: usize, metric: &[u32], i: usize) -> bool
     requires { ⌜ (n ≤ width) × (i < n) × (length (now metric) ≡ width * width) ⌝ }
-    ensures { λ r. ⌜ r ≡ all n (λ j. eqb j i || isMetric (now (metric .entry)) i j) ⌝ }
+    ensures { λ r. ⌜ r ≡ areMetricsFrom n (now (metric .entry)) i ⌝ }
 {
     for j in 0..n {
         if j != i {

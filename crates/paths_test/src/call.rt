@@ -1,8 +1,8 @@
 // Calls of Paths. The first number of a case is n, and its mark says what is shown of the call.
 use crate::show;
+use cases::metrics;
 use cases::print;
 use cases::read;
-use cases::tables;
 
 // What the two tables hold before a call: numbers that no call writes.
 pub const OLD_DISTANCE: u32 = 777777777;
@@ -12,7 +12,7 @@ pub const OLD_SET: u32 = 888888888;
 // Paths, or with the mark i the test of n and the metrics alone.
 pub fn run(case: &[u8]) {
     let mut metric = [0; 1025];
-    tables::fill(&mut metric, case);
+    metrics::fill(&mut metric, case);
     if read::mark(case, 0) == b'i' {
         area(case, &metric);
     } else {
@@ -22,7 +22,7 @@ pub fn run(case: &[u8]) {
 
 fn area(case: &[u8], metric: &[u32; 1025]) {
     let all = &metric[..];
-    let cells = read::size(case, 0);
+    let cells = read::size(case, 0, all.len());
     if paths::is_area(read::number(case, 0) as usize, &all[0..cells]) {
         print::text(b" area\n");
     } else {
@@ -30,17 +30,27 @@ fn area(case: &[u8], metric: &[u32; 1025]) {
     }
 }
 
-// A call with the first cells of longer tables, so that a table can be one cell too short or too long.
 fn paths(case: &[u8], metric: &[u32; 1025]) {
     let mut dist = [OLD_DISTANCE; 1025];
     let mut hops = [OLD_SET; 1025];
-    let all = &metric[..];
     let n = read::number(case, 0) as usize;
-    let cells = read::size(case, 0);
-    let distances = read::size(case, 1);
-    let sets = read::size(case, 2);
-    let v = paths::paths(n, &all[0..cells], &mut dist[..distances], &mut hops[..sets]);
-    print::text(b": ");
-    print::number(v.number() as u64);
+    let answer = lend(case, n, metric, &mut dist, &mut hops);
+    print::form(b": #", &[answer as u64]);
     show::call(case, n, &dist, &hops);
+}
+
+// A call with the first cells of longer tables, so that a table can be one cell too short or too long.
+// Gives the number of the verdict.
+fn lend(case: &[u8], n: usize, metric: &[u32; 1025], dist: &mut [u32], hops: &mut [u32]) -> u8 {
+    let all = &metric[..];
+    let cells = read::size(case, 0, all.len());
+    let distances = read::size(case, 1, dist.len());
+    let sets = read::size(case, 2, hops.len());
+    let v = paths::paths(
+        n,
+        &all[0..cells],
+        &mut dist[0..distances],
+        &mut hops[0..sets],
+    );
+    v.number()
 }

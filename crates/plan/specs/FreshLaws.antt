@@ -1,8 +1,10 @@
 -- What the layer above knows of an input that is planned, and of the record that it starts from.
 --     plan-root, plan-fall, plan-not-both      the root is a router; a plan is a rise or a fall, and not both
---     plan-differs, plan-larger, plan-smaller      metrics differ only in pairs with the root as an end, and all the same way
+--     plan-differs, plan-larger, plan-smaller      metrics differ only in pairs with the root as an end, and all the
+--                                              same way
 --     plan-elsewhere, plan-rises, plan-falls   the same of the two topologies
---     fresh-count, fresh-size, fresh-rank, fresh-waiting, fresh-telling, fresh-due, fresh-state, fresh-written, fresh-beyond       the fresh record's entries
+--     fresh-count, fresh-size, fresh-rank, fresh-waiting, fresh-telling, fresh-due, fresh-state, fresh-written,
+--     fresh-beyond                             the fresh record's entries
 use Prim.Native.Nat.{ℕ, _≤_, _<_}
 use mathlib.Core.Path.{_≡_, refl, sym, _∙_}
 use mathlib.Core.Bool.{true, false, false≢true}
@@ -23,7 +25,8 @@ use Rattle.changes.specs.RootLaws.{root-in}
 use Rattle.plan.specs.NewMetrics.{newMetrics}
 use Rattle.plan.specs.Waiting.{waiting, telling, due}
 use Rattle.plan.specs.Plan.{fresh}
-use Rattle.plan.specs.MetricLaws.{differs-common, differs-rise, differs-fall, topology-elsewhere, topology-rise, topology-fall}
+use Rattle.plan.specs.MetricLaws.{differs-common, differs-rise, differs-fall}
+use Rattle.plan.specs.MetricLaws.{topology-elsewhere, topology-rise, topology-fall}
 use Rattle.plan.specs.PlanLaws.{Plan}
 
 module _ (n : ℕ) (m l : List ℕ) (p : Plan n m l) where
@@ -35,10 +38,18 @@ module _ (n : ℕ) (m l : List ℕ) (p : Plan n m l) where
 
   -- the first change cannot go both ways
   pub plan-not-both : isRise m l ≡ true → isFall m l ≡ false
-  plan-not-both r = ⊎-elim (λ t. absurd (let a = rise-at m l 0 (p .some) r in let b = fall-at m l 0 (p .some) t in let x : ⊥ = omega arith in x)) (λ f. f) (look (isFall m l))
+  plan-not-both r = ⊎-elim (λ t. absurd (both t)) (λ f. f) (look (isFall m l))
+    where
+      both : isFall m l ≡ true → ⊥
+      both t =
+          let a = rise-at m l 0 (p .some) r in
+          let b = fall-at m l 0 (p .some) t in
+          omega arith
 
   -- ---- the metrics of two different routers
-  module _ (i j : ℕ) (a : i < n) (b : j < n) (f : i ≢ j) (d : cell width (newMetrics n m l) i j ≢ cell width m i j) where
+  module _
+      (i j : ℕ) (a : i < n) (b : j < n) (f : i ≢ j)
+      (d : cell width (newMetrics n m l) i j ≢ cell width m i j) where
     pub plan-differs : (i ≡ root l) ⊎ (j ≡ root l)
     plan-differs = differs-common n m l (p .ready .most) (root l) (p .common) i j a b f d
 
@@ -95,7 +106,16 @@ module _ (n : ℕ) (m l : List ℕ) where
   fresh-written = zeros-at width
 
   -- from n on there is nothing
-  pub fresh-beyond : (r : ℕ) → r < width → n ≤ r → (getD (fresh n m l .ranks) r 0 ≡ 0) × (getD (fresh n m l .waiting) r 0 ≡ 0) × (getD (fresh n m l .telling) r 0 ≡ 0) × (getD (fresh n m l .due) r 0 ≡ 0)
+  pub fresh-beyond :
+      (r : ℕ) → r < width → n ≤ r
+      → (getD (fresh n m l .ranks) r 0 ≡ 0)
+      × (getD (fresh n m l .waiting) r 0 ≡ 0)
+      × (getD (fresh n m l .telling) r 0 ≡ 0)
+      × (getD (fresh n m l .due) r 0 ≡ 0)
   unfolding fresh
-  fresh-beyond r b h =
-      (per-beyond width n (rank n (waiting n m l)) r h b, per-beyond width n (waiting n m l) r h b, per-beyond width n (telling n m l) r h b, per-beyond width n (due n m l) r h b)
+  fresh-beyond r b h = (
+    per-beyond width n (rank n (waiting n m l)) r h b,
+    per-beyond width n (waiting n m l) r h b,
+    per-beyond width n (telling n m l) r h b,
+    per-beyond width n (due n m l) r h b,
+  )

@@ -6,3 +6,4 @@ pub mod MetricLaws
 pub mod WaitingLaws
 pub mod PlanLaws
 pub mod FreshLaws
+pub mod Parts

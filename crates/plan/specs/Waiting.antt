@@ -1,4 +1,5 @@
--- Who waits for whom, who tells whom, and what is due (01, "The plan"), in an area of n routers with the old metrics m and the change list l.
+-- Who waits for whom, who tells whom, and what is due (01, "The plan"), in an area of n routers with the old metrics m
+-- and the change list l.
 use Prim.Native.Nat.{ℕ}
 use mathlib.Core.List.{List}
 use Rattle.area.specs.Limits.{width}
@@ -10,18 +11,19 @@ use Rattle.changes.specs.Root.{root}
 use Rattle.plan.specs.NewMetrics.{newMetrics}
 
 -- the next hops from i to j before the change, and after it
-unfoldable pub oldHops : ℕ → List ℕ → ℕ → ℕ → ℕ
+unfoldable pub oldHops : (n : ℕ) (m : List ℕ) (i j : ℕ) → ℕ
 oldHops n m i j = nextHops width n (topology n m) i j
 
-unfoldable pub newHops : ℕ → List ℕ → List ℕ → ℕ → ℕ → ℕ
+unfoldable pub newHops : (n : ℕ) (m l : List ℕ) (i j : ℕ) → ℕ
 newHops n m l i j = nextHops width n (topology n (newMetrics n m l)) i j
 
--- The routers that r waits for, those that it tells, and the destinations that are due at it: `order` defines them by next hops.
-unfoldable pub waiting : ℕ → List ℕ → List ℕ → ℕ → ℕ
+-- The routers that r waits for, those that it tells, and the destinations that are due at it: crate order defines them
+-- by next hops.
+unfoldable pub waiting : (n : ℕ) (m l : List ℕ) (r : ℕ) → ℕ
 waiting n m l r = waitingBy n (root l) (isRise m l) (oldHops n m) (newHops n m l) r
 
-unfoldable pub telling : ℕ → List ℕ → List ℕ → ℕ → ℕ
+unfoldable pub telling : (n : ℕ) (m l : List ℕ) (r : ℕ) → ℕ
 telling n m l r = tellingBy n (waiting n m l) r
 
-unfoldable pub due : ℕ → List ℕ → List ℕ → ℕ → ℕ
+unfoldable pub due : (n : ℕ) (m l : List ℕ) (r : ℕ) → ℕ
 due n m l r = dueBy n (oldHops n m) (newHops n m l) r

@@ -2,8 +2,11 @@
 --     old-next, new-next           the members of the old and the new hop sets are the next hops
 --     waits-rise, waits-fall       whom a router waits for, by next hops towards the root
 --     tells-waits, waits-inside    telling is waiting seen from the other end; both ends are routers of the area
---     waiting-distinct, waiting-rank, waiting-less     waiting never goes round in a circle, so ranks are over chains of any length, and a router ranks above those it waits for
+--     waiting-distinct, waiting-rank, waiting-less     waiting never goes round in a circle, so ranks are over chains
+--                                  of any length, and a router ranks above those it waits for
 --     due-at                       what is due, destination by destination
+-- In a rise a router waits for those farther from the root in the old topology, in a fall for those nearer to it in the
+-- new one. So a distance to the root bounds every chain of waiting, and the laws of ranks apply.
 use Prim.Native.Nat.{ℕ, _-_, _≤_, _<_}
 use mathlib.Core.Path.{_≡_, refl, sym, _∙_}
 use mathlib.Core.Bool.{Bool, true, false, not}
@@ -23,7 +26,7 @@ use Rattle.topology.specs.Distance.{distance}
 use Rattle.topology.specs.DistanceLaws.{distance-top}
 use Rattle.topology.specs.NextHops.{nextHops, Next}
 use Rattle.topology.specs.NextHopLaws.{bit-next, next-set, next-nearer}
-use Rattle.topology.specs.Pigeonhole.{Distinct}
+use Rattle.area.specs.Lists.{Distinct}
 use Rattle.ranks.specs.Rank.{Chain, routers, rank, IsRank}
 use Rattle.ranks.specs.RankLaws.{chain-distinct, rank-is, rank-less}
 use Rattle.changes.specs.Changes.{isRise}
@@ -33,7 +36,10 @@ use Rattle.plan.specs.Waiting.{oldHops, newHops, waiting, telling, due}
 
 -- the members of a set, where the test holds of none beyond its width
 set-is : (w : ℕ) (p : ℕ → Bool) (k : ℕ) → (p k ≡ true → k < w) → (bit (setOf w p) k ≡ true) ↔ (p k ≡ true)
-set-is w p k inside = ((λ e. sym (bit-setOf w p k (bit-lt w (setOf w p) k (setOf-lt w p) e)) ∙ e), (λ e. bit-setOf w p k (inside e) ∙ e))
+set-is w p k inside = (
+  (λ e. sym (bit-setOf w p k (bit-lt w (setOf w p) k (setOf-lt w p) e)) ∙ e),
+  (λ e. bit-setOf w p k (inside e) ∙ e),
+)
 
 -- ---- next hops in one topology
 module _ (n : ℕ) (m : List ℕ) (most : n ≤ width) where
@@ -42,7 +48,10 @@ module _ (n : ℕ) (m : List ℕ) (most : n ≤ width) where
 
   -- a next hop is below n, so no set is too narrow for it
   hops-next : (i j k : ℕ) → (bit (nextHops width n (topology n m) i j) k ≡ true) ↔ Next n (topology n m) i j k
-  hops-next i j k = (bit-next width n (topology n m) i j k, (λ x. next-set width (omega (arith, next-inside i j k x .1)) x))
+  hops-next i j k = (
+    bit-next width n (topology n m) i j k,
+    (λ x. next-set width (omega (arith, next-inside i j k x .1)) x),
+  )
 
 module _ (n : ℕ) (m l : List ℕ) (most : n ≤ width) where
   pub old-next : (i j k : ℕ) → (bit (oldHops n m i j) k ≡ true) ↔ Next n (topology n m) i j k
@@ -55,14 +64,20 @@ module _ (n : ℕ) (m l : List ℕ) (most : n ≤ width) where
 
   -- ---- who waits for whom
   -- in a rise r waits for s exactly if r is a next hop from s to the root in the old topology
-  pub waits-rise : isRise m l ≡ true → (r s : ℕ) → (bit (waiting n m l r) s ≡ true) ↔ Next n (topology n m) s (root l) r
+  pub waits-rise :
+      isRise m l ≡ true
+      → (r s : ℕ) → (bit (waiting n m l r) s ≡ true) ↔ Next n (topology n m) s (root l) r
   unfolding waiting
   waits-rise rise r s =
       let o = old-next s (root l) r in
-      rw rise (Iff·trans (set-is n (λ s. bit (oldHops n m s (root l)) r) s (λ e. next-inside n m most s (root l) r (o .0 e) .0)) o)
+      let inside : bit (oldHops n m s (root l)) r ≡ true → s < n =
+      λ e. next-inside n m most s (root l) r (o .0 e) .0 in
+      rw rise (Iff·trans (set-is n (λ s. bit (oldHops n m s (root l)) r) s inside) o)
 
   -- otherwise, in a fall, exactly if s is a next hop from r to the root in the new one
-  pub waits-fall : isRise m l ≡ false → (r s : ℕ) → (bit (waiting n m l r) s ≡ true) ↔ Next n (topology n (newMetrics n m l)) r (root l) s
+  pub waits-fall :
+      isRise m l ≡ false
+      → (r s : ℕ) → (bit (waiting n m l r) s ≡ true) ↔ Next n (topology n (newMetrics n m l)) r (root l) s
   unfolding waiting
   waits-fall fall r s = rw fall (new-next r (root l) s)
 
@@ -80,11 +95,17 @@ module _ (n : ℕ) (m l : List ℕ) (most : n ≤ width) where
   -- ---- ranks
   -- Waiting goes away from the root in a rise, and towards it in a fall: in both it comes down in this measure.
   abbrev measure : ℕ → ℕ
-  measure r = pick (isRise m l) (unreached - distance n (topology n m) r (root l)) (distance n (topology n (newMetrics n m l)) r (root l))
+  measure r =
+      pick (isRise m l)
+      (unreached - distance n (topology n m) r (root l))
+      (distance n (topology n (newMetrics n m l)) r (root l))
 
   waits-down : (r s : ℕ) → bit (waiting n m l r) s ≡ true → measure s < measure r
   waits-down r s e =
-      ⊎-elim (λ t. rw t (omega (arith, next-nearer (topology-graph n m most) (waits-rise t r s .0 e), distance-top n (topology n m) s (root l))))
+      ⊎-elim
+      (λ t.
+      let nearer = next-nearer (topology-graph n m most) (waits-rise t r s .0 e) in
+      rw t (omega (arith, nearer, distance-top n (topology n m) s (root l))))
       (λ f. rw f (next-nearer (topology-graph n (newMetrics n m l) most) (waits-fall f r s .0 e)))
       (look (isRise m l))
 
@@ -105,4 +126,6 @@ module _ (n : ℕ) (m l : List ℕ) (most : n ≤ width) where
   due-at r d h =
       let a = oldHops n m r d in
       let b = newHops n m l r d in
-      Iff·trans (set-is n (λ d. not (eqb (oldHops n m r d) (newHops n m l r d))) d (λ e. h)) ((λ e. eqb-false a b (not-true (eqb a b) e)), (λ f. rw (ne-eqb a b f) refl))
+      Iff·trans
+      (set-is n (λ d. not (eqb (oldHops n m r d) (newHops n m l r d))) d (λ e. h))
+      ((λ e. eqb-false a b (not-true (eqb a b) e)), (λ f. rw (ne-eqb a b f) refl))

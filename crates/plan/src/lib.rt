@@ -1,27 +1,31 @@
 // The plan of one change: root, direction, who waits for whom, ranks, and what is due.
+//     plan       Plan: what it refuses, and what it hands back and fills
+//     judging    its refusals, in the order of 01; with them the root and the direction are found
+//     metrics    the metric table after the change
+//     fill       the tables, by Paths over the old metrics and the new ones, and from them the record
+//     fresh      the record, by the order of crate order
+// What Plan promises is specs/Plan.antt, with specs/NewMetrics.antt and specs/Waiting.antt; what the functions below
+// promise to each other is specs/Parts.antt. The argument is in specs/PlanLaws.antt for the refusals, in
+// proofs/Applying.antt for the metrics, in proofs/Filling.antt for the tables and proofs/Recording.antt for the record.
+mod judging;
 mod metrics;
 
 use area::limits::CELLS;
 use area::limits::WIDTH;
-use area::refusal::Refusal;
 use area::refusal::Verdict;
-use changes::Judged;
-use changes::judge;
-use changes::refused;
+use judging::judge;
 use order::order_of;
 use paths::paths;
 ghost use mathlib.Core.Path.{_≡_};
-ghost use mathlib.Core.Bool.{true};
-ghost use Prim.Native.Nat.{_≤_, _<_, _*_};
-ghost use lib.ListN.{length};
+ghost use Prim.Native.Nat.{_≤_, _<_};
 ghost use Rattle.area.specs.Limits.{width};
 ghost use Rattle.area.specs.Refusals.{verdictNumber};
-ghost use Rattle.area.specs.Tests.{pick};
 ghost use Rattle.order.specs.Order.{orderOf};
 ghost use Rattle.changes.specs.Changes.{isRise};
 ghost use Rattle.changes.specs.Root.{root};
-ghost use Rattle.plan.specs.Plan.{tables, areTables, planRefusal, zeros, fresh, blank, filled, recordOf, tablesOf};
+ghost use Rattle.plan.specs.Plan.{asTables, areTables, planRefusal, fresh, blank, filled, recordOf, tablesOf};
 ghost use Rattle.plan.specs.PlanLaws.{Plan, Sized};
+ghost use Rattle.plan.specs.Parts.{started};
 
 // A plan's record. Entry r of a table per router belongs to router r, and is 0 from n on.
 pub struct Record {
@@ -44,7 +48,8 @@ pub struct Planned {
     pub record: Record,
 }
 
-// Plan: the record of a change, with the new metrics and both topologies' distances and next hops, or a refusal that writes no cell.
+// Plan: the record of a change, with the new metrics and both topologies' distances and next hops, or a refusal that
+// writes no cell.
 pub fn plan(
     n: usize,
     old: &[u32],
@@ -55,12 +60,28 @@ pub fn plan(
     old_hops: &mut [u32],
     new_hops: &mut [u32],
 ) -> Planned
-    ensures answer { λ r. ⌜ verdictNumber (r .answer) ≡ planRefusal n (now (old .entry)) (now (list .entry)) (areTables (now (old .entry)) (tables (now (new .entry)) (now («old_dist» .entry)) (now («new_dist» .entry)) (now («old_hops» .entry)) (now («new_hops» .entry)))) ⌝ }
-    ensures record { λ r. ⌜ r .record ≡ recordOf n (now (old .entry)) (now (list .entry)) (tables (now (new .entry)) (now («old_dist» .entry)) (now («new_dist» .entry)) (now («old_hops» .entry)) (now («new_hops» .entry))) ⌝ }
-    ensures tables { λ _. ⌜ tables (now (new .exit)) (now («old_dist» .exit)) (now («new_dist» .exit)) (now («old_hops» .exit)) (now («new_hops» .exit)) ≡ tablesOf n (now (old .entry)) (now (list .entry)) (tables (now (new .entry)) (now («old_dist» .entry)) (now («new_dist» .entry)) (now («old_hops» .entry)) (now («new_hops» .entry))) ⌝ }
+    ensures answer { λ r.
+        let lent = asTables (now (new .entry))
+        (now («old_dist» .entry)) (now («new_dist» .entry))
+        (now («old_hops» .entry)) (now («new_hops» .entry)) in
+        ⌜ verdictNumber (r .answer)
+        ≡ planRefusal n (now (old .entry)) (now (list .entry)) (areTables (now (old .entry)) lent) ⌝ }
+    ensures record { λ r.
+        let lent = asTables (now (new .entry))
+        (now («old_dist» .entry)) (now («new_dist» .entry))
+        (now («old_hops» .entry)) (now («new_hops» .entry)) in
+        ⌜ r .record ≡ recordOf n (now (old .entry)) (now (list .entry)) lent ⌝ }
+    ensures tables { λ _.
+        let lent = asTables (now (new .entry))
+        (now («old_dist» .entry)) (now («new_dist» .entry))
+        (now («old_hops» .entry)) (now («new_hops» .entry)) in
+        let left = asTables (now (new .exit))
+        (now («old_dist» .exit)) (now («new_dist» .exit))
+        (now («old_hops» .exit)) (now («new_hops» .exit)) in
+        ⌜ left ≡ tablesOf n (now (old .entry)) (now (list .entry)) lent ⌝ }
 {
     let sized = are_tables(old, new, old_dist, new_dist, old_hops, new_hops);
-    let judged = input(n, old, list, sized);
+    let judged = judge(n, old, list, sized);
     let answer = judged.answer;
     if !answer.is_accepted() {
         return Planned {
@@ -85,24 +106,6 @@ pub fn plan(
     Planned { answer, record }
 }
 
-// The first refusal of n, the old metric table and the change list, and else the root and the direction. `sized` says that every table has the right size.
-fn input(n: usize, old: &[u32], list: &[u8], sized: bool) -> Judged
-    requires { ⌜ (sized ≡ true → length (now old) ≡ width * width) ⌝ }
-    ensures { λ r. ⌜ verdictNumber (r .answer) ≡ planRefusal n (now (old .entry)) (now (list .entry)) sized ⌝ }
-    ensures { λ r. ⌜ (planRefusal n (now (old .entry)) (now (list .entry)) sized ≡ 0 → (r .root ≡ root (now (list .entry))) × (r .rising ≡ isRise (now (old .entry)) (now (list .entry)))) ⌝ }
-{
-    if n < 1 {
-        return refused(Verdict::Refused(Refusal::RouterCount));
-    }
-    if WIDTH < n {
-        return refused(Verdict::Refused(Refusal::RouterCount));
-    }
-    if !sized {
-        return refused(Verdict::Refused(Refusal::TableSize));
-    }
-    judge(n, old, list)
-}
-
 // The tables and the record of an input that is planned, with the root c.
 fn fill(
     n: usize,
@@ -118,9 +121,15 @@ fn fill(
 ) -> Record
     requires { ⌜ Plan n (now old) (now list) ⌝ }
     requires { ⌜ (c ≡ root (now list)) × (rising ≡ isRise (now old) (now list)) ⌝ }
-    requires { ⌜ Sized (now old) (tables (now new) (now «old_dist») (now «new_dist») (now «old_hops») (now «new_hops»)) ⌝ }
+    requires { ⌜
+        Sized (now old)
+        (asTables (now new) (now «old_dist») (now «new_dist») (now «old_hops») (now «new_hops»)) ⌝ }
     ensures { λ r. ⌜ r ≡ fresh n (now (old .entry)) (now (list .entry)) ⌝ }
-    ensures { λ _. ⌜ tables (now (new .exit)) (now («old_dist» .exit)) (now («new_dist» .exit)) (now («old_hops» .exit)) (now («new_hops» .exit)) ≡ filled n (now (old .entry)) (now (list .entry)) ⌝ }
+    ensures { λ _.
+        let left = asTables (now (new .exit))
+        (now («old_dist» .exit)) (now («new_dist» .exit))
+        (now («old_hops» .exit)) (now («new_hops» .exit)) in
+        ⌜ left ≡ filled n (now (old .entry)) (now (list .entry)) ⌝ }
 {
     metrics::apply(n, old, list, new);
     // What was judged is what Paths asks for, so it refuses neither table.
@@ -138,7 +147,11 @@ fn are_tables(
     old_hops: &[u32],
     new_hops: &[u32],
 ) -> bool
-    ensures { λ r. ⌜ r ≡ areTables (now (old .entry)) (tables (now (new .entry)) (now («old_dist» .entry)) (now («new_dist» .entry)) (now («old_hops» .entry)) (now («new_hops» .entry))) ⌝ }
+    ensures { λ r.
+        let lent = asTables (now (new .entry))
+        (now («old_dist» .entry)) (now («new_dist» .entry))
+        (now («old_hops» .entry)) (now («new_hops» .entry)) in
+        ⌜ r ≡ areTables (now (old .entry)) lent ⌝ }
 {
     if old.len() != CELLS {
         return false;
@@ -160,7 +173,7 @@ fn are_tables(
 
 // The record of a plan that was refused: all zeros.
 pub fn blank() -> Record
-    ensures { λ r. ⌜ r ≡ blank ⌝ }
+    ensures zeros { λ r. ⌜ r ≡ blank ⌝ }
 {
     Record {
         n: 0,
@@ -178,7 +191,9 @@ pub fn blank() -> Record
 // The record of a plan that was accepted, before the first step.
 fn fresh(n: usize, root: usize, rising: bool, old_hops: &[u32], new_hops: &[u32]) -> Record
     requires { ⌜ (n ≤ width) × (root < width) ⌝ }
-    ensures { λ r. ⌜ r ≡ record { n = n; root = root; direction = pick rising 1 2; ranks = orderOf n root rising (now («old_hops» .entry)) (now («new_hops» .entry)) .ranks; waiting = orderOf n root rising (now («old_hops» .entry)) (now («new_hops» .entry)) .waiting; telling = orderOf n root rising (now («old_hops» .entry)) (now («new_hops» .entry)) .telling; due = orderOf n root rising (now («old_hops» .entry)) (now («new_hops» .entry)) .due; states = zeros; written = zeros } ⌝ }
+    ensures { λ r. ⌜
+        r ≡ started n root rising
+        (orderOf n root rising (now («old_hops» .entry)) (now («new_hops» .entry))) ⌝ }
 {
     let order = order_of(n, root, rising, old_hops, new_hops);
     Record {

@@ -31,7 +31,7 @@ pub(crate) fn apply(n: usize, old: &[u32], list: &[u8], new: &mut [u32])
 // The old metrics, with `UNUSED` on the diagonal and beyond n.
 fn copy(n: usize, old: &[u32], new: &mut [u32])
     requires { ⌜ (length (now old) ≡ width * width) × (length (now new) ≡ width * width) ⌝ }
-    ensures { λ _. ⌜ now (new .exit) ≡ tabulate width (newCell n (now (old .entry)) [] 0) ⌝ }
+    ensures { λ _. ⌜ now (new .exit) ≡ tabulate width (newCell n (now (old .entry)) []) ⌝ }
 {
     for k in 0..CELLS {
         new[k] = metric_at(n, old, k);
@@ -41,7 +41,7 @@ fn copy(n: usize, old: &[u32], new: &mut [u32])
 // What `copy` puts at place k.
 fn metric_at(n: usize, old: &[u32], k: usize) -> u32
     requires { ⌜ (length (now old) ≡ width * width) × (k < width * width) ⌝ }
-    ensures { λ r. ⌜ r ≡ newCell n (now (old .entry)) [] 0 (k / width) (k % width) ⌝ }
+    ensures { λ r. ⌜ r ≡ newCell n (now (old .entry)) [] (k / width) (k % width) ⌝ }
 {
     let i = k / WIDTH;
     let j = k % WIDTH;

@@ -1,18 +1,24 @@
 // The routers of a fresh record.
 use cases::print;
 use plan::Record;
+ghost use Prim.Native.Nat.{_<_, _≤_};
 
 // A line for each router of the record.
 pub fn routers(n: usize, r: Record) {
-    print::byte(b'\n');
     for k in 0..32 {
-        if k < n {
-            router(k, r.ranks[k], r.waiting[k], r.telling[k], r.due[k]);
-        }
+        router(n, r, k);
     }
 }
 
-fn router(k: usize, rank: u8, waiting: u32, telling: u32, due: u32) {
+fn router(n: usize, r: Record, k: usize)
+    requires { ⌜ k < 32 ⌝ }
+{
+    if k < n {
+        line(k, r.ranks[k], r.waiting[k], r.telling[k], r.due[k]);
+    }
+}
+
+fn line(k: usize, rank: u8, waiting: u32, telling: u32, due: u32) {
     print::form(
         b"router # rank # waits # tells # due #\n",
         &[
@@ -25,22 +31,31 @@ fn router(k: usize, rank: u8, waiting: u32, telling: u32, due: u32) {
     );
 }
 
-// For how many routers the record has what no fresh one has: a state or a written set, and from n on anything.
+// For how many routers the record has what no fresh one has.
 pub fn stray(r: Record) -> u64 {
-    let n = r.n as usize;
     let mut count = 0;
     for k in 0..32 {
-        if is_written(r.states[k], r.written[k])
-            || n <= k && is_known(r.ranks[k], r.waiting[k], r.telling[k], r.due[k])
-        {
-            count += 1;
-        }
+        count += unlike_fresh(r, k);
     }
     count
 }
 
-fn is_written(state: u8, written: u32) -> bool {
-    state != 0 || written != 0
+// 1 where router k has a state or a written set, and from n on anything.
+fn unlike_fresh(r: Record, k: usize) -> u64
+    requires { ⌜ k < 32 ⌝ }
+    ensures { λ c. ⌜ c ≤ 1 ⌝ }
+{
+    if r.states[k] != 0 || r.written[k] != 0 {
+        return 1;
+    }
+    if k < r.n as usize {
+        return 0;
+    }
+    if is_known(r.ranks[k], r.waiting[k], r.telling[k], r.due[k]) {
+        1
+    } else {
+        0
+    }
 }
 
 fn is_known(rank: u8, waiting: u32, telling: u32, due: u32) -> bool {

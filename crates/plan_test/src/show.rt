@@ -27,7 +27,8 @@ pub fn planned(
     }
 }
 
-// The number of the verdict and what the record says of the whole area; then, where Plan accepts, its routers. Does Plan accept?
+// The number of the verdict and what the record says of the whole area; then, where Plan accepts, its routers. Does
+// Plan accept?
 fn record(n: usize, p: Planned) -> bool {
     let v = p.answer;
     let r = p.record;
@@ -45,6 +46,7 @@ fn record(n: usize, p: Planned) -> bool {
     if v.number() != 0 {
         return false;
     }
+    print::byte(b'\n');
     fresh::routers(n, r);
     true
 }
@@ -80,7 +82,7 @@ fn pair(k: usize, old_dist: u32, new_dist: u32, old_hops: u32, new_hops: u32) {
     );
 }
 
-// In how many cells outside the pairs a new metric stands, and a checksum of each table.
+// In how many cells that belong to no link a new metric stands, and a checksum of each table.
 fn checksums(
     n: usize,
     new: &[u32; 1025],
@@ -92,7 +94,7 @@ fn checksums(
     print::form(
         b"metrics # tables # # # # #\n",
         &[
-            metrics(n, new),
+            compare::beyond_links(n, new, 16777215),
             compare::checksum(new),
             compare::checksum(old_dist),
             compare::checksum(new_dist),
@@ -100,24 +102,6 @@ fn checksums(
             compare::checksum(new_hops),
         ],
     );
-}
-
-// How many cells that belong to no pair of the n routers have a metric in them.
-fn metrics(n: usize, table: &[u32; 1025]) -> u64 {
-    let mut count = 0;
-    for k in 0..1024 {
-        if is_metric(n, k, table[k]) {
-            count += 1;
-        }
-    }
-    count
-}
-
-fn is_metric(n: usize, k: usize, m: u32) -> bool {
-    if k / 32 < n && k % 32 < n && k / 32 != k % 32 {
-        return false;
-    }
-    m != 16777215
 }
 
 // How many cells of each table changed.

@@ -1,33 +1,35 @@
 -- Laws of what a bench file gives before its first step.
---     read-passed, file-of         Read and the file, where nothing is refused
---     record-passed, tables-passed         what is handed back and left then
---     changes-within       the changes lie in the file, also where Read refuses
---     refusal-given, record-given, tables-given       Read, and then Plan on what Read gives
+--     read-passed, file-of                             Read and the file, where nothing is refused
+--     record-passed, tables-passed                     what is handed back and left then
+--     changes-within                                   the changes lie in the file, also where Read refuses
+--     refusal-given, record-given, tables-given        Read, and then Plan on what Read gives
+-- Plan gets what Read hands back, whether that refused or not. Where it did not, these are the file's own n, metrics
+-- and changes, and so Plan's answer is the definition's. Where it did, n is 0: Plan refuses too (then-refused), so that
+-- its record is blank and its tables are as they were, as the definition says.
 use Prim.Native.Nat.{ℕ, _+_, _*_, _≤_}
 use mathlib.Core.Path.{_≡_, refl, sym, ap, ap₂, _∙_}
+use mathlib.Core.Bool.{true}
 use mathlib.Core.Logic.{_≢_}
 use mathlib.Core.List.{List}
 use native.Mathlib.Decide.{ℕ-discrete}
 use native.Mathlib.Omega.{arith}
 use borrow.Author.Tests.{eq-eqb, ne-eqb}
-use lib.ListN.{length, take, drop}
+use lib.ListN.{length}
 use Rattle.area.specs.Tests.{orThen}
 use Rattle.area.specs.TestLaws.{then-some, then-none, then-both}
-use Rattle.area.specs.SizeLaws.{count-low}
+use Rattle.area.specs.SizeLaws.{router-count-low}
 use Rattle.plan.specs.declared.Record.{Record}
-use Rattle.plan.specs.Plan.{Tables, areTables, planRefusal, blank, recordOf, tablesOf as fills}
-use Rattle.plan.specs.PlanLaws.{plan-count, planned-true, planned-false, record-planned, record-refused, tables-planned, tables-refused}
-use Rattle.sections.specs.Sections.{routers, changeCount, changesAt, changes}
-use Rattle.sections.specs.FaultLaws.{Accepted}
+use Rattle.plan.specs.Plan.{Tables, areTables, planRefusal, isPlanned, blank, recordOf, tablesOf as fills}
+use Rattle.plan.specs.PlanLaws.{plan-count, planned-true, planned-false}
+use Rattle.plan.specs.PlanLaws.{record-planned, record-refused, tables-planned, tables-refused}
+use Rattle.bench_file.specs.Sections.{routers, changeCount, changesAt, changes}
+use Rattle.bench_file.specs.FaultLaws.{Accepted}
 use Rattle.bench_file.specs.declared.Contents.{Contents}
 use Rattle.bench_file.specs.Read.{readRefusal, contents, contentsOf, metricsOf}
 use Rattle.bench_file.specs.ReadLaws.{contents-accepted, contents-refused, metrics-accepted}
-use Rattle.bench_file.specs.FileLaws.{table-sized, file-passed, file-accepted, contents-n, contents-changes, nothing-n, nothing-changes}
-use Rattle.prepare.specs.Bench.{metrics, refusal, planned, tablesOf, recordAt, tablesAt}
-
--- the part of a file that holds its changes, by what it says of itself
-abbrev pub listed : List ℕ → Contents → List ℕ
-listed f c = take (5 * c .changes .count) (drop (c .changes .at) f)
+use Rattle.bench_file.specs.FileLaws.{table-sized, file-passed, file-accepted}
+use Rattle.bench_file.specs.FileLaws.{contents-n, contents-changes, no-contents-n, no-contents-changes}
+use Rattle.prepare.specs.Bench.{metrics, refusal, planned, filledTables, recordAt, tablesAt, listed}
 
 module _ (f m : List ℕ) where
   -- ---- where Read refuses nothing, and where it refuses
@@ -51,17 +53,20 @@ module _ (f m : List ℕ) where
     old-is = metrics-accepted f m (table-sized f m z) (file-passed f m z)
 
   refused-n : readRefusal f m ≢ 0 → contentsOf f m .n ≡ 0
-  refused-n g = ap (λ (x : Contents). x .n) (contents-refused f m g) ∙ nothing-n
+  refused-n g = ap (λ (x : Contents). x .n) (contents-refused f m g) ∙ no-contents-n
 
-  pub changes-within : (c : Contents) → c ≡ contentsOf f m → c .changes .at + 5 * c .changes .count ≤ length f
+  abbrev Within : (c : Contents) → Type 0
+  Within c = c .changes .at + 5 * c .changes .count ≤ length f
+
+  pub changes-within : (c : Contents) → c ≡ contentsOf f m → Within c
   changes-within c is = rw is (go (ℕ-discrete (readRefusal f m) 0))
     where
-      go : Dec (readRefusal f m ≡ 0) → contentsOf f m .changes .at + 5 * contentsOf f m .changes .count ≤ length f
+      go : Dec (readRefusal f m ≡ 0) → Within (contentsOf f m)
       go (yes z) = omega (arith, starts z, counted z, file-accepted f m z .size)
       go (no g) =
           let at = ap (λ (x : Contents). x .changes .at) (contents-refused f m g) in
           let count = ap (λ (x : Contents). x .changes .count) (contents-refused f m g) in
-          omega (arith, at, count, nothing-changes .0, nothing-changes .1)
+          omega (arith, at, count, no-contents-changes .0, no-contents-changes .1)
 
   module _ (t : Tables) where
     -- ---- where nothing is refused
@@ -80,7 +85,7 @@ module _ (f m : List ℕ) where
       unfolding recordAt
       record-passed = rw (eq-eqb (refusal f m t) 0 z) refl
 
-      pub tables-passed : tablesAt f m t ≡ tablesOf f
+      pub tables-passed : tablesAt f m t ≡ filledTables f
       unfolding tablesAt
       tables-passed = rw (eq-eqb (refusal f m t) 0 z) refl
 
@@ -95,14 +100,24 @@ module _ (f m : List ℕ) where
       tables-kept = rw (ne-eqb (refusal f m t) 0 g) refl
 
     -- ---- Read, and then Plan on what Read gives
+    -- its n, its list, and Plan's refusal
+    abbrev n : ℕ
+    n = contentsOf f m .n
+
+    abbrev list : List ℕ
+    list = listed f (contentsOf f m)
+
     abbrev then : ℕ
-    then = planRefusal (contentsOf f m .n) (metricsOf f m) (listed f (contentsOf f m)) (areTables (metricsOf f m) t)
+    then = planRefusal n (metricsOf f m) list (areTables (metricsOf f m) t)
 
     then-is : readRefusal f m ≡ 0 → then ≡ planRefusal (routers f) (metrics f) (changes f) (areTables (metrics f) t)
     then-is z = rw (n-is z, old-is z, list-is z) refl
 
     then-refused : readRefusal f m ≢ 0 → then ≢ 0
-    then-refused g e = let three = plan-count (contentsOf f m .n) (metricsOf f m) (listed f (contentsOf f m)) (areTables (metricsOf f m) t) (count-low (contentsOf f m .n) (omega (arith, refused-n g))) in omega (arith, three, e)
+    then-refused g e =
+        let none = router-count-low n (omega (arith, refused-n g)) in
+        let three = plan-count n (metricsOf f m) list (areTables (metricsOf f m) t) none in
+        omega (arith, three, e)
 
     refusal-both : orThen (readRefusal f m) then ≡ refusal f m t
     unfolding refusal
@@ -120,31 +135,45 @@ module _ (f m : List ℕ) where
         go (yes z) = g (sym refusal-both ∙ then-none (readRefusal f m) then z ∙ e)
         go (no h) = then-refused h e
 
-    record-both : recordOf (contentsOf f m .n) (metricsOf f m) (listed f (contentsOf f m)) t ≡ recordAt f m t
+    planned-is : refusal f m t ≡ 0 → isPlanned (routers f) (metrics f) (changes f) t ≡ true
+    planned-is z = planned-true (routers f) (metrics f) (changes f) t (both z .1)
+
+    record-both : recordOf n (metricsOf f m) list t ≡ recordAt f m t
     record-both = go (ℕ-discrete (refusal f m t) 0)
       where
-        go : Dec (refusal f m t ≡ 0) → recordOf (contentsOf f m .n) (metricsOf f m) (listed f (contentsOf f m)) t ≡ recordAt f m t
+        go : Dec (refusal f m t ≡ 0) → recordOf n (metricsOf f m) list t ≡ recordAt f m t
         go (yes z) =
-            rw (n-is (read-passed z), old-is (read-passed z), list-is (read-passed z))
-            (record-planned (routers f) (metrics f) (changes f) t (planned-true (routers f) (metrics f) (changes f) t (both z .1)) ∙ sym (record-passed z))
+            let read = read-passed z in
+            let fresh = record-planned (routers f) (metrics f) (changes f) t (planned-is z) in
+            rw (n-is read, old-is read, list-is read) (fresh ∙ sym (record-passed z))
         go (no g) = record-refused _ _ _ t (planned-false _ _ _ t (plan-refused g)) ∙ sym (record-blank g)
 
-    tables-both : fills (contentsOf f m .n) (metricsOf f m) (listed f (contentsOf f m)) t ≡ tablesAt f m t
+    tables-both : fills n (metricsOf f m) list t ≡ tablesAt f m t
     tables-both = go (ℕ-discrete (refusal f m t) 0)
       where
-        go : Dec (refusal f m t ≡ 0) → fills (contentsOf f m .n) (metricsOf f m) (listed f (contentsOf f m)) t ≡ tablesAt f m t
+        go : Dec (refusal f m t ≡ 0) → fills n (metricsOf f m) list t ≡ tablesAt f m t
         go (yes z) =
-            rw (n-is (read-passed z), old-is (read-passed z), list-is (read-passed z))
-            (tables-planned (routers f) (metrics f) (changes f) t (planned-true (routers f) (metrics f) (changes f) t (both z .1)) ∙ sym (tables-passed z))
+            let read = read-passed z in
+            let new = tables-planned (routers f) (metrics f) (changes f) t (planned-is z) in
+            rw (n-is read, old-is read, list-is read) (new ∙ sym (tables-passed z))
         go (no g) = tables-refused _ _ _ t (planned-false _ _ _ t (plan-refused g)) ∙ sym (tables-kept g)
 
     -- c is what Read says of the file, old the table that it leaves, and l the list that Plan gets
-    module _ (c : Contents) (is : c ≡ contentsOf f m) (old : List ℕ) (filled : old ≡ metricsOf f m) (l : List ℕ) (part : l ≡ listed f c) where
-      pub refusal-given : {a b k : ℕ} → a ≡ readRefusal f m → b ≡ planRefusal (c .n) old l (areTables old t) → k ≡ orThen a b → k ≡ refusal f m t
-      refusal-given u v w = w ∙ ap₂ orThen u (rw (part, filled, is) at v) ∙ refusal-both
+    module _
+        (c : Contents) (is : c ≡ contentsOf f m)
+        (old : List ℕ) (filled : old ≡ metricsOf f m)
+        (l : List ℕ) (part : l ≡ listed f c)
+      where
+        pub refusal-given :
+            {a b k : ℕ}
+            → a ≡ readRefusal f m
+            → b ≡ planRefusal (c .n) old l (areTables old t)
+            → k ≡ orThen a b
+            → k ≡ refusal f m t
+        refusal-given u v w = w ∙ ap₂ orThen u (rw (part, filled, is) at v) ∙ refusal-both
 
-      pub record-given : {r : Record} → r ≡ recordOf (c .n) old l t → r ≡ recordAt f m t
-      record-given u = (rw (part, filled, is) at u) ∙ record-both
+        pub record-given : {r : Record} → r ≡ recordOf (c .n) old l t → r ≡ recordAt f m t
+        record-given u = (rw (part, filled, is) at u) ∙ record-both
 
-      pub tables-given : {u : Tables} → u ≡ fills (c .n) old l t → u ≡ tablesAt f m t
-      tables-given u = (rw (part, filled, is) at u) ∙ tables-both
+        pub tables-given : {u : Tables} → u ≡ fills (c .n) old l t → u ≡ tablesAt f m t
+        tables-given u = (rw (part, filled, is) at u) ∙ tables-both

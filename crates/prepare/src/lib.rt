@@ -1,4 +1,8 @@
 // A bench file before its first step: read, and its change planned.
+//     prepare      Read, and then Plan on what Read gives
+//     changes      the part of the file that Plan gets
+//     started      both answers put together; `first` takes the first refusal of the two
+// What it promises is specs/Bench.antt; that Plan gets what the file says is specs/BenchLaws.antt.
 use area::limits::ENTRY;
 use bench_file::BenchFile;
 use bench_file::Contents;
@@ -9,21 +13,22 @@ use plan::Record;
 use plan::plan;
 ghost use mathlib.Core.Path.{_≡_};
 ghost use Prim.Native.Nat.{_+_, _*_, _≤_};
-ghost use lib.ListN.{length, take, drop};
+ghost use lib.ListN.{length};
 ghost use Rattle.area.specs.Refusals.{verdictNumber};
 ghost use Rattle.area.specs.Tests.{orThen};
-ghost use Rattle.plan.specs.Plan.{tables};
+ghost use Rattle.plan.specs.Plan.{asTables};
 ghost use Rattle.bench_file.specs.Read.{contentsOf, metricsOf};
-ghost use Rattle.prepare.specs.Bench.{refusal, recordAt, tablesAt};
+ghost use Rattle.prepare.specs.Bench.{refusal, recordAt, tablesAt, listed};
 
-// The number of Read's refusal or else of Plan's, 0 where neither refuses; Plan's record; and where the file's steps are.
+// The number of Read's refusal or else of Plan's, 0 where neither refuses; Plan's record; and where the steps are.
 pub struct Start {
     pub refusal: u8,
     pub record: Record,
     pub steps: Section,
 }
 
-// Reads the file and plans its change. The tables are those that Plan is lent: `old` gets the metrics of the file's links, and the others are filled where neither call refuses.
+// Reads the file and plans its change. The tables are those that Plan is lent: `old` gets the metrics of the file's
+// links, and the others are filled where neither call refuses.
 pub fn prepare(
     file: &[u8],
     old: &mut [u32],
@@ -33,11 +38,22 @@ pub fn prepare(
     old_hops: &mut [u32],
     new_hops: &mut [u32],
 ) -> Start
-    ensures refusal { λ r. ⌜ r .refusal ≡ refusal (now (file .entry)) (now (old .entry)) (tables (now (new .entry)) (now («old_dist» .entry)) (now («new_dist» .entry)) (now («old_hops» .entry)) (now («new_hops» .entry))) ⌝ }
-    ensures record { λ r. ⌜ r .record ≡ recordAt (now (file .entry)) (now (old .entry)) (tables (now (new .entry)) (now («old_dist» .entry)) (now («new_dist» .entry)) (now («old_hops» .entry)) (now («new_hops» .entry))) ⌝ }
+    ensures refusal { λ r.
+        let lent = asTables (now (new .entry)) (now («old_dist» .entry)) (now («new_dist» .entry))
+        (now («old_hops» .entry)) (now («new_hops» .entry)) in
+        ⌜ r .refusal ≡ refusal (now (file .entry)) (now (old .entry)) lent ⌝ }
+    ensures record { λ r.
+        let lent = asTables (now (new .entry)) (now («old_dist» .entry)) (now («new_dist» .entry))
+        (now («old_hops» .entry)) (now («new_hops» .entry)) in
+        ⌜ r .record ≡ recordAt (now (file .entry)) (now (old .entry)) lent ⌝ }
     ensures steps { λ r. ⌜ r .steps ≡ contentsOf (now (file .entry)) (now (old .entry)) .steps ⌝ }
     ensures metrics { λ _. ⌜ now (old .exit) ≡ metricsOf (now (file .entry)) (now (old .entry)) ⌝ }
-    ensures tables { λ _. ⌜ tables (now (new .exit)) (now («old_dist» .exit)) (now («new_dist» .exit)) (now («old_hops» .exit)) (now («new_hops» .exit)) ≡ tablesAt (now (file .entry)) (now (old .entry)) (tables (now (new .entry)) (now («old_dist» .entry)) (now («new_dist» .entry)) (now («old_hops» .entry)) (now («new_hops» .entry))) ⌝ }
+    ensures tables { λ _.
+        let lent = asTables (now (new .entry)) (now («old_dist» .entry)) (now («new_dist» .entry))
+        (now («old_hops» .entry)) (now («new_hops» .entry)) in
+        let left = asTables (now (new .exit)) (now («old_dist» .exit)) (now («new_dist» .exit))
+        (now («old_hops» .exit)) (now («new_hops» .exit)) in
+        ⌜ left ≡ tablesAt (now (file .entry)) (now (old .entry)) lent ⌝ }
 {
     let found = read(file, old);
     let contents = found.contents;
@@ -59,7 +75,7 @@ pub fn prepare(
 // The changes of a file, by what it says of itself.
 fn changes(file: &[u8], contents: Contents) -> &[u8]
     requires { ⌜ contents .changes .at + 5 * contents .changes .count ≤ length (now file) ⌝ }
-    ensures { λ r. ⌜ now r ≡ take (5 * contents .changes .count) (drop (contents .changes .at) (now (file .entry))) ⌝ }
+    ensures { λ r. ⌜ now r ≡ listed (now (file .entry)) contents ⌝ }
 {
     let listed = contents.changes;
     let from = listed.at;

@@ -1,4 +1,7 @@
 -- Ranks (01, "The plan"). w r is the set of routers that r waits for.
+--     Chain, IsRank        what a rank is, over chains of any length
+--     longest, rank        what computes it; RankLaws.antt, `rank-is`, says that it is the rank
+--     ranksOf              the table of ranks
 use Prim.Native.Nat.{ℕ, zero, suc, _-_, _≤_, max}
 use mathlib.Core.Path.{_≡_}
 use mathlib.Core.Bool.{true}
@@ -10,6 +13,7 @@ use Rattle.area.specs.Tests.{pick}
 use Rattle.area.specs.Tables.{perRouter}
 use Rattle.sets.specs.Sets.{bit}
 
+-- ---- what a rank is
 -- A chain from r: r alone, or r and a chain from a router that it waits for.
 pub data Chain (w : ℕ → ℕ) : ℕ → Type 0 where
   alone : {r : ℕ} → Chain w r
@@ -26,30 +30,31 @@ module _ {w : ℕ → ℕ} where
   routers (alone {r}) = r ∷ []
   routers (waits {r} e c) = r ∷ routers c
 
--- the greatest of f 0, f 1, .. f (n - 1)
-unfoldable pub greatest : ℕ → (ℕ → ℕ) → ℕ
-greatest zero f = 0
-greatest (suc n) f = max (greatest n f) (f n)
-
--- One more than the greatest f s of a member s of the set; 0 where it has no member below n.
-unfoldable pub above : ℕ → ℕ → (ℕ → ℕ) → ℕ
-above n set f = greatest n (λ s. pick (bit set s) (suc (f s)) 0)
-
--- the greatest number of links of a chain from r that has at most h
-unfoldable pub longest : ℕ → (ℕ → ℕ) → ℕ → ℕ → ℕ
-longest n w zero r = 0
-longest n w (suc h) r = above n (w r) (longest n w h)
-
--- The rank of r among n routers. Chains of more than n - 1 links need not be looked for: RankLaws.antt, `rank-is`, says why.
-unfoldable pub rank : ℕ → (ℕ → ℕ) → ℕ → ℕ
-rank n w r = longest n w (n - 1) r
-
--- What it is for k to be the rank of r, over chains of any length: some chain from r has k links, and none has more.
+-- The rank of r is k: some chain from r has k links, and none has more.
 pub record IsRank (w : ℕ → ℕ) (r k : ℕ) : Type 0 where
   pub chain : Chain w r
   pub exact : links chain ≡ k
   pub most : (c : Chain w r) → links c ≤ k
 
--- The table of ranks by a table of the sets that routers wait for; zeros where n is above the width.
-unfoldable pub ranksOf : ℕ → List ℕ → List ℕ
+-- ---- what computes it
+-- the greatest of f 0, f 1, .. f (n - 1)
+unfoldable pub greatest : (n : ℕ) (f : ℕ → ℕ) → ℕ
+greatest zero f = 0
+greatest (suc n) f = max (greatest n f) (f n)
+
+-- One more than the greatest f s of a member s of the set; 0 where it has no member below n.
+unfoldable pub above : (n set : ℕ) (f : ℕ → ℕ) → ℕ
+above n set f = greatest n (λ s. pick (bit set s) (suc (f s)) 0)
+
+-- the greatest number of links of a chain from r that has at most h
+unfoldable pub longest : (n : ℕ) (w : ℕ → ℕ) (h r : ℕ) → ℕ
+longest n w zero r = 0
+longest n w (suc h) r = above n (w r) (longest n w h)
+
+-- The rank of r among n routers. A chain that meets no router twice has at most n - 1 links.
+unfoldable pub rank : (n : ℕ) (w : ℕ → ℕ) (r : ℕ) → ℕ
+rank n w r = longest n w (n - 1) r
+
+-- The table of ranks by a table t of the sets that routers wait for; zeros where n is above the width.
+unfoldable pub ranksOf : (n : ℕ) (t : List ℕ) → List ℕ
 ranksOf n t = pick (leb n width) (perRouter width n (rank n (λ r. getD t r 0))) (replicate width 0)

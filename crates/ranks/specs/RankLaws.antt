@@ -1,14 +1,19 @@
 -- Laws of chains and ranks. A proof about ranks cites these and does not open `rank`.
---     greatest-le, greatest-least, greatest-at, greatest-same      the greatest of f 0 .. f (n - 1): none is more, it is the least such bound, it is 0 or one of them, and they decide it
+--     greatest-le, greatest-least, greatest-at, greatest-same      the greatest of f 0 .. f (n - 1): none is more, it
+--                                          is the least such bound, it is 0 or one of them, and they decide it
 --     above-le, above-least, above-at, above-same      the same of one more than the greatest f of a member
 --     above-start, above-skip, above-more      found router by router
 --     longest-chain, chain-longest         some chain has `longest` links, and none of at most h links has more
 --     longest-le, longest-same, rank-same      their bound; what the n routers wait for decides them
 --     longest-stays        where one link more makes no chain longer, more links do not either
---     chain-distinct, chain-few            where waiting comes down in some measure, a chain meets no router twice, and takes fewer links than there are routers
+--     chain-distinct, chain-few            where waiting comes down in some measure, a chain meets no router twice, and
+--                                          takes fewer links than there are routers
 --     rank-is, same-rank                   so the rank is over chains of any length; nothing else is
 --     rank-less                            a router ranks above those it waits for
 --     ranks-in, ranks-beyond               the table of ranks, for at most `width` routers and for more
+-- `longest` has the links of some chain, and of chains with at most h links none has more: both by induction on h.
+-- Where waiting comes down in a measure, the routers of a chain are different, so they are at most n (pigeonhole), and
+-- h = n - 1 leaves no chain out.
 use Prim.Native.Nat.{ℕ, zero, suc, _+_, _-_, _≤_, _<_, max}
 use mathlib.Core.Path.{_≡_, refl, sym, ap, ap₂, _∙_}
 use mathlib.Core.Bool.{Bool, true, false}
@@ -25,15 +30,16 @@ use Rattle.area.specs.Tests.{pick}
 use Rattle.area.specs.TestLaws.{look}
 use Rattle.area.specs.Tables.{perRouter}
 use Rattle.sets.specs.Sets.{bit}
-use Rattle.topology.specs.Members.{_∈_}
-use Rattle.topology.specs.Pigeonhole.{Distinct, Below, pigeonhole}
+use Rattle.area.specs.Lists.{_∈_, Distinct, Below}
+use Rattle.area.specs.PigeonholeLaws.{pigeonhole}
 use Rattle.ranks.specs.Rank.{Chain, alone, waits, links, routers, greatest, above, longest, rank, IsRank, ranksOf}
 
 -- ---- the greatest of f 0 .. f (n - 1)
 pub greatest-le : (n : ℕ) (f : ℕ → ℕ) (k : ℕ) → k < n → f k ≤ greatest n f
 unfolding greatest
 greatest-le zero f k h = absurd (not-suc-le-zero h)
-greatest-le (suc n) f k h = ⊎-elim (λ e. rw e (omega arith)) (λ l. omega (arith, greatest-le n f k l)) (eq-or-lt-of-le (le-of-suc-le-suc h))
+greatest-le (suc n) f k h =
+    ⊎-elim (λ e. rw e (omega arith)) (λ l. omega (arith, greatest-le n f k l)) (eq-or-lt-of-le (le-of-suc-le-suc h))
 
 pub greatest-least : (n : ℕ) (f : ℕ → ℕ) (b : ℕ) → ((k : ℕ) → k < n → f k ≤ b) → greatest n f ≤ b
 unfolding greatest
@@ -71,11 +77,16 @@ above-least n s f b l = greatest-least n (λ i. pick (bit s i) (suc (f i)) 0) b 
 -- it is 0, or one more than the f of a member
 pub above-at : (n s : ℕ) (f : ℕ → ℕ) → (above n s f ≡ 0) ⊎ ((k : ℕ) × (bit s k ≡ true) × (above n s f ≡ suc (f k)))
 unfolding above
-above-at n s f = ⊎-elim inl (λ t. ⊎-elim (λ e. inr (t .0, e, rw e at (t .2))) (λ e. inl (rw e at (t .2))) (look (bit s (t .0)))) (greatest-at n (λ i. pick (bit s i) (suc (f i)) 0))
+above-at n s f =
+    ⊎-elim inl
+    (λ t. ⊎-elim (λ e. inr (t .0, e, rw e at (t .2))) (λ e. inl (rw e at (t .2))) (look (bit s (t .0))))
+    (greatest-at n (λ i. pick (bit s i) (suc (f i)) 0))
 
 pub above-same : (n s : ℕ) (f g : ℕ → ℕ) → ((k : ℕ) → k < n → f k ≡ g k) → above n s f ≡ above n s g
 unfolding above
-above-same n s f g e = greatest-same n (λ i. pick (bit s i) (suc (f i)) 0) (λ i. pick (bit s i) (suc (g i)) 0) (λ k h. ap (λ (x : ℕ). pick (bit s k) (suc x) 0) (e k h))
+above-same n s f g e =
+    greatest-same n (λ i. pick (bit s i) (suc (f i)) 0) (λ i. pick (bit s i) (suc (g i)) 0)
+    (λ k h. ap (λ (x : ℕ). pick (bit s k) (suc x) 0) (e k h))
 
 -- found router by router: what a loop over the routers below k has
 module _ (s : ℕ) (f : ℕ → ℕ) where
@@ -93,36 +104,60 @@ module _ (s : ℕ) (f : ℕ → ℕ) where
 
 -- ---- the longest chains
 -- what the routers below n wait for decides
-pub longest-same : (n : ℕ) (w v : ℕ → ℕ) → ((r : ℕ) → r < n → w r ≡ v r) → (h r : ℕ) → r < n → longest n w h r ≡ longest n v h r
+pub longest-same :
+    (n : ℕ) (w v : ℕ → ℕ)
+    → ((r : ℕ) → r < n → w r ≡ v r)
+    → (h r : ℕ) → r < n → longest n w h r ≡ longest n v h r
 unfolding longest
 longest-same n w v e zero r l = refl
-longest-same n w v e (suc h) r l = rw (e r l) (above-same n (v r) (longest n w h) (longest n v h) (longest-same n w v e h))
+longest-same n w v e (suc h) r l =
+    rw (e r l) (above-same n (v r) (longest n w h) (longest n v h) (longest-same n w v e h))
 
 pub longest-le : (n : ℕ) (w : ℕ → ℕ) (h r : ℕ) → longest n w h r ≤ h
 unfolding longest
 longest-le n w zero r = omega arith
-longest-le n w (suc h) r = above-least n (w r) (longest n w h) (suc h) (λ k l e. omega (arith, longest-le n w h k))
+longest-le n w (suc h) r =
+    above-least n (w r) (longest n w h) (suc h) (λ k l e. omega (arith, longest-le n w h k))
 
 -- where chains of one link more are no longer, chains of any more links are not either
-pub longest-stays : (n : ℕ) (w : ℕ → ℕ) (h : ℕ) → ((r : ℕ) → r < n → longest n w (suc h) r ≡ longest n w h r) → (k : ℕ) → h ≤ k → (r : ℕ) → r < n → longest n w k r ≡ longest n w h r
+pub longest-stays :
+    (n : ℕ) (w : ℕ → ℕ) (h : ℕ)
+    → ((r : ℕ) → r < n → longest n w (suc h) r ≡ longest n w h r)
+    → (k : ℕ) → h ≤ k
+    → (r : ℕ) → r < n → longest n w k r ≡ longest n w h r
 unfolding longest
 longest-stays n w h e zero b r l = let none : h ≡ 0 = omega arith in rw none refl
-longest-stays n w h e (suc k) b r l = ⊎-elim (λ q. rw q refl) (λ m. above-same n (w r) (longest n w k) (longest n w h) (longest-stays n w h e k (le-of-suc-le-suc m)) ∙ e r l) (eq-or-lt-of-le b)
+longest-stays n w h e (suc k) b r l =
+    ⊎-elim
+    (λ q. rw q refl)
+    (λ m. above-same n (w r) (longest n w k) (longest n w h) (longest-stays n w h e k (le-of-suc-le-suc m)) ∙ e r l)
+    (eq-or-lt-of-le b)
 
 -- a chain of as many links exists
 pub longest-chain : (n : ℕ) (w : ℕ → ℕ) (h r : ℕ) → (c : Chain w r) × (links c ≡ longest n w h r)
 unfolding longest
 longest-chain n w zero r = (alone, refl)
-longest-chain n w (suc h) r = ⊎-elim (λ e. (alone, sym e)) (λ t. let c = longest-chain n w h (t .0) in (waits (t .1) (c .0), ap suc (c .1) ∙ sym (t .2))) (above-at n (w r) (longest n w h))
+longest-chain n w (suc h) r =
+    ⊎-elim
+    (λ e. (alone, sym e))
+    (λ t. let c = longest-chain n w h (t .0) in (waits (t .1) (c .0), ap suc (c .1) ∙ sym (t .2)))
+    (above-at n (w r) (longest n w h))
 
 -- no chain of at most h links has more, where all that is waited for is below n
-pub chain-longest : (n : ℕ) (w : ℕ → ℕ) → ((r s : ℕ) → bit (w r) s ≡ true → s < n) → (h : ℕ) {r : ℕ} (c : Chain w r) → links c ≤ h → links c ≤ longest n w h r
+pub chain-longest :
+    (n : ℕ) (w : ℕ → ℕ)
+    → ((r s : ℕ) → bit (w r) s ≡ true → s < n)
+    → (h : ℕ) {r : ℕ} (c : Chain w r) → links c ≤ h → links c ≤ longest n w h r
 unfolding longest
 chain-longest n w inside h alone b = omega arith
 chain-longest n w inside zero (waits e c) b = absurd (omega arith)
-chain-longest n w inside (suc h) (waits {r} {s} e c) b = omega (arith, chain-longest n w inside h c (omega arith), above-le n (w r) (longest n w h) s (inside r s e) e)
+chain-longest n w inside (suc h) (waits {r} {s} e c) b =
+    omega (arith, chain-longest n w inside h c (omega arith), above-le n (w r) (longest n w h) s (inside r s e) e)
 
-pub rank-same : (n : ℕ) (w v : ℕ → ℕ) → ((r : ℕ) → r < n → w r ≡ v r) → (r : ℕ) → r < n → rank n w r ≡ rank n v r
+pub rank-same :
+    (n : ℕ) (w v : ℕ → ℕ)
+    → ((r : ℕ) → r < n → w r ≡ v r)
+    → (r : ℕ) → r < n → rank n w r ≡ rank n v r
 unfolding rank
 rank-same n w v e r l = longest-same n w v e (n - 1) r l
 
@@ -132,7 +167,9 @@ routers-links alone = refl
 routers-links (waits e c) = ap suc (routers-links c)
 
 -- Where what one waits for comes down in some measure μ, waiting never goes round in a circle.
-module _ (n : ℕ) (w : ℕ → ℕ) (inside : (r s : ℕ) → bit (w r) s ≡ true → (r < n) × (s < n)) (μ : ℕ → ℕ) (down : (r s : ℕ) → bit (w r) s ≡ true → μ s < μ r) where
+module _
+    (n : ℕ) (w : ℕ → ℕ) (inside : (r s : ℕ) → bit (w r) s ≡ true → (r < n) × (s < n))
+    (μ : ℕ → ℕ) (down : (r s : ℕ) → bit (w r) s ≡ true → μ s < μ r) where
   routers-below : {r : ℕ} (c : Chain w r) → r < n → Below n (routers c)
   routers-below alone h x (inl e) = omega arith
   routers-below alone h x (inr m) = absurd m
@@ -152,14 +189,18 @@ module _ (n : ℕ) (w : ℕ → ℕ) (inside : (r s : ℕ) → bit (w r) s ≡ t
 
   pub chain-few : {r : ℕ} (c : Chain w r) → links c ≤ n - 1
   chain-few alone = omega arith
-  chain-few (waits {r} {s} e c) = omega (arith, routers-links (waits e c), pigeonhole n (routers (waits e c)) (chain-distinct (waits e c)) (routers-below (waits e c) (inside r s e .0)))
+  chain-few (waits {r} {s} e c) =
+      let d = waits e c in
+      let few = pigeonhole n (routers d) (chain-distinct d) (routers-below d (inside r s e .0)) in
+      omega (arith, routers-links d, few)
 
   -- the rank is over chains of any length, though `rank` looks only for those of at most n - 1 links
   pub rank-is : (r : ℕ) → IsRank w r (rank n w r)
   unfolding rank
   rank-is r =
       let c = longest-chain n w (n - 1) r in
-      record { chain = c .0; exact = c .1; most = λ d. chain-longest n w (λ i k e. inside i k e .1) (n - 1) d (chain-few d) }
+      let low : (i k : ℕ) → bit (w i) k ≡ true → k < n = λ i k e. inside i k e .1 in
+      record { chain = c .0; exact = c .1; most = λ d. chain-longest n w low (n - 1) d (chain-few d) }
 
   pub rank-less : (r s : ℕ) → bit (w r) s ≡ true → rank n w s < rank n w r
   rank-less r s e = let a = rank-is s in omega (arith, a .exact, rank-is r .most (waits e (a .chain)))

@@ -1,4 +1,11 @@
 // The ranks of routers, from the sets of those that each waits for. A table per router has WIDTH entries, 0 from n on.
+//     ranks        all ranks
+//     by_rounds    the loop: after h rounds a router has the links of its longest chain of at most h
+//     longer       one round
+//     after        one router in a round
+//     agree        whether a round has changed nothing
+// What they promise is specs/Rank.antt; why the rounds end with the ranks is specs/RankLaws.antt and
+// proofs/Rounds.antt.
 use area::limits::WIDTH;
 use sets::member;
 ghost use mathlib.Core.Path.{_≡_};
@@ -12,7 +19,7 @@ ghost use Rattle.ranks.specs.Rank.{above, rank, ranksOf};
 
 // The ranks of n routers; all are 0 where n is above WIDTH.
 pub fn ranks(n: usize, waiting: [u32; WIDTH]) -> [u8; WIDTH]
-    ensures { λ t. ⌜ t ≡ ranksOf n waiting ⌝ }
+    ensures ranks { λ t. ⌜ t ≡ ranksOf n waiting ⌝ }
 {
     if WIDTH < n {
         return [0; WIDTH];
@@ -20,7 +27,8 @@ pub fn ranks(n: usize, waiting: [u32; WIDTH]) -> [u8; WIDTH]
     by_rounds(n, waiting)
 }
 
-// Each round allows chains of one link more, and a chain has fewer links than there are routers. After a round that changes nothing no round changes anything.
+// Each round allows chains of one link more, and a chain has fewer links than there are routers. After a round that
+// changes nothing no round changes anything.
 fn by_rounds(n: usize, waiting: [u32; WIDTH]) -> [u8; WIDTH]
     requires { ⌜ n ≤ width ⌝ }
     ensures { λ t. ⌜ t ≡ perRouter width n (rank n (λ r. getD waiting r 0)) ⌝ }

@@ -1,4 +1,6 @@
-// Reads a bench file from standard input, and prints its rehearsal.
+// Reads a bench file from standard input, and prints its rehearsal: a line for each router, a line for each step and an
+// end, or the refusal alone. What is printed is `rehearsal` of crates/report/specs/Report.antt; this program lends the
+// tables, and a buffer that has room for all of it.
 use area::limits::CELLS;
 use area::limits::LARGEST;
 use area::limits::UNUSED;

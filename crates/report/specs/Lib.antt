@@ -1,4 +1,7 @@
 -- What the programs print for a bench file. First the definitions, in reading order; then the laws about them.
+pub mod Lines
 pub mod Report
+pub mod LineLaws
+pub mod LengthLaws
 pub mod ReportLaws
 pub mod RoomLaws

@@ -1,26 +1,29 @@
--- All that is printed for a bench file f. m and t are the tables that are lent: what they hold is not printed, but a wrong size is refused.
+-- All that is printed for a bench file f. m and t are the tables that are lent: what they hold is not printed, but a
+-- wrong size is refused.
 use Prim.Native.Nat.{ℕ}
 use mathlib.Core.List.{List, _++_}
 use lib.Dec.{eqb}
 use Rattle.area.specs.Tests.{pick}
 use Rattle.plan.specs.Plan.{Tables}
 use Rattle.machine.specs.Run.{replies, callsOf}
-use Rattle.sections.specs.Sections.{routers, steps}
+use Rattle.bench_file.specs.Sections.{routers, steps}
 use Rattle.text.specs.Text.{word}
-use Rattle.prepare.specs.Bench.{refusal, planned, tablesOf}
-use Rattle.lines.specs.Lines.{refusedLine, routerLines, stepLines, routeLines}
+use Rattle.prepare.specs.Bench.{refusal, planned, filledTables}
+use Rattle.report.specs.Lines.{refusedLine, routerLines, stepLines, routeLines}
+
+-- the line of the refusal where there is one, and these lines where there is none
+abbrev pub unlessRefused : (number : ℕ) (lines : List ℕ) → List ℕ
+unlessRefused number lines = pick (eqb number 0) lines (refusedLine number)
 
 -- The rehearsal: the refusal alone, or a line for each router, a line for each step, and an end (01, "The rehearsal").
-unfoldable pub rehearsal : List ℕ → List ℕ → Tables → List ℕ
+unfoldable pub rehearsal : (f m : List ℕ) (t : Tables) → List ℕ
 rehearsal f m t =
-    pick (eqb (refusal f m t) 0)
+    unlessRefused (refusal f m t)
     (routerLines (planned f) (routers f) ++ (stepLines 1 (replies (planned f) (callsOf (steps f))) ++ word "end\n"))
-    (refusedLine (refusal f m t))
 
--- The routes: the refusal alone, or the lines of all pairs.
-unfoldable pub routes : List ℕ → List ℕ → Tables → List ℕ
+-- The routes: the refusal alone, or the lines of all pairs (our own, docs/DECISIONS.md).
+unfoldable pub routes : (f m : List ℕ) (t : Tables) → List ℕ
 routes f m t =
-    let p = tablesOf f in
-    pick (eqb (refusal f m t) 0)
+    let p = filledTables f in
+    unlessRefused (refusal f m t)
     (routeLines (p .oldDistances) (p .oldHops) (p .newDistances) (p .newHops) (routers f) (routers f))
-    (refusedLine (refusal f m t))

@@ -1,9 +1,14 @@
--- Laws of all that is printed: what was appended part by part is the whole.
---     rehearsal-refused, routes-refused        where Read or Plan refuses
---     rehearsal-whole, routes-whole        where neither refuses
---     refused-listed, lines-listed         the refusal, or all lines
---     Playable, playable, played-appended, bytes-few, rehearsal-printed         the rehearsal, by what the file gives before its first step
---     Full, listed-tables, routes-printed          the routes, by the same
+-- Laws of all that is printed: from what `prepare` gives to the whole text. `prepare` gives a refusal, a record, where
+-- the steps are, and filled tables, each by an equation on the file. Where it refuses, that one line is the text. Where
+-- it does not, the record is Plan's, the steps are those of the file and the tables are filled by Plan, so their lines
+-- are the lines of the definition; and what the file was accepted for gives the bounds that the loops ask for.
+--     rehearsal-refused, routes-refused       the text where Read or Plan refuses
+--     rehearsal-whole, routes-whole           the text where neither refuses
+--     refused-printed, lines-printed          the refusal, or all lines
+--     rehearsalLines, lines-appended          the lines of a record and of its steps
+--     Bounded, bounded, bytes-few             what the rehearsal asks for
+--     Full, full-tables                       what the routes ask for
+--     rehearsal-printed, routes-printed       the text by what `prepare` gives
 use Prim.Native.Nat.{ℕ, _+_, _*_, _≤_}
 use mathlib.Core.Path.{_≡_, refl, sym, ap, ap₂, subst, _∙_}
 use mathlib.Core.Logic.{_≢_}
@@ -11,17 +16,15 @@ use mathlib.Core.List.{List, _++_}
 use native.Mathlib.Decide.{ℕ-discrete}
 use native.Mathlib.Omega.{arith}
 use borrow.Author.Tests.{eq-eqb, ne-eqb}
-use lib.Dec.{eqb}
 use lib.ListN.{length, take, drop, length-take}
 use Rattle.area.specs.Limits.{width, mostSteps}
-use Rattle.area.specs.Tests.{pick}
-use Rattle.area.specs.SizeLaws.{count-most}
+use Rattle.area.specs.SizeLaws.{router-count-most}
 use Rattle.plan.specs.declared.Record.{Record}
-use Rattle.plan.specs.Plan.{Tables, tables}
+use Rattle.plan.specs.Plan.{Tables, asTables}
 use Rattle.plan.specs.PlanLaws.{filled-size}
 use Rattle.plan.specs.FreshLaws.{fresh-count}
 use Rattle.machine.specs.Run.{replies, callsOf}
-use Rattle.sections.specs.Sections.{routers, changes, stepCount, stepsAt, steps}
+use Rattle.bench_file.specs.Sections.{routers, changes, stepCount, stepsAt, steps}
 use Rattle.bench_file.specs.declared.Contents.{Contents}
 use Rattle.bench_file.specs.declared.Section.{Section}
 use Rattle.bench_file.specs.Read.{contents, contentsOf}
@@ -29,32 +32,38 @@ use Rattle.bench_file.specs.ReadLaws.{contents-accepted}
 use Rattle.bench_file.specs.FileLaws.{contents-steps}
 use Rattle.text.specs.Text.{Appended, word, line}
 use Rattle.text.specs.TextLaws.{appended-then}
-use Rattle.prepare.specs.Bench.{metrics, refusal, planned, tablesOf, recordAt, tablesAt}
+use Rattle.prepare.specs.Bench.{metrics, refusal, planned, filledTables, recordAt, tablesAt}
 use Rattle.prepare.specs.BenchLaws.{read-passed, file-of, record-passed, tables-passed}
-use Rattle.lines.specs.Lines.{refusedLine, routerLines, stepLines, routeLines}
-use Rattle.lines.specs.LineLaws.{refused-is}
-use Rattle.report.specs.Report.{rehearsal, routes}
+use Rattle.report.specs.Lines.{refusedLine, routerLines, stepLines, routeLines}
+use Rattle.report.specs.LineLaws.{refused-is}
+use Rattle.report.specs.Report.{unlessRefused, rehearsal, routes}
 
 -- the steps of a file, by where they are
-abbrev pub bytesOf : List ℕ → Section → List ℕ
-bytesOf f s = take (3 * s .count) (drop (s .at) f)
+abbrev pub stepBytes : (f : List ℕ) (s : Section) → List ℕ
+stepBytes f s = take (3 * s .count) (drop (s .at) f)
 
 -- all lines of a record and of the steps that the bytes stand for, and the end
-abbrev pub played : Record → List ℕ → List ℕ
-played r b = routerLines r (r .n) ++ (stepLines 1 (replies r (callsOf b)) ++ word "end\n")
+abbrev pub rehearsalLines : (r : Record) (bytes : List ℕ) → List ℕ
+rehearsalLines r bytes = routerLines r (r .n) ++ (stepLines 1 (replies r (callsOf bytes)) ++ word "end\n")
 
 -- the routers are few enough, and the steps lie in the file and are few enough
-pub record Playable (f : List ℕ) (r : Record) (s : Section) : Type 0 where
+pub record Bounded (f : List ℕ) (r : Record) (s : Section) : Type 0 where
   pub few : r .n ≤ width
   pub within : s .at + 3 * s .count ≤ length f
   pub most : s .count ≤ mostSteps
 
-pub played-appended : (r : Record) (l : List ℕ) {o p q s : List ℕ} {a b c : ℕ} → Appended o 0 (routerLines r (r .n)) p a → Appended p a (stepLines 1 (replies r (callsOf l))) q b → Appended q b (word "end\n") s c → Appended o 0 (played r l) s c
-played-appended r l u v w = appended-then u (appended-then v w)
+pub lines-appended :
+    (r : Record) (bytes : List ℕ) {o p q s : List ℕ} {a b c : ℕ}
+    → Appended o 0 (routerLines r (r .n)) p a
+    → Appended p a (stepLines 1 (replies r (callsOf bytes))) q b
+    → Appended q b (word "end\n") s c
+    → Appended o 0 (rehearsalLines r bytes) s c
+lines-appended r bytes u v w = appended-then u (appended-then v w)
 
-pub bytes-few : (f : List ℕ) (s : Section) → s .count ≤ mostSteps → length (bytesOf f s) ≤ 12288
+pub bytes-few : (f : List ℕ) (s : Section) → s .count ≤ mostSteps → length (stepBytes f s) ≤ 3 * mostSteps
 bytes-few f s most = omega (arith, length-take (3 * s .count) (drop (s .at) f))
 
+-- the tables that are printed have all cells
 pub record Full (d h e g : List ℕ) : Type 0 where
   pub old-distances : length d ≡ width * width
   pub old-hops : length h ≡ width * width
@@ -63,11 +72,11 @@ pub record Full (d h e g : List ℕ) : Type 0 where
 
 -- ---- the refusal, or all lines
 module _ (k : ℕ) (l : List ℕ) {o p : List ℕ} {a b : ℕ} where
-  pub refused-listed : k ≢ 0 → Appended o a (refusedLine k) p b → Appended o a (pick (eqb k 0) l (refusedLine k)) p b
-  refused-listed g x = rw (ne-eqb k 0 g) x
+  pub refused-printed : k ≢ 0 → Appended o a (refusedLine k) p b → Appended o a (unlessRefused k l) p b
+  refused-printed g x = rw (ne-eqb k 0 g) x
 
-  pub lines-listed : k ≡ 0 → Appended o a l p b → Appended o a (pick (eqb k 0) l (refusedLine k)) p b
-  lines-listed z x = rw (eq-eqb k 0 z) x
+  pub lines-printed : k ≡ 0 → Appended o a l p b → Appended o a (unlessRefused k l) p b
+  lines-printed z x = rw (eq-eqb k 0 z) x
 
 -- ---- the whole
 module _ (f m : List ℕ) (t : Tables) where
@@ -80,11 +89,16 @@ module _ (f m : List ℕ) (t : Tables) where
   routes-refused g = rw (ne-eqb (refusal f m t) 0 g) (refused-is (refusal f m t))
 
   module _ (z : refusal f m t ≡ 0) where
-    pub rehearsal-whole : rehearsal f m t ≡ routerLines (planned f) (routers f) ++ (stepLines 1 (replies (planned f) (callsOf (steps f))) ++ word "end\n")
+    pub rehearsal-whole :
+        rehearsal f m t
+        ≡ routerLines (planned f) (routers f) ++ (stepLines 1 (replies (planned f) (callsOf (steps f))) ++ word "end\n")
     unfolding rehearsal
     rehearsal-whole = rw (eq-eqb (refusal f m t) 0 z) refl
 
-    pub routes-whole : routes f m t ≡ routeLines (tablesOf f .oldDistances) (tablesOf f .oldHops) (tablesOf f .newDistances) (tablesOf f .newHops) (routers f) (routers f)
+    pub routes-whole :
+        let p = filledTables f in
+        routes f m t
+        ≡ routeLines (p .oldDistances) (p .oldHops) (p .newDistances) (p .newHops) (routers f) (routers f)
     unfolding routes
     routes-whole = rw (eq-eqb (refusal f m t) 0 z) refl
 
@@ -98,7 +112,7 @@ module _ (f m : List ℕ) (t : Tables) where
       n-is = ap (λ (x : Record). x .n) fresh ∙ fresh-count (routers f) (metrics f) (changes f)
 
       few-routers : r .n ≤ width
-      few-routers = omega (arith, n-is, count-most (routers f) (file-of f m t z .routers-in))
+      few-routers = omega (arith, n-is, router-count-most (routers f) (file-of f m t z .routers-in))
 
     -- s is where the steps are
     module _ (s : Section) (placed : s ≡ contentsOf f m .steps) where
@@ -112,50 +126,68 @@ module _ (f m : List ℕ) (t : Tables) where
         counted : s .count ≡ stepCount f
         counted = ap (λ (x : Section). x .count) of-file ∙ contents-steps f .1
 
-        bytes-are : bytesOf f s ≡ steps f
+        bytes-are : stepBytes f s ≡ steps f
         bytes-are = rw (starts, counted) refl
 
-        lines-are : played r (bytesOf f s) ≡ routerLines (planned f) (routers f) ++ (stepLines 1 (replies (planned f) (callsOf (steps f))) ++ word "end\n")
+        lines-are :
+            rehearsalLines r (stepBytes f s)
+            ≡ routerLines (planned f) (routers f)
+            ++ (stepLines 1 (replies (planned f) (callsOf (steps f))) ++ word "end\n")
         lines-are =
             ap₂ (λ (u v : List ℕ). u ++ (v ++ word "end\n")) (ap₂ routerLines (fresh z) (n-is z))
             (ap₂ (λ (q : Record) (l : List ℕ). stepLines 1 (replies q (callsOf l))) (fresh z) bytes-are)
 
-      pub playable : k ≡ 0 → Playable f r s
-      playable e =
+      pub bounded : k ≡ 0 → Bounded f r s
+      bounded e =
           let z = sym told ∙ e in
           let file = file-of f m t z in
-          record { few = few-routers z; within = omega (arith, starts z, counted z, file .size); most = omega (arith, counted z, file .most-steps) }
+          record {
+            few = few-routers z;
+            within = omega (arith, starts z, counted z, file .size);
+            most = omega (arith, counted z, file .most-steps);
+          }
 
-      pub rehearsal-printed : {o p : List ℕ} {a : ℕ} → Appended o 0 (pick (eqb k 0) (played r (bytesOf f s)) (refusedLine k)) p a → Appended o 0 (rehearsal f m t) p a
+      pub rehearsal-printed :
+          {o p : List ℕ} {a : ℕ}
+          → Appended o 0 (unlessRefused k (rehearsalLines r (stepBytes f s))) p a
+          → Appended o 0 (rehearsal f m t) p a
       rehearsal-printed {o} {p} {a} x = go (ℕ-discrete (refusal f m t) 0)
         where
           go : Dec (refusal f m t ≡ 0) → Appended o 0 (rehearsal f m t) p a
-          go (yes z) = rw (rehearsal-whole z) (subst (λ (w : List ℕ). Appended o 0 w p a) (lines-are z) (rw (eq-eqb k 0 (told ∙ z)) at x))
+          go (yes z) =
+              let lines = rw (eq-eqb k 0 (told ∙ z)) at x in
+              rw (rehearsal-whole z) (subst (λ (w : List ℕ). Appended o 0 w p a) (lines-are z) lines)
           go (no g) = rw (rehearsal-refused g) (rw (told, ne-eqb (refusal f m t) 0 g, refused-is (refusal f m t)) at x)
 
     -- and these are the tables
-    module _ (new d e h g : List ℕ) (filled : tables new d e h g ≡ tablesAt f m t) where
-      left : refusal f m t ≡ 0 → tables new d e h g ≡ tablesOf f
-      left z = filled ∙ tables-passed f m t z
+    module _ (new d e h g : List ℕ) (filled : asTables new d e h g ≡ tablesAt f m t) where
+      by-plan : refusal f m t ≡ 0 → asTables new d e h g ≡ filledTables f
+      by-plan z = filled ∙ tables-passed f m t z
 
-      pub listed-tables : k ≡ 0 → (r .n ≤ width) × Full d h e g
-      listed-tables i =
+      pub full-tables : k ≡ 0 → (r .n ≤ width) × Full d h e g
+      full-tables i =
           let z = sym told ∙ i in
           let size = filled-size (routers f) (metrics f) (changes f) in (
             few-routers z,
             record {
-              old-distances = ap (λ (u : Tables). length (u .oldDistances)) (left z) ∙ size .oldDistances;
-              old-hops = ap (λ (u : Tables). length (u .oldHops)) (left z) ∙ size .oldHops;
-              new-distances = ap (λ (u : Tables). length (u .newDistances)) (left z) ∙ size .newDistances;
-              new-hops = ap (λ (u : Tables). length (u .newHops)) (left z) ∙ size .newHops;
+              old-distances = ap (λ (u : Tables). length (u .oldDistances)) (by-plan z) ∙ size .oldDistances;
+              old-hops = ap (λ (u : Tables). length (u .oldHops)) (by-plan z) ∙ size .oldHops;
+              new-distances = ap (λ (u : Tables). length (u .newDistances)) (by-plan z) ∙ size .newDistances;
+              new-hops = ap (λ (u : Tables). length (u .newHops)) (by-plan z) ∙ size .newHops;
             },
           )
 
-      pub routes-printed : {o p : List ℕ} {a : ℕ} → Appended o 0 (pick (eqb k 0) (routeLines d h e g (r .n) (r .n)) (refusedLine k)) p a → Appended o 0 (routes f m t) p a
+      pub routes-printed :
+          {o p : List ℕ} {a : ℕ}
+          → Appended o 0 (unlessRefused k (routeLines d h e g (r .n) (r .n))) p a
+          → Appended o 0 (routes f m t) p a
       routes-printed {o} {p} {a} x = go (ℕ-discrete (refusal f m t) 0)
         where
           go : Dec (refusal f m t ≡ 0) → Appended o 0 (routes f m t) p a
           go (yes z) =
-              rw (routes-whole z)
-              (rw (eq-eqb k 0 (told ∙ z), ap (λ (u : Tables). u .oldDistances) (left z), ap (λ (u : Tables). u .oldHops) (left z), ap (λ (u : Tables). u .newDistances) (left z), ap (λ (u : Tables). u .newHops) (left z), n-is z) at x)
+              let d-is = ap (λ (u : Tables). u .oldDistances) (by-plan z) in
+              let h-is = ap (λ (u : Tables). u .oldHops) (by-plan z) in
+              let e-is = ap (λ (u : Tables). u .newDistances) (by-plan z) in
+              let g-is = ap (λ (u : Tables). u .newHops) (by-plan z) in
+              rw (routes-whole z) (rw (eq-eqb k 0 (told ∙ z), d-is, h-is, e-is, g-is, n-is z) at x)
           go (no q) = rw (routes-refused q) (rw (told, ne-eqb (refusal f m t) 0 q, refused-is (refusal f m t)) at x)

@@ -1,8 +1,18 @@
-// What the programs print for a bench file.
-mod pairs;
+// What the programs print for a bench file, put into a lent buffer.
+//     rehearsal     `rehearse`: a line for each router, a line for each step, and an end
+//     all_routes    `routes`: a line for each pair of routers, with its path before the change and after it
+//     lines         each of these lines, of the numbers that it shows
+// Both functions begin with `prepare`: it reads the file and plans its change, and where it refuses, the refusal is the
+// only line. This is how a metric of the file gets to a line: `prepare` puts it into the table `old`, Plan fills the
+// tables of distances and next hops, and `routes` prints these; `rehearse` prints the ranks and sets of Plan's record.
+// What is printed is specs/Report.antt, made of the lines of specs/Lines.antt. Why it is right: specs/LineLaws.antt
+// joins the parts of a line, and a line to those before it; specs/ReportLaws.antt goes from what `prepare` gives to the
+// whole text; specs/RoomLaws.antt says that ROOM bytes are enough for it.
+mod all_routes;
+mod lines;
 mod rehearsal;
 
-pub use pairs::routes;
+pub use all_routes::routes;
 pub use rehearsal::rehearse;
 
 // As many bytes as have room for all that is printed for any file.

@@ -5,11 +5,16 @@ ghost use Prim.Native.Nat.{_<_};
 // The file, and after it a byte that is one too many.
 pub fn fill(file: &mut [u8; LARGEST + 1]) {
     for at in 0..17564 {
-        file[at] = (part(at) % 256) as u8;
+        file[at] = byte(part(at));
     }
 }
 
-// The byte at a place. The links begin at 3, the changes at 4,964 and the steps at 5,276. Before each part stands its count: 992, 62 and 4,096.
+fn byte(x: usize) -> u8 {
+    (x % 256) as u8
+}
+
+// The byte at a place. The links begin at 3, the changes at 4,964 and the steps at 5,276. Before each part stands its
+// count: 992, 62 and 4,096.
 fn part(at: usize) -> usize
     requires { ⌜ at < 17564 ⌝ }
 {

@@ -1,7 +1,7 @@
 // A text, and of a long one its length, a checksum, its first lines and its last ones.
+use cases::lines;
 use cases::print;
-ghost use Prim.Native.Nat.{_≤_, _<_};
-ghost use lib.ListN.{length};
+ghost use Prim.Native.Nat.{_<_};
 
 pub fn print(text: &[u8]) {
     if text.len() < 10000 {
@@ -17,26 +17,10 @@ fn short(text: &[u8]) {
         b"length #\nchecksum #\n",
         &[text.len() as u64, checksum(text)],
     );
-    let first = lines(text, 34);
-    let last = lines(text, 4126);
+    let first = lines::start(text, 34);
+    let last = lines::start(text, 4126);
     print::text(&text[0..first]);
     print::text(&text[last..]);
-}
-
-// The length of so many lines.
-fn lines(text: &[u8], count: usize) -> usize
-    ensures { λ r. ⌜ r ≤ length (now (text .entry)) ⌝ }
-{
-    let mut seen = 0;
-    for at in 0..text.len() {
-        if seen == count {
-            return at;
-        }
-        if text[at] == b'\n' {
-            seen += 1;
-        }
-    }
-    text.len()
 }
 
 // A sum of all bytes that depends on their order.

@@ -55,12 +55,12 @@ fn rehearsal(words: &[u8], file: &[u8], out: &mut [u8]) -> usize
     let mut new_dist = [5u32; 1025];
     let mut old_hops = [7u32; 1025];
     let mut new_hops = [4294967295u32; 1025];
-    let a = read::size(words, 0);
-    let b = read::size(words, 1);
-    let c = read::size(words, 2);
-    let d = read::size(words, 3);
-    let e = read::size(words, 4);
-    let f = read::size(words, 5);
+    let a = read::size(words, 0, 1025);
+    let b = read::size(words, 1, 1025);
+    let c = read::size(words, 2, 1025);
+    let d = read::size(words, 3, 1025);
+    let e = read::size(words, 4, 1025);
+    let f = read::size(words, 5, 1025);
     report::rehearse(
         file,
         &mut old[..a],

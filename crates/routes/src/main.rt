@@ -1,4 +1,6 @@
-// Reads a bench file from standard input, and prints the distances and next hops of its routers, before the change and after it.
+// Reads a bench file from standard input, and prints the distances and next hops of its routers, before the change and
+// after it: a line for each pair of routers, or the refusal alone. What is printed is `routes` of
+// crates/report/specs/Report.antt; this program lends the tables, and a buffer that has room for all of it.
 use area::limits::CELLS;
 use area::limits::LARGEST;
 use area::limits::UNUSED;

@@ -1,4 +1,7 @@
--- The search's loop over its two rows: what they hold on the way, and when no reached router is left.
+-- The main loop over its two rows: the argument of Dijkstra.antt, with D and H read off the rows.
+--     start                      the blank rows with the source at 0 hold a front
+--     room, fewer, more          a turn: its sums fit, one router more is settled, and the rows hold a front again
+--     distance-row, hop-row      when no reached router is left, the rows are those of the definition
 use mathlib.Core.Path.{_≡_, sym, _∙_}
 use mathlib.Core.Bool.{false}
 use mathlib.Core.Logic.{inr}
@@ -13,28 +16,40 @@ use Rattle.area.specs.Tables.{build}
 use Rattle.area.specs.TableLaws.{is-build}
 use Rattle.sets.specs.Sets.{bit, added}
 use Rattle.topology.specs.Topology.{topology}
-use Rattle.topology.specs.Paths.{distanceCell, hopCell}
+use Rattle.topology.specs.Cells.{distanceCell, hopCell}
 use Rattle.topology.specs.TopologyLaws.{topology-graph}
-use Rattle.topology.specs.PathsLaws.{distance-in, distance-out, hops-in, hops-out}
-use Rattle.nearest.specs.Nearest.{Nearest}
-use Rattle.search.specs.Search.{Relaxed}
-use Rattle.search.proofs.Dijkstra.{Front, count, count-le, count-more, begin, small-bound, step, distances, nexts}
+use Rattle.topology.specs.CellLaws.{distance-in, distance-out, hops-in, hops-out}
+use Rattle.search.specs.Nearest.{Nearest}
+use Rattle.search.specs.Search.{entry, RowsRelaxed}
+use Rattle.search.proofs.Dijkstra.{count, count-le, count-more}
+use Rattle.search.proofs.Dijkstra.{Front, begin, small-bound, step, distances, nexts}
 
 -- d and h are the source's rows, and what they hold is a front
 pub record Settling (n : ℕ) (m : List ℕ) (s : ℕ) (d h : List ℕ) (σ : ℕ) : Type 0 where
   pub len : length d ≡ width
   pub len-h : length h ≡ width
   pub fits : (j : ℕ) → getD h j 0 < 2 ^ width
-  pub front : Front n (topology n m) s (λ j. getD d j 0) (λ j. getD h j 0) σ
+  pub front : Front n (topology n m) s (entry d) (entry h) σ
 
 module _ {n : ℕ} {m : List ℕ} (most : n ≤ width) {s : ℕ} (source : s < n) where
-  pub start : (d h : List ℕ) → length d ≡ width → length h ≡ width → ((j : ℕ) → j < width → getD d j 0 ≡ unreached) → ((j : ℕ) → j < width → getD h j 0 ≡ 0) → ((j : ℕ) → getD h j 0 < 2 ^ width) → Settling n m s (set d s 0) h 0
+  pub start :
+      (d h : List ℕ)
+      → length d ≡ width
+      → length h ≡ width
+      → ((j : ℕ) → j < width → getD d j 0 ≡ unreached)
+      → ((j : ℕ) → j < width → getD h j 0 ≡ 0)
+      → ((j : ℕ) → getD h j 0 < 2 ^ width)
+      → Settling n m s (set d s 0) h 0
   start d h ld lh far none fits =
       record {
         len = length-set d s 0 ∙ ld;
         len-h = lh;
         fits = fits;
-        front = begin (λ j. getD (set d s 0) j 0) (λ j. getD h j 0) source most (getD-set-same d s 0 0 (omega arith)) (λ j l f. getD-set-other d s j 0 0 f ∙ far j l) none;
+        front =
+            begin (entry (set d s 0)) (entry h) source most
+            (getD-set-same d s 0 0 (omega arith))
+            (λ j l f. getD-set-other d s j 0 0 f ∙ far j l)
+            none;
       }
 
   module _ {d h : List ℕ} {σ : ℕ} (f : Settling n m s d h σ) {q : ℕ} (near : Nearest n d σ q) where
@@ -49,7 +64,13 @@ module _ {n : ℕ} {m : List ℕ} (most : n ≤ width) {s : ℕ} (source : s < n
           let new = added width σ q in
           omega (arith, count-more σ q (omega arith) n within most (near .found within .0), count-le new n)
 
-      pub more : {d′ h′ : List ℕ} → length d′ ≡ width → length h′ ≡ width → ((j : ℕ) → getD h′ j 0 < 2 ^ width) → ((j : ℕ) → j < width → Relaxed (topology n m) s q (getD d q 0) (getD h q 0) j (getD d j 0) (getD h j 0) (getD d′ j 0) (getD h′ j 0)) → Settling n m s d′ h′ (added width σ q)
+      pub more :
+          {d′ h′ : List ℕ}
+          → length d′ ≡ width
+          → length h′ ≡ width
+          → ((j : ℕ) → getD h′ j 0 < 2 ^ width)
+          → RowsRelaxed n m s q d h d′ h′
+          → Settling n m s d′ h′ (added width σ q)
       more {d′} {h′} ld lh fits turn =
           let found = near .found within in
           record {
@@ -60,7 +81,10 @@ module _ {n : ℕ} {m : List ℕ} (most : n ≤ width) {s : ℕ} (source : s < n
           }
         where
           nearest : (j : ℕ) → j < n → bit σ j ≡ false → getD d q 0 ≤ getD d j 0
-          nearest j l b = elim (decLt (getD d j 0) unreached) [ yes r ↦ near .first j l b r .1 | no g ↦ omega (arith, near .found within .1) ]
+          nearest j l b = elim (decLt (getD d j 0) unreached) [
+            | yes r ↦ near .first j l b r .1
+            | no g ↦ omega (arith, near .found within .1)
+          ]
 
     module _ (none : q ≡ n) where
       left : (j : ℕ) → j < n → bit σ j ≡ false → getD d j 0 < unreached → ⊥
@@ -69,12 +93,16 @@ module _ {n : ℕ} {m : List ℕ} (most : n ≤ width) {s : ℕ} (source : s < n
       -- the rows are the definition's
       pub distance-row : d ≡ build width (distanceCell n m s)
       distance-row = is-build width (distanceCell n m s) d (f .len) (λ j l. elim (decLt j n) [
-        | yes b ↦ distances (topology-graph n m most) most source (f .front) left j b ∙ sym (distance-in n m s j source b)
+        | yes b ↦
+            distances (topology-graph n m most) most source (f .front) left j b
+            ∙ sym (distance-in n m s j source b)
         | no g ↦ f .front .rest j (omega arith) l .0 ∙ sym (distance-out n m s j (inr (omega arith)))
       ])
 
       pub hop-row : h ≡ build width (hopCell n m s)
       hop-row = is-build width (hopCell n m s) h (f .len-h) (λ j l. elim (decLt j n) [
-        | yes b ↦ nexts (topology-graph n m most) most source (f .front) left j b (f .fits j) ∙ sym (hops-in n m s j source b)
+        | yes b ↦
+            nexts (topology-graph n m most) most source (f .front) left j b (f .fits j)
+            ∙ sym (hops-in n m s j source b)
         | no g ↦ f .front .rest j (omega arith) l .1 ∙ sym (hops-out n m s j (inr (omega arith)))
       ])

@@ -1,4 +1,6 @@
--- The search for one source. First what it promises, then the laws about it; last what only the contracts of private functions cite.
+-- The search for one source: what it promises, the laws about that, and what only contracts of private functions cite.
 pub mod Rows
 pub mod RowsLaws
+pub mod Nearest
+pub mod Offers
 pub mod Search

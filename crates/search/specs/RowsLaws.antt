@@ -1,7 +1,9 @@
--- The rows that a search is lent, where the sizes are right and where one is wrong.
---     Sizes, sizes-true, true-sizes        the sizes that a search needs, and their test
---     distances-row, hops-row              the rows are filled
---     distances-left, hops-left            the rows are left as they were
+-- The rows that a search is lent, where the sizes are right and where one is wrong. The definitions choose by one test,
+-- so each law has the answer of that test as its premise.
+--     Sizes, sizes-are, sizes-true                        the sizes that a search needs, and their test
+--     many-routers, other-table, other-row, last-size     the test where one is wrong, in the order of the code
+--     distances-row, hops-row                             the rows are filled
+--     distances-left, hops-left                           the rows are left as they were
 use Prim.Native.Nat.{ℕ, _*_, _<_, _≤_}
 use mathlib.Core.Path.{_≡_, refl}
 use mathlib.Core.Bool.{true, false, _&&_}
@@ -13,7 +15,7 @@ use borrow.Author.Tests.{leb-true, eqb-true, le-leb, lt-leb, eq-eqb, ne-eqb}
 use Rattle.area.specs.Limits.{width}
 use Rattle.area.specs.Tables.{build}
 use Rattle.area.specs.TestLaws.{both-true}
-use Rattle.topology.specs.Paths.{distanceCell, hopCell}
+use Rattle.topology.specs.Cells.{distanceCell, hopCell}
 use Rattle.search.specs.Rows.{areSizes, distanceRow, hopRow}
 
 pub record Sizes (n cells d h : ℕ) : Type 0 where
@@ -23,17 +25,22 @@ pub record Sizes (n cells d h : ℕ) : Type 0 where
   pub row-h : h ≡ width
 
 module _ (n cells d h : ℕ) where
-  pub sizes-true : areSizes n cells d h ≡ true → Sizes n cells d h
+  pub sizes-are : areSizes n cells d h ≡ true → Sizes n cells d h
   unfolding areSizes
-  sizes-true e =
+  sizes-are e =
       let a = both-true (leb n width) (eqb cells (width * width) && (eqb d width && eqb h width)) e in
       let b = both-true (eqb cells (width * width)) (eqb d width && eqb h width) (a .1) in
       let c = both-true (eqb d width) (eqb h width) (b .1) in
-      record { most = leb-true n width (a .0); table = eqb-true cells (width * width) (b .0); row = eqb-true d width (c .0); row-h = eqb-true h width (c .1) }
+      record {
+        most = leb-true n width (a .0);
+        table = eqb-true cells (width * width) (b .0);
+        row = eqb-true d width (c .0);
+        row-h = eqb-true h width (c .1);
+      }
 
-  pub true-sizes : n ≤ width → cells ≡ width * width → d ≡ width → h ≡ width → areSizes n cells d h ≡ true
+  pub sizes-true : n ≤ width → cells ≡ width * width → d ≡ width → h ≡ width → areSizes n cells d h ≡ true
   unfolding areSizes
-  true-sizes a b c e = rw (le-leb n width a, eq-eqb cells (width * width) b, eq-eqb d width c, eq-eqb h width e) refl
+  sizes-true a b c e = rw (le-leb n width a, eq-eqb cells (width * width) b, eq-eqb d width c, eq-eqb h width e) refl
 
   -- each size that is wrong
   pub many-routers : width < n → areSizes n cells d h ≡ false

@@ -1,4 +1,14 @@
 // The search for one source: Dijkstra's, with all next hops of equal cost.
+//     search     the source's rows of distances and of next hops, or nothing written where a size is wrong
+//     settle     the main loop: takes the nearest reached router that is not settled, until none is left
+//     nearest    which router that is (nearest.rt)
+//     relax      offers the neighbours of the router just taken the way by it
+//     offer      a neighbour takes what is nearer, and joins what is as near (offers.rt)
+// What it promises is specs/Rows.antt. Why it is right is proofs/Dijkstra.antt, on distances and next hops alone;
+// proofs/Settling.antt says the same of the two rows.
+mod nearest;
+mod offers;
+
 use area::limits::CELLS;
 use area::limits::UNREACHED;
 use area::limits::UNUSED;
@@ -12,14 +22,18 @@ ghost use lib.ListN.{length, getD};
 ghost use Rattle.area.specs.Limits.{width, unused, unreached};
 ghost use Rattle.area.specs.Tables.{build};
 ghost use Rattle.topology.specs.Topology.{topology};
-ghost use Rattle.topology.specs.Paths.{distanceCell, hopCell};
+ghost use Rattle.topology.specs.Cells.{distanceCell, hopCell};
 ghost use Rattle.search.specs.Rows.{areSizes, distanceRow, hopRow};
-ghost use Rattle.search.specs.Search.{Relaxed};
+ghost use Rattle.search.specs.Search.{RowsRelaxed};
 
-// The source's rows of distances and of next hops, or none where a size is wrong.
+// The source's rows of distances and of next hops; where a size is wrong, nothing is written.
 pub fn search(n: usize, metric: &[u32], source: usize, dist: &mut [u32], hops: &mut [u32])
-    ensures { λ _. ⌜ now (dist .exit) ≡ distanceRow n (now (metric .entry)) source (now (dist .entry)) (now (hops .entry)) ⌝ }
-    ensures { λ _. ⌜ now (hops .exit) ≡ hopRow n (now (metric .entry)) source (now (dist .entry)) (now (hops .entry)) ⌝ }
+    ensures distances { λ _. ⌜
+        now (dist .exit)
+        ≡ distanceRow n (now (metric .entry)) source (now (dist .entry)) (now (hops .entry)) ⌝ }
+    ensures hops { λ _. ⌜
+        now (hops .exit)
+        ≡ hopRow n (now (metric .entry)) source (now (dist .entry)) (now (hops .entry)) ⌝ }
 {
     if are_sizes(n, metric.len(), dist.len(), hops.len()) {
         rows(n, metric, source, dist, hops);
@@ -67,7 +81,8 @@ fn blank(dist: &mut [u32], hops: &mut [u32])
     }
 }
 
-// Settles the routers that can be reached, the nearest first: a router's distance is final when it is taken, not when it is first reached.
+// Settles the routers that can be reached, the nearest first: a router's distance is final when it is taken, not when
+// it is first reached.
 fn settle(n: usize, metric: &[u32], source: usize, dist: &mut [u32], hops: &mut [u32])
     requires { ⌜ (n ≤ width) × (length (now metric) ≡ width * width) ⌝ }
     requires { ⌜ (source < n) × (length (now dist) ≡ width) × (length (now hops) ≡ width) ⌝ }
@@ -91,15 +106,18 @@ fn settle(n: usize, metric: &[u32], source: usize, dist: &mut [u32], hops: &mut 
 // Every router that has a link from the settled router q is offered the way by q.
 fn relax(n: usize, metric: &[u32], source: usize, q: usize, dist: &mut [u32], hops: &mut [u32])
     requires { ⌜ (n ≤ width) × (length (now metric) ≡ width * width) ⌝ }
-    requires { ⌜ (q < n) × (length (now dist) ≡ width) × (length (now hops) ≡ width) × (getD (now dist) q 0 + unused ≤ unreached) ⌝ }
-    ensures { λ _. ⌜ ((j : ℕ) → j < width → Relaxed (topology n (now (metric .entry))) source q (getD (now (dist .entry)) q 0) (getD (now (hops .entry)) q 0) j (getD (now (dist .entry)) j 0) (getD (now (hops .entry)) j 0) (getD (now (dist .exit)) j 0) (getD (now (hops .exit)) j 0)) ⌝ }
+    requires { ⌜ (length (now dist) ≡ width) × (length (now hops) ≡ width) ⌝ }
+    requires { ⌜ (q < n) × (getD (now dist) q 0 + unused ≤ unreached) ⌝ }
+    ensures { λ _. ⌜
+        RowsRelaxed n (now (metric .entry)) source q
+        (now (dist .entry)) (now (hops .entry)) (now (dist .exit)) (now (hops .exit)) ⌝ }
 {
     let base = dist[q];
-    let via = hops[q];
+    let own = hops[q];
     for j in 0..n {
         let m = link(n, metric, q, j);
         if m < UNUSED {
-            let by = first_hop(source, q, via, j);
+            let by = first_hop(source, q, own, j);
             offer(base + m, by, j, dist, hops);
         }
     }

@@ -1,23 +1,27 @@
--- Laws of router sets, once for every width w.
---     setOf-lt, bit-setOf, bit-beyond      what stands in `setOf w p`
---     setOf-same, same-set, same-members   when two sets are equal
---     setOf-none, none-setOf, member-some  when a set is empty
---     bit-added, bit-removed, bit-union, subset-at, at-subset      the members of each
---     added-below      a set of routers below n and one more of them
---     setOf-start, setOf-skip, setOf-more       a set that is found router by router
---     bit-one, or-added, .. and-subset     what code computes, at a type of w bits
+-- Laws of router sets, once for every width w. Sets below 2 ^ w with the same bits are equal, since a number is the sum
+-- of its binary digits; so two sets are compared bit by bit, those that code computes with those that are defined.
+--     setOf-lt, bit-setOf, bit-beyond          what stands in `setOf w p`
+--     setOf-same, is-setOf, same-set, same-members
+--                                              when two sets are equal
+--     setOf-none, none-setOf, member-some      when a set is empty
+--     bit-added, bit-removed, bit-union, subset-at, at-subset
+--                                              the members of each
+--     setOf-start, setOf-skip, setOf-more      a set that is found router by router
+--     bit-one, or-added, .. and-subset         what code computes, at a type of w bits
+--     added-below                              a set of routers below n and one more of them
 use Prim.Native.Nat.{ℕ, zero, suc, _+_, _-_, _*_, _/_, _%_, _^_, _≤_, _<_}
 use mathlib.Core.Path.{_≡_, refl, sym, ap, ap₂, _∙_}
 use mathlib.Core.Bool.{Bool, true, false, not, _&&_, _||_, false≢true}
 use mathlib.Core.Logic.{_≢_, ⊎-elim}
-use native.Mathlib.Nat.{not-suc-le-zero, le-of-suc-le-suc, eq-or-lt-of-le, sub-add-cancel, pow-succ', mul-assoc, mod-one, mod-eq-of-lt, div-eq-of-lt, add-mul-div-right, add-mul-mod-self-right}
+use native.Mathlib.Nat.{not-suc-le-zero, le-of-suc-le-suc, eq-or-lt-of-le, sub-add-cancel, pow-succ', mul-assoc}
+use native.Mathlib.Nat.{mod-one, mod-eq-of-lt, div-eq-of-lt, add-mul-div-right, add-mul-mod-self-right}
 use native.Mathlib.Decide.{decLt, ℕ-discrete}
 use native.Mathlib.Omega.{arith}
 use native.Mathlib.Numerals.{add-one}
 use borrow.Author.Tests.{eq-eqb, ne-eqb, eqb-true}
 use lib.Dec.{eqb}
 use lib.Arith.{mod-mul}
-use lib.Bits.{bitAnd, bitOr, bitXor, or-shr, or-mod, and-shr, and-mod, xor-shr, xor-mod, or-lt, and-lt, xor-lt}
+use lib.Bits.{bitAnd, bitOr, bitXor, or-shr, or-mod, or-lt, and-shr, and-mod, and-lt, xor-shr, xor-mod, xor-lt}
 use lib.Pow.{pow-pos, pow-add, pow-mono, pow-lt, shl-exact}
 use Rattle.area.specs.TestLaws.{and-one, or-right, or-none, same-test}
 use Rattle.sets.specs.Sets.{num, bit, setOf, added, removed, union, subset}
@@ -33,7 +37,10 @@ setOf-lt zero p = omega arith
 setOf-lt (suc w) p = omega (arith, setOf-lt w p, num-le (p w) (2 ^ w), pow-succ' 2 w)
 
 pow-split : (k w : ℕ) → k < w → 2 ^ w ≡ 2 ^ (w - suc k) * 2 * 2 ^ k
-pow-split k w h = ap (λ (x : ℕ). 2 ^ x) (sym (sub-add-cancel h)) ∙ pow-add 2 (w - suc k) (suc k) ∙ rw (pow-succ' 2 k, mul-assoc)
+pow-split k w h =
+    ap (λ (x : ℕ). 2 ^ x) (sym (sub-add-cancel h))
+    ∙ pow-add 2 (w - suc k) (suc k)
+    ∙ rw (pow-succ' 2 k, mul-assoc)
 
 bit-low : (s c k w : ℕ) → k < w → bit (s + c * 2 ^ w) k ≡ bit s k
 unfolding bit
@@ -64,13 +71,19 @@ bit-zero k = bit-above 0 k (pow-pos k)
 pub bit-lt : (w s k : ℕ) → s < 2 ^ w → bit s k ≡ true → k < w
 bit-lt w s k h e = elim (decLt k w) [
   | yes l ↦ l
-  | no f ↦ let g : w ≤ k = omega arith in absurd (false≢true (sym (bit-above s k (omega (arith, pow-mono {i = w} {j = k} g))) ∙ e))
+  | no f ↦
+      let le = pow-mono {i = w} {j = k} (omega arith) in
+      absurd (false≢true (sym (bit-above s k (omega arith)) ∙ e))
 ]
 
 pub bit-setOf : (w : ℕ) (p : ℕ → Bool) (k : ℕ) → k < w → bit (setOf w p) k ≡ p k
 unfolding setOf
 bit-setOf zero p k h = absurd (not-suc-le-zero h)
-bit-setOf (suc w) p k h = ⊎-elim (λ e. rw e (bit-top (setOf w p) w (p w) (setOf-lt w p))) (λ lt. bit-low (setOf w p) (num (p w)) k w lt ∙ bit-setOf w p k lt) (eq-or-lt-of-le (le-of-suc-le-suc h))
+bit-setOf (suc w) p k h =
+    ⊎-elim
+    (λ e. rw e (bit-top (setOf w p) w (p w) (setOf-lt w p)))
+    (λ lt. bit-low (setOf w p) (num (p w)) k w lt ∙ bit-setOf w p k lt)
+    (eq-or-lt-of-le (le-of-suc-le-suc h))
 
 pub bit-beyond : (w : ℕ) (p : ℕ → Bool) (k : ℕ) → w ≤ k → bit (setOf w p) k ≡ false
 bit-beyond w p k h = bit-above (setOf w p) k (omega (arith, setOf-lt w p, pow-mono h))
@@ -79,7 +92,10 @@ bit-beyond w p k h = bit-above (setOf w p) k (omega (arith, setOf-lt w p, pow-mo
 pub setOf-same : (w : ℕ) (p q : ℕ → Bool) → ((k : ℕ) → k < w → p k ≡ q k) → setOf w p ≡ setOf w q
 unfolding setOf
 setOf-same zero p q f = refl
-setOf-same (suc w) p q f = ap₂ (λ (x : ℕ) (b : Bool). x + num b * 2 ^ w) (setOf-same w p q (λ k h. f k (omega arith))) (f w (omega arith))
+setOf-same (suc w) p q f =
+    ap₂ (λ (x : ℕ) (b : Bool). x + num b * 2 ^ w)
+    (setOf-same w p q (λ k h. f k (omega arith)))
+    (f w (omega arith))
 
 num-digit : (d : ℕ) → d < 2 → num (eqb d 1) ≡ d
 num-digit zero h = refl
@@ -91,14 +107,20 @@ unfolding setOf bit
 setOf-bits-mod zero s = sym (mod-one s)
 setOf-bits-mod (suc w) s =
     ap₂ (λ (x d : ℕ). x + d * 2 ^ w) (setOf-bits-mod w s) (num-digit (s / 2 ^ w % 2) (omega arith))
-    ∙ (omega arith ∙ sym (mod-mul s {m = 2} {c = 2 ^ w} (omega arith) (pow-pos w)) ∙ ap (λ (x : ℕ). s % x) (sym (pow-succ' 2 w)))
+    ∙ (omega arith
+    ∙ sym (mod-mul s {m = 2} {c = 2 ^ w} (omega arith) (pow-pos w))
+    ∙ ap (λ (x : ℕ). s % x) (sym (pow-succ' 2 w)))
 
 -- a set is the set of its members
 pub setOf-bits : (w s : ℕ) → s < 2 ^ w → setOf w (bit s) ≡ s
 setOf-bits w s h = setOf-bits-mod w s ∙ mod-eq-of-lt h
 
 -- what has the members that p tests for is the set of p
-pub is-setOf : (w s : ℕ) (p : ℕ → Bool) → s < 2 ^ w → ((k : ℕ) → k < w → bit s k ≡ p k) → s ≡ setOf w p
+pub is-setOf :
+    (w s : ℕ) (p : ℕ → Bool)
+    → s < 2 ^ w
+    → ((k : ℕ) → k < w → bit s k ≡ p k)
+    → s ≡ setOf w p
 is-setOf w s p h f = sym (setOf-bits w s h) ∙ setOf-same w (bit s) p f
 
 pub same-set : (w s t : ℕ) → s < 2 ^ w → t < 2 ^ w → ((k : ℕ) → k < w → bit s k ≡ bit t k) → s ≡ t
@@ -159,10 +181,14 @@ setOf-more w k p l e =
     (λ i h. bit-added w (setOf k p) k i h ∙ found i (ℕ-discrete i k) (decLt i k))
   where
     found : (i : ℕ) → Dec (i ≡ k) → Dec (i < k) → (bit (setOf k p) i || eqb i k) ≡ bit (setOf (k + 1) p) i
-    found i (yes q) d = rw (q, eq-eqb k k refl, bit-setOf (k + 1) p k (omega arith), e) (or-right (bit (setOf k p) k) true refl)
-    found i (no f) (yes h) = rw (ne-eqb i k f, bit-setOf k p i h, bit-setOf (k + 1) p i (omega arith)) (or-none (p i))
-    found i (no f) (no g) = rw (ne-eqb i k f, bit-beyond k p i (omega arith), bit-beyond (k + 1) p i (omega arith)) refl
+    found i (yes q) d =
+        rw (q, eq-eqb k k refl, bit-setOf (k + 1) p k (omega arith), e) (or-right (bit (setOf k p) k) true refl)
+    found i (no f) (yes h) =
+        rw (ne-eqb i k f, bit-setOf k p i h, bit-setOf (k + 1) p i (omega arith)) (or-none (p i))
+    found i (no f) (no g) =
+        rw (ne-eqb i k f, bit-beyond k p i (omega arith), bit-beyond (k + 1) p i (omega arith)) refl
 
+-- ---- subsets
 outside : (a b : Bool) → (a ≡ true → b ≡ true) → (a && not b) ≡ false
 outside true true f = refl
 outside true false f = sym (f refl)
@@ -173,30 +199,52 @@ inside true true e f = refl
 inside true false e f = sym e
 inside false b e f = absurd (false≢true f)
 
-pub subset-at : (w s t : ℕ) → subset w s t ≡ true → (k : ℕ) → k < w → bit s k ≡ true → bit t k ≡ true
+pub subset-at :
+    (w s t : ℕ)
+    → subset w s t ≡ true
+    → (k : ℕ)
+    → k < w
+    → bit s k ≡ true
+    → bit t k ≡ true
 unfolding subset
-subset-at w s t e k h = inside (bit s k) (bit t k) (none-setOf w (λ i. bit s i && not (bit t i)) (eqb-true (setOf w (λ i. bit s i && not (bit t i))) 0 e) k h)
+subset-at w s t e k h =
+    let p : ℕ → Bool = λ i. bit s i && not (bit t i) in
+    inside (bit s k) (bit t k) (none-setOf w p (eqb-true (setOf w p) 0 e) k h)
 
-pub at-subset : (w s t : ℕ) → ((k : ℕ) → k < w → bit s k ≡ true → bit t k ≡ true) → subset w s t ≡ true
+pub at-subset :
+    (w s t : ℕ)
+    → ((k : ℕ) → k < w → bit s k ≡ true → bit t k ≡ true)
+    → subset w s t ≡ true
 unfolding subset
-at-subset w s t f = eq-eqb (setOf w (λ i. bit s i && not (bit t i))) 0 (setOf-none w (λ i. bit s i && not (bit t i)) (λ k h. outside (bit s k) (bit t k) (f k h)))
+at-subset w s t f =
+    let p : ℕ → Bool = λ i. bit s i && not (bit t i) in
+    eq-eqb (setOf w p) 0 (setOf-none w p (λ k h. outside (bit s k) (bit t k) (f k h)))
 
 -- ---- what code computes: a bit of an operation that goes digit by digit
-module _ (op : ℕ → ℕ → ℕ) (f : Bool → Bool → Bool) (shr : (a b k : ℕ) → op a b / 2 ^ k ≡ op (a / 2 ^ k) (b / 2 ^ k)) (low : (a b k : ℕ) → op a b % 2 ^ k ≡ op (a % 2 ^ k) (b % 2 ^ k)) (oo : eqb (op 0 0) 1 ≡ f false false) (oi : eqb (op 0 1) 1 ≡ f false true) (io : eqb (op 1 0) 1 ≡ f true false) (ii : eqb (op 1 1) 1 ≡ f true true) where
-  op-digit : (d e : ℕ) → d < 2 → e < 2 → eqb (op d e) 1 ≡ f (eqb d 1) (eqb e 1)
-  op-digit zero zero h l = oo
-  op-digit zero (suc zero) h l = oi
-  op-digit zero (suc (suc e)) h l = absurd (omega arith)
-  op-digit (suc zero) zero h l = io
-  op-digit (suc zero) (suc zero) h l = ii
-  op-digit (suc zero) (suc (suc e)) h l = absurd (omega arith)
-  op-digit (suc (suc d)) e h l = absurd (omega arith)
+module _
+    (op : ℕ → ℕ → ℕ) (f : Bool → Bool → Bool)
+    (shr : (a b k : ℕ) → op a b / 2 ^ k ≡ op (a / 2 ^ k) (b / 2 ^ k))
+    (low : (a b k : ℕ) → op a b % 2 ^ k ≡ op (a % 2 ^ k) (b % 2 ^ k))
+    (oo : eqb (op 0 0) 1 ≡ f false false)
+    (oi : eqb (op 0 1) 1 ≡ f false true)
+    (io : eqb (op 1 0) 1 ≡ f true false)
+    (ii : eqb (op 1 1) 1 ≡ f true true)
+  where
+    op-digit : (d e : ℕ) → d < 2 → e < 2 → eqb (op d e) 1 ≡ f (eqb d 1) (eqb e 1)
+    op-digit zero zero h l = oo
+    op-digit zero (suc zero) h l = oi
+    op-digit zero (suc (suc e)) h l = absurd (omega arith)
+    op-digit (suc zero) zero h l = io
+    op-digit (suc zero) (suc zero) h l = ii
+    op-digit (suc zero) (suc (suc e)) h l = absurd (omega arith)
+    op-digit (suc (suc d)) e h l = absurd (omega arith)
 
-  bit-op : (s t k : ℕ) → bit (op s t) k ≡ f (bit s k) (bit t k)
-  unfolding bit
-  bit-op s t k =
-      ap (λ (x : ℕ). eqb (x % 2) 1) (shr s t k) ∙ ap (λ (x : ℕ). eqb x 1) (low (s / 2 ^ k) (t / 2 ^ k) 1)
-      ∙ op-digit (s / 2 ^ k % 2) (t / 2 ^ k % 2) (omega arith) (omega arith)
+    bit-op : (s t k : ℕ) → bit (op s t) k ≡ f (bit s k) (bit t k)
+    unfolding bit
+    bit-op s t k =
+        ap (λ (x : ℕ). eqb (x % 2) 1) (shr s t k)
+        ∙ ap (λ (x : ℕ). eqb x 1) (low (s / 2 ^ k) (t / 2 ^ k) 1)
+        ∙ op-digit (s / 2 ^ k % 2) (t / 2 ^ k % 2) (omega arith) (omega arith)
 
 pub bit-or : (s t k : ℕ) → bit (bitOr s t) k ≡ (bit s k || bit t k)
 bit-or = bit-op bitOr _||_ or-shr or-mod refl refl refl refl
@@ -239,7 +287,9 @@ module _ (w s : ℕ) (fits : s < 2 ^ w) where
   -- no router from w on can be added
   pub same-added : (k : ℕ) → w ≤ k → s ≡ added w s k
   unfolding added
-  same-added k h = is-setOf w s (λ i. bit s i || eqb i k) fits (λ i l. rw (ne-eqb i k (λ e. let x : ⊥ = omega arith in x)) (sym (or-none (bit s i))))
+  same-added k h =
+      is-setOf w s (λ i. bit s i || eqb i k) fits
+      (λ i l. rw (ne-eqb i k (λ e. let x : ⊥ = omega arith in x)) (sym (or-none (bit s i))))
 
   -- s ^ (1 << k), where k is a member
   pub xor-removed : (k : ℕ) → k < w → bit s k ≡ true → bitXor s ((1 * 2 ^ k) % 2 ^ w) ≡ removed w s k
@@ -281,11 +331,18 @@ module _ (w s : ℕ) (fits : s < 2 ^ w) where
         whole false b f = refl
 
         down : eqb (bitAnd s t) s ≡ true → subset w s t ≡ true
-        down e = at-subset w s t (λ k h. part (bit s k) (bit t k) (sym (bit-and s t k) ∙ ap (λ (x : ℕ). bit x k) (eqb-true (bitAnd s t) s e)))
+        down e =
+            let same = eqb-true (bitAnd s t) s e in
+            at-subset w s t
+            (λ k h. part (bit s k) (bit t k) (sym (bit-and s t k) ∙ ap (λ (x : ℕ). bit x k) same))
 
         up : subset w s t ≡ true → eqb (bitAnd s t) s ≡ true
-        up e = eq-eqb (bitAnd s t) s (same-set w (bitAnd s t) s (and-lt w s t fits room) fits (λ k h. bit-and s t k ∙ whole (bit s k) (bit t k) (subset-at w s t e k h)))
+        up e =
+            eq-eqb (bitAnd s t) s
+            (same-set w (bitAnd s t) s (and-lt w s t fits room) fits
+            (λ k h. bit-and s t k ∙ whole (bit s k) (bit t k) (subset-at w s t e k h)))
 
 pub added-below : (w n s k : ℕ) → n ≤ w → s < 2 ^ n → k < n → added w s k < 2 ^ n
 added-below w n s k b h l =
-    rw (← or-added w s (omega (arith, pow-mono b)) k (omega arith), one-shifted w k (omega arith)) (or-lt n s (2 ^ k) h (pow-lt l))
+    rw (← or-added w s (omega (arith, pow-mono b)) k (omega arith), one-shifted w k (omega arith))
+    (or-lt n s (2 ^ k) h (pow-lt l))

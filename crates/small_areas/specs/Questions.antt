@@ -1,33 +1,36 @@
--- What can be asked of a bench file f, and what the definitions answer: Read's on the file, then those of Paths, Plan and Step on what Read gives.
+-- What can be asked of a bench file f, and what the definitions answer: Read's on the file, then those of Paths, Plan
+-- and Step on what Read gives.
 use Prim.Native.Nat.{ℕ, _*_}
 use mathlib.Core.List.{List, _∷_}
 use lib.ListN.{getD, take, replicate}
 use Rattle.area.specs.Limits.{width}
 use Rattle.area.specs.Tests.{orThen, all, first}
-use Rattle.area.specs.Sizes.{isCount, isTable}
+use Rattle.area.specs.Sizes.{isRouterCount, isTable}
 use Rattle.area.specs.Tables.{cell, build, tabulate, perRouter}
 use Rattle.sets.specs.Sets.{bit, setOf, added, removed, subset}
-use Rattle.entries.specs.Entries.{count, entryOf, isFree, entryRefusal, listedRefusal, listed}
+use Rattle.entries.specs.Entries.{entryCount, entryOf, isFree, entryRefusal, listedRefusal, listedMetric}
 use Rattle.topology.specs.Topology.{isLink, topology}
 use Rattle.topology.specs.Distance.{sums, least}
 use Rattle.topology.specs.NextHops.{isNext, nextHops}
-use Rattle.topology.specs.Paths.{isMetric, areMetrics, refusalOf, distanceCell, hopCell, distancesOf, hopsOf}
+use Rattle.paths.specs.Paths.{isMetric, areMetrics, pathsRefusal, distancesOf, hopsOf}
+use Rattle.topology.specs.Cells.{distanceCell, hopCell}
 use Rattle.ranks.specs.Rank.{greatest, above, longest, rank}
 use Rattle.changes.specs.Changes.{changeRefusal, isRise, isFall}
 use Rattle.changes.specs.Root.{isCommon}
-use Rattle.changes.specs.Judging.{faultRefusal, commonRefusal, listRefusal}
 use Rattle.plan.specs.declared.Record.{Record}
 use Rattle.plan.specs.NewMetrics.{newCell, newMetrics}
 use Rattle.plan.specs.Waiting.{oldHops, newHops, waiting, telling, due}
-use Rattle.plan.specs.Plan.{Tables, tables, areTables, planRefusal, isPlanned, fresh, blank, filled, recordOf, tablesOf}
+use Rattle.plan.specs.Plan.{Tables, asTables, areTables, planRefusal, isPlanned, fresh, blank, filled, recordOf}
+use Rattle.plan.specs.Plan.{tablesOf}
 use Rattle.machine.specs.Answers.{Reply, refused}
-use Rattle.machine.specs.Machine.{learn, release, ready, write, finish, listens, deliver, isSound, isKind, readsB, areRouters, callOf, stepOf}
+use Rattle.machine.specs.Machine.{learn, release, ready, write, finish, listens, deliver, isSound, isKind, readsB}
+use Rattle.machine.specs.Machine.{areRouters, callOf, stepOf}
 use Rattle.machine.specs.Run.{callsOf, replies}
-use Rattle.sections.specs.Sections.{changes, steps}
-use Rattle.sections.specs.Faults.{mostLinks, linkRefusal, restRefusal, fileRefusal}
-use Rattle.bench_file.specs.Read.{readRefusal, contents, nothing, contentsOf, linked, metricsOf}
+use Rattle.bench_file.specs.Sections.{changes, steps}
+use Rattle.bench_file.specs.Faults.{mostLinks, linkRefusal, restRefusal, fileRefusal}
+use Rattle.bench_file.specs.Read.{readRefusal, contents, noContents, contentsOf, linked, metricsOf}
 use Rattle.text.specs.Text.{digits, decimal, field, line}
-use Rattle.lines.specs.Lines.{refusedLine, routerLine, routerLines, answerText, stepLine, stepLines}
+use Rattle.report.specs.Lines.{refusedLine, routerLine, routerLines, answerText, stepLine, stepLines}
 use Rattle.report.specs.Report.{rehearsal}
 
 pub data Question : Type 0 where
@@ -50,7 +53,7 @@ pub data Question : Type 0 where
   printed : Question
 
 -- what the answer to a question is
-abbrev pub Value : Question → Type 0
+abbrev pub Value : (q : Question) → Type 0
 Value refusal = ℕ
 Value root = ℕ
 Value ranks = List ℕ
@@ -68,39 +71,43 @@ abbrev lent : List ℕ
 lent = replicate (width * width) 0
 
 abbrev lentFive : Tables
-lentFive = tables lent lent lent lent lent
+lentFive = asTables lent lent lent lent lent
 
 -- ---- what comes of the file
--- Read: the number of routers, and the metric table. Where Read refuses, there is no router, and Paths and Plan refuse in turn.
-abbrev routers : List ℕ → ℕ
+-- Read: the number of routers, and the metric table. Where Read refuses, there is no router, and Paths and Plan refuse
+-- in turn.
+abbrev routers : (f : List ℕ) → ℕ
 routers f = contentsOf f lent .n
 
-abbrev metrics : List ℕ → List ℕ
+abbrev metrics : (f : List ℕ) → List ℕ
 metrics f = metricsOf f lent
 
 -- Plan: its refusal, its record and its tables
-abbrev refusedBy : List ℕ → ℕ
+abbrev refusedBy : (f : List ℕ) → ℕ
 refusedBy f = planRefusal (routers f) (metrics f) (changes f) (areTables (metrics f) lentFive)
 
-abbrev planned : List ℕ → Record
+abbrev planned : (f : List ℕ) → Record
 planned f = recordOf (routers f) (metrics f) (changes f) lentFive
 
-abbrev filledIn : List ℕ → Tables
+abbrev filledIn : (f : List ℕ) → Tables
 filledIn f = tablesOf (routers f) (metrics f) (changes f) lentFive
 
 -- Step: the replies to the file's steps, the first of which gets Plan's record
-abbrev replied : List ℕ → List Reply
+abbrev replied : (f : List ℕ) → List Reply
 replied f = replies (planned f) (callsOf (steps f))
 
--- The answer to a question. A step that the file does not have is `refused 0`: no refusal has this number. The names under the signature are what has to be unfolded to compute it.
-unfoldable pub answer : List ℕ → (q : Question) → Value q
-unfolding readRefusal fileRefusal mostLinks linkRefusal restRefusal contentsOf contents nothing metricsOf linked
-    all first bit setOf added removed subset isCount isTable build tabulate perRouter count entryOf isFree entryRefusal listedRefusal listed
-    isLink topology sums least Rattle.topology.specs.Distance.distance isNext nextHops isMetric areMetrics refusalOf distanceCell hopCell distancesOf hopsOf
-    changeRefusal isRise isFall isCommon Rattle.changes.specs.Root.root newCell newMetrics oldHops newHops waiting telling due greatest above longest rank
-    areTables faultRefusal commonRefusal listRefusal planRefusal isPlanned fresh blank filled recordOf tablesOf
-    learn release ready write finish listens deliver isSound isKind readsB areRouters callOf stepOf callsOf replies
-    digits decimal field line Rattle.prepare.specs.Bench.refusal refusedLine routerLine routerLines answerText stepLine stepLines rehearsal
+-- The answer to a question. A step that the file does not have is `refused 0`: no refusal has this number. The names
+-- under the signature are what has to be unfolded to compute it.
+unfoldable pub answer : (f : List ℕ) (q : Question) → Value q
+unfolding readRefusal fileRefusal mostLinks linkRefusal restRefusal contentsOf contents noContents metricsOf linked
+    all first bit setOf added removed subset isRouterCount isTable build tabulate perRouter entryCount entryOf
+    isFree entryRefusal listedRefusal listedMetric isLink topology sums least
+    Rattle.topology.specs.Distance.distance isNext nextHops isMetric areMetrics pathsRefusal distanceCell hopCell
+    distancesOf hopsOf changeRefusal isRise isFall isCommon Rattle.changes.specs.Root.root newCell newMetrics
+    oldHops newHops waiting telling due greatest above longest rank areTables planRefusal isPlanned fresh blank
+    filled recordOf tablesOf learn release ready write finish listens deliver isSound isKind readsB areRouters
+    callOf stepOf callsOf replies digits decimal field line Rattle.prepare.specs.Bench.refusal refusedLine
+    routerLine routerLines answerText stepLine stepLines rehearsal
 answer f refusal = orThen (readRefusal f lent) (refusedBy f)
 answer f root = planned f .root
 answer f ranks = take (routers f) (planned f .ranks)

@@ -1,15 +1,20 @@
--- The small areas of 01, "Small areas, checked by hand": one list of inputs and results, and one theorem, that the definitions agree with every row of it.
+-- The small areas of 01, "Small areas, checked by hand": one list of inputs and results, and one theorem, that the
+-- definitions agree with every row of it.
+--     C1 .. C13        the rows of 01's table, each drawn above it
+--     rehearsed        after them, all that the rehearsal replies and prints
+--     agreed           the theorem
 use Prim.Native.Nat.{ℕ, _/_, _%_}
 use mathlib.Core.Path.{_≡_, refl}
 use mathlib.Core.List.{List, [], _∷_, _++_, map}
 use lib.ListN.{length}
 use Rattle.machine.specs.Answers.{ok, ignored, refused}
 use Rattle.text.specs.Text.{word}
-use Rattle.small_areas.specs.Questions.{Question, refusal, root, ranks, waits, distance, set, oldSet, newSet, step, allSteps, printed, Value, answer}
+use Rattle.small_areas.specs.Questions.{Question, refusal, root, ranks, waits, distance, set, oldSet, newSet}
+use Rattle.small_areas.specs.Questions.{step, allSteps, printed, Value, answer}
 
 -- ---- bench files as bytes (01, "The bench file")
 -- a number in two bytes
-abbrev two : ℕ → List ℕ
+abbrev two : (k : ℕ) → List ℕ
 two k = k / 256 ∷ k % 256 ∷ []
 
 -- the link from i to j at the metric m; among the changes, the link whose metric becomes m
@@ -24,20 +29,20 @@ both i j m = link i j m ++ link j i m
 abbrev down : ℕ
 down = 16_777_215
 
--- the steps
-abbrev learn : ℕ → List ℕ
+-- the steps of router a: `write` has the destination b, and `deliver` is of its message to router b
+abbrev learn : (a : ℕ) → List ℕ
 learn a = 1 ∷ a ∷ 0 ∷ []
 
-abbrev release : ℕ → List ℕ
+abbrev release : (a : ℕ) → List ℕ
 release a = 2 ∷ a ∷ 0 ∷ []
 
-abbrev write : ℕ → ℕ → List ℕ
+abbrev write : (a b : ℕ) → List ℕ
 write a b = 3 ∷ a ∷ b ∷ []
 
-abbrev finish : ℕ → List ℕ
+abbrev finish : (a : ℕ) → List ℕ
 finish a = 4 ∷ a ∷ 0 ∷ []
 
-abbrev deliver : ℕ → ℕ → List ℕ
+abbrev deliver : (a b : ℕ) → List ℕ
 deliver a b = 5 ∷ a ∷ b ∷ []
 
 -- the file of n routers, with the count before each section
@@ -46,7 +51,12 @@ bench n links changes steps =
     n ∷ two (length links / 5) ++ links ++ (length changes / 5 ∷ changes) ++ two (length steps / 3) ++ steps
 
 -- C1's links, where 0–2 is at m: 3 in C1 itself
-abbrev triangle : ℕ → List ℕ
+--
+--           1
+--       1 /   \ 1
+--        0 --- 2
+--           m
+abbrev triangle : (m : ℕ) → List ℕ
 triangle m = both 0 1 1 ++ both 1 2 1 ++ both 0 2 m
 
 -- the file of 01, "The rehearsal", byte for byte
@@ -78,7 +88,10 @@ rehearsal =
 
 -- the same bytes from `bench`: of C1's links 1–2 goes down, and ten steps follow
 tenSteps : List ℕ
-tenSteps = learn 1 ++ release 1 ++ write 1 2 ++ learn 0 ++ release 0 ++ write 0 2 ++ finish 0 ++ deliver 0 1 ++ deliver 0 1 ++ write 1 2
+tenSteps =
+    learn 1 ++ release 1 ++ write 1 2
+    ++ learn 0 ++ release 0 ++ write 0 2 ++ finish 0
+    ++ deliver 0 1 ++ deliver 0 1 ++ write 1 2
 
 rehearsal-is : rehearsal ≡ bench 3 (triangle 3) (both 1 2 down) tenSteps
 unfolding tenSteps
@@ -99,60 +112,146 @@ record Case : Type 0 where
   file : List ℕ
   results : List Result
 
-abbrev case : List ℕ → List Result → Case
+abbrev case : (f : List ℕ) (rs : List Result) → Case
 case f rs = record { file = f; results = rs }
 
--- the lines that 01 has below the file of the rehearsal
+-- ---- the areas
+-- A link is drawn with its metric; without an arrow it goes both ways. Left the links before the change, right those
+-- after it.
+
+-- C1: the plan of the rehearsal. Link 1–2 goes down.
+--
+--           1                  1
+--       1 /   \ 1          1 /
+--        0 --- 2            0 --- 2
+--           3                  3
+abbrev C1 : Case
+C1 = case rehearsal (ranks is (0 ∷ 1 ∷ 2 ∷ []) ∷ [])
+
+-- C2: link 1–2 comes up.
+--
+--           1                  1
+--       1 /                1 /   \ 1
+--        0 --- 2            0 --- 2
+--           3                  3
+abbrev C2 : Case
+C2 =
+    case (bench 3 (both 0 1 1 ++ both 0 2 3) (both 1 2 1) [])
+    (ranks is (2 ∷ 1 ∷ 0 ∷ []) ∷ waits is (2 ∷ 4 ∷ 0 ∷ []) ∷ [])
+
+-- C3: C1 where two ways from 0 to 2 cost the same: sets {1, 2} and then {2}.
+--
+--           1                  1
+--       1 /   \ 1          1 /
+--        0 --- 2            0 --- 2
+--           2                  2
+abbrev C3 : Case
+C3 =
+    case (bench 3 (triangle 2) (both 1 2 down) [])
+    (oldSet 0 2 is 6 ∷ newSet 0 2 is 4 ∷ [])
+
+-- C4: C1 with its changes in the other order, 2→1 before 1→2.
+abbrev C4 : Case
+C4 =
+    case (bench 3 (triangle 3) (both 2 1 down) [])
+    (root is 1 ∷ waits is (0 ∷ 5 ∷ 0 ∷ []) ∷ [])
+
+-- C5: a link that is not used.
+--
+--        0 --16,777,215-> 1
+abbrev C5 : Case
+C5 =
+    case (bench 2 (link 0 1 16_777_215) [] [])
+    (distance 0 1 is 4_294_967_295 ∷ set 0 1 is 0 ∷ [])
+
+-- C6: the largest metric of a used link.
+--
+--        0 --16,777,214-> 1
+abbrev C6 : Case
+C6 =
+    case (bench 2 (link 0 1 16_777_214) [] [])
+    (distance 0 1 is 16_777_214 ∷ set 0 1 is 2 ∷ [])
+
+-- C7: a change to the metric that is there.
+--
+--        0 --2-> 1          0 --2-> 1
+abbrev C7 : Case
+C7 = case (bench 2 (link 0 1 2) (link 0 1 2) []) (refusal is 11 ∷ [])
+
+-- C8: one change rises, the other falls.
+--
+--        0 --2-> 1          0 --3-> 1
+--        0 <-2-- 1          0 <-1-- 1
+abbrev C8 : Case
+C8 = case (bench 2 (both 0 1 2) (link 0 1 3 ++ link 1 0 1) []) (refusal is 12 ∷ [])
+
+-- C9: two changes that share no router.
+--
+--        0 --1-> 1          0 --2-> 1
+--        2 --1-> 3          2 --2-> 3
+abbrev C9 : Case
+C9 = case (bench 4 (link 0 1 1 ++ link 2 3 1) (link 0 1 2 ++ link 2 3 2) []) (refusal is 13 ∷ [])
+
+-- C10: C1's links, and no change.
+abbrev C10 : Case
+C10 = case (bench 3 (triangle 3) [] []) (refusal is 10 ∷ [])
+
+-- C11: in C1, router 1 would write while it waits.
+abbrev C11 : Case
+C11 = case rehearsal (step 3 is refused 24 ∷ [])
+
+-- C12: in C1, router 0 is done, and its message reaches router 1 twice.
+abbrev C12 : Case
+C12 = case rehearsal (step 8 is ok ∷ step 9 is ignored ∷ [])
+
+-- C13: a distance that equals the metric of a link that is not used; there is no link from 0 to 2.
+--
+--        0 --1-> 1 --16,777,214-> 2
+abbrev C13 : Case
+C13 =
+    case (bench 3 (link 0 1 1 ++ link 1 2 16_777_214) [] [])
+    (distance 0 2 is 16_777_215 ∷ set 0 2 is 2 ∷ [])
+
+-- ---- the rehearsal, with the lines that 01 has below its file
 abbrev routerLines : List ℕ
-routerLines = word "router 0 rank 0 waits 0 tells 2 due 4\nrouter 1 rank 1 waits 1 tells 4 due 4\nrouter 2 rank 2 waits 2 tells 0 due 3\n"
+routerLines =
+    word "router 0 rank 0 waits 0 tells 2 due 4\n"
+    ++ word "router 1 rank 1 waits 1 tells 4 due 4\n"
+    ++ word "router 2 rank 2 waits 2 tells 0 due 3\n"
 
 abbrev stepLines : List ℕ
-stepLines = word "step 1 ok\nstep 2 ok\nstep 3 refused 24\nstep 4 ok\nstep 5 ok\nstep 6 ok\nstep 7 ok\nstep 8 ok\nstep 9 ignored\nstep 10 ok\nend\n"
+stepLines =
+    word "step 1 ok\nstep 2 ok\nstep 3 refused 24\nstep 4 ok\nstep 5 ok\n"
+    ++ word "step 6 ok\nstep 7 ok\nstep 8 ok\nstep 9 ignored\nstep 10 ok\nend\n"
 
-cases : List Case
-cases =
-    -- C1: the plan of the rehearsal
-    case rehearsal (ranks is (0 ∷ 1 ∷ 2 ∷ []) ∷ [])
-    -- C2: 1–2 comes up
-    ∷ case (bench 3 (both 0 1 1 ++ both 0 2 3) (both 1 2 1) []) (ranks is (2 ∷ 1 ∷ 0 ∷ []) ∷ waits is (2 ∷ 4 ∷ 0 ∷ []) ∷ [])
-    -- C3: C1 where two ways from 0 to 2 cost the same
-    ∷ case (bench 3 (triangle 2) (both 1 2 down) []) (oldSet 0 2 is 6 ∷ newSet 0 2 is 4 ∷ [])
-    -- C4: C1 with its changes in the other order
-    ∷ case (bench 3 (triangle 3) (both 2 1 down) []) (root is 1 ∷ waits is (0 ∷ 5 ∷ 0 ∷ []) ∷ [])
-    -- C5: a link that is not used
-    ∷ case (bench 2 (link 0 1 16_777_215) [] []) (distance 0 1 is 4_294_967_295 ∷ set 0 1 is 0 ∷ [])
-    -- C6: the largest metric of a used link
-    ∷ case (bench 2 (link 0 1 16_777_214) [] []) (distance 0 1 is 16_777_214 ∷ set 0 1 is 2 ∷ [])
-    -- C7: a change to the metric that is there
-    ∷ case (bench 2 (link 0 1 2) (link 0 1 2) []) (refusal is 11 ∷ [])
-    -- C8: one change rises, the other falls
-    ∷ case (bench 2 (both 0 1 2) (link 0 1 3 ++ link 1 0 1) []) (refusal is 12 ∷ [])
-    -- C9: two changes that share no router
-    ∷ case (bench 4 (link 0 1 1 ++ link 2 3 1) (link 0 1 2 ++ link 2 3 2) []) (refusal is 13 ∷ [])
-    -- C10: no change
-    ∷ case (bench 3 (triangle 3) [] []) (refusal is 10 ∷ [])
-    -- C11: router 1 would write while it waits
-    ∷ case rehearsal (step 3 is refused 24 ∷ [])
-    -- C12: router 0 is done, and its message reaches router 1 twice
-    ∷ case rehearsal (step 8 is ok ∷ step 9 is ignored ∷ [])
-    -- C13: a distance that equals the metric of a link that is not used
-    ∷ case (bench 3 (link 0 1 1 ++ link 1 2 16_777_214) [] []) (distance 0 2 is 16_777_215 ∷ set 0 2 is 2 ∷ [])
-    -- after the table: all ten replies of the rehearsal, and all that it prints
-    ∷ case rehearsal (allSteps is (ok ∷ ok ∷ refused 24 ∷ ok ∷ ok ∷ ok ∷ ok ∷ ok ∷ ignored ∷ ok ∷ []) ∷ [])
-    ∷ case rehearsal (printed is (routerLines ++ stepLines) ∷ [])
-    ∷ []
+-- all ten replies, and all that is printed
+abbrev replied : Case
+replied = case rehearsal (allSteps is (ok ∷ ok ∷ refused 24 ∷ ok ∷ ok ∷ ok ∷ ok ∷ ok ∷ ignored ∷ ok ∷ []) ∷ [])
+
+abbrev wholeText : Case
+wholeText = case rehearsal (printed is (routerLines ++ stepLines) ∷ [])
+
+abbrev rehearsed : List Case
+rehearsed = replied ∷ wholeText ∷ []
 
 -- ---- the theorem
+cases : List Case
+cases = C1 ∷ C2 ∷ C3 ∷ C4 ∷ C5 ∷ C6 ∷ C7 ∷ C8 ∷ C9 ∷ C10 ∷ C11 ∷ C12 ∷ C13 ∷ rehearsed
+
 -- the questions of a row, with the definitions' answers
-abbrev answered : Case → List Result
+abbrev answered : (c : Case) → List Result
 answered c = map (λ r. r .asked is answer (c .file) (r .asked)) (c .results)
 
 -- in every row these are its results
-abbrev Agree : List Case → Type 0
+abbrev Agree : (cs : List Case) → Type 0
 Agree [] = Unit {0}
 Agree (c ∷ cs) = (answered c ≡ c .results) × Agree cs
 
 -- The definitions agree with the list: both sides are computed, in each of its fifteen rows.
+others : Agree rehearsed
+unfolding answer
+others = (refl, (refl, tt))
+
 agreed : Agree cases
 unfolding cases answer
-agreed = (refl, (refl, (refl, (refl, (refl, (refl, (refl, (refl, (refl, (refl, (refl, (refl, (refl, (refl, (refl, tt)))))))))))))))
+agreed = (refl, (refl, (refl, (refl, (refl, (refl, (refl, (refl, (refl, (refl, (refl, (refl, (refl, others)))))))))))))

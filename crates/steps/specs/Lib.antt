@@ -1,2 +1,3 @@
--- The steps of a record by value, as 01 means them.
+-- What the functions of this crate promise, in terms of the machine.
 pub mod Outcomes
+pub mod Lent

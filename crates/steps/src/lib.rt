@@ -1,4 +1,16 @@
-// The steps of an ordered update: a machine over the record that a plan hands back.
+// The steps of an ordered update (01, "The steps"): a machine over the record that a plan hands back.
+// The way of a step, from its bytes to the record:
+//     run, Machine::step       a list of steps as bytes, and one step, on a record by value: both take the record's
+//                              tables out of it, lend them to `lent::step`, and put them back
+//     lent::step               one step over n and lent tables: the refusals that every kind has, and then the call
+//     moves, messages          the call of each kind: learn, release, write and finish of one router, deliver between
+//                              two. Here a router's entries are read and written, by its index
+// The machine is defined in the crate machine, specs/Machine.antt. What the functions over lent tables promise of it
+// has a name in specs/Lent.antt; their proofs cite a law of machine's StepLaws for each way that a call can end.
+pub mod lent;
+mod messages;
+mod moves;
+
 use machine::Answer;
 use machine::DELIVER;
 use machine::FINISH;
@@ -7,7 +19,7 @@ use machine::RELEASE;
 use machine::WRITE;
 use plan::Record;
 ghost use mathlib.Core.Path.{_≡_};
-ghost use Rattle.machine.specs.Machine.{stepOf};
+ghost use Rattle.machine.specs.Machine.{learnKind, releaseKind, writeKind, finishKind, deliverKind, stepOf};
 ghost use Rattle.machine.specs.Run.{run, callsOf};
 ghost use Rattle.steps.specs.Outcomes.{outcomeOf};
 
@@ -25,42 +37,42 @@ pub struct Machine {
 impl Machine {
     // A router learns of the change.
     pub fn learn(self, router: u8) -> Stepped
-        ensures { λ r. ⌜ outcomeOf r ≡ stepOf (self .now) 1 router 0 ⌝ }
+        ensures outcome { λ r. ⌜ outcomeOf r ≡ stepOf (self .now) learnKind router 0 ⌝ }
     {
         self.step(LEARN, router, 0)
     }
 
     // The hold-down of a router is over.
     pub fn release(self, router: u8) -> Stepped
-        ensures { λ r. ⌜ outcomeOf r ≡ stepOf (self .now) 2 router 0 ⌝ }
+        ensures outcome { λ r. ⌜ outcomeOf r ≡ stepOf (self .now) releaseKind router 0 ⌝ }
     {
         self.step(RELEASE, router, 0)
     }
 
     // A router writes its new next hops to a destination.
     pub fn write(self, router: u8, destination: u8) -> Stepped
-        ensures { λ r. ⌜ outcomeOf r ≡ stepOf (self .now) 3 router destination ⌝ }
+        ensures outcome { λ r. ⌜ outcomeOf r ≡ stepOf (self .now) writeKind router destination ⌝ }
     {
         self.step(WRITE, router, destination)
     }
 
     // A router has written all that is due, and is done.
     pub fn finish(self, router: u8) -> Stepped
-        ensures { λ r. ⌜ outcomeOf r ≡ stepOf (self .now) 4 router 0 ⌝ }
+        ensures outcome { λ r. ⌜ outcomeOf r ≡ stepOf (self .now) finishKind router 0 ⌝ }
     {
         self.step(FINISH, router, 0)
     }
 
     // The message that one router is done arrives at another.
     pub fn deliver(self, from: u8, to: u8) -> Stepped
-        ensures { λ r. ⌜ outcomeOf r ≡ stepOf (self .now) 5 from to ⌝ }
+        ensures outcome { λ r. ⌜ outcomeOf r ≡ stepOf (self .now) deliverKind from to ⌝ }
     {
         self.step(DELIVER, from, to)
     }
 
     // One step, by its kind.
     pub fn step(self, kind: u8, a: u8, b: u8) -> Stepped
-        ensures { λ r. ⌜ outcomeOf r ≡ stepOf (self .now) kind a b ⌝ }
+        ensures outcome { λ r. ⌜ outcomeOf r ≡ stepOf (self .now) kind a b ⌝ }
     {
         let mut next = self.now;
         let mut waiting = next.waiting;
@@ -68,7 +80,7 @@ impl Machine {
         let due = next.due;
         let mut states = next.states;
         let mut written = next.written;
-        let answer = calls::step(
+        let answer = lent::step(
             next.n,
             &mut waiting,
             &telling,
@@ -88,7 +100,7 @@ impl Machine {
 
 // The last record, after the steps that the bytes stand for, three bytes each. One or two bytes at the end are no step.
 pub fn run(first: Record, bytes: &[u8]) -> Record
-    ensures { λ r. ⌜ r ≡ run first (callsOf (now (bytes .entry))) ⌝ }
+    ensures last { λ r. ⌜ r ≡ run first (callsOf (now (bytes .entry))) ⌝ }
 {
     let n = first.n;
     let mut waiting = first.waiting;
@@ -101,7 +113,7 @@ pub fn run(first: Record, bytes: &[u8]) -> Record
         let kind = bytes[at];
         let a = bytes[at + 1];
         let b = bytes[at + 2];
-        calls::step(
+        lent::step(
             n,
             &mut waiting,
             &telling,

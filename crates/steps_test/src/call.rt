@@ -32,11 +32,10 @@ pub fn a(words: &[u8], k: usize) -> u8 {
 pub fn b(words: &[u8], k: usize) -> u8
     requires { ⌜ k < 200 ⌝ }
 {
-    if read::mark(words, k + 1) == b'.' {
-        a(words, k + 1)
-    } else {
-        0
+    if read::mark(words, k + 1) != b'.' {
+        return 0;
     }
+    a(words, k + 1)
 }
 
 // The number of an answer: 0 for ok, 255 for ignored, and the refusal's own.
@@ -48,26 +47,13 @@ pub fn number(answer: Answer) -> u8 {
     }
 }
 
-// Puts the bytes of the steps at the start of `bytes`, as far as there is room for them and two bytes more. Gives how many they are.
-pub fn fill(bytes: &mut [u8; 194], words: &[u8]) -> usize
-    ensures { λ r. ⌜ r ≤ 192 ⌝ }
-{
-    let mut at = 0;
-    for k in 0..read::MOST {
-        at = put(bytes, at, words, k);
-    }
-    at
-}
-
-// The step that begins with number k, if there is one.
-fn put(bytes: &mut [u8; 194], at: usize, words: &[u8], k: usize) -> usize
+// Puts the bytes of the step that begins with number k, if there is one, at a place of `bytes`, as far as there is room
+// for them and two bytes more. Gives the place after them.
+pub fn put(bytes: &mut [u8; 194], at: usize, words: &[u8], k: usize) -> usize
     requires { ⌜ (at ≤ 192) × (k < 200) ⌝ }
     ensures { λ r. ⌜ r ≤ 192 ⌝ }
 {
-    if !is_step(words, k) {
-        return at;
-    }
-    if 189 < at {
+    if 189 < at || !is_step(words, k) {
         return at;
     }
     bytes[at] = kind(words, k);

@@ -1,17 +1,33 @@
 // How much two records differ.
 use plan::Record;
-ghost use Prim.Native.Nat.{_≤_};
+ghost use Prim.Native.Nat.{_≤_, _<_};
 
 // In how many entries two records differ: of the tables, and n, root and direction.
 pub fn records(x: Record, y: Record) -> u64
     ensures { λ r. ⌜ r ≤ 195 ⌝ }
 {
-    let whole = unlike(x.n, y.n) + unlike(x.root, y.root) + unlike(x.direction, y.direction);
-    let of_bytes = bytes(&x.ranks, &y.ranks) + bytes(&x.states, &y.states);
-    let of_plan = sets(&x.waiting, &y.waiting)
-        + sets(&x.telling, &y.telling)
-        + sets(&x.due, &y.due);
-    whole + of_bytes + of_plan + sets(&x.written, &y.written)
+    unlike(x.n, y.n) + unlike(x.root, y.root) + unlike(x.direction, y.direction) + routers(x, y)
+}
+
+fn routers(x: Record, y: Record) -> u64
+    ensures { λ r. ⌜ r ≤ 192 ⌝ }
+{
+    let mut count = 0;
+    for k in 0..32 {
+        count += router(x, y, k);
+    }
+    count
+}
+
+// In how many of its six tables router k differs.
+fn router(x: Record, y: Record, k: usize) -> u64
+    requires { ⌜ k < 32 ⌝ }
+    ensures { λ r. ⌜ r ≤ 6 ⌝ }
+{
+    let of_bytes = unlike(x.ranks[k], y.ranks[k]) + unlike(x.states[k], y.states[k]);
+    let of_plan = unlike_sets(x.waiting[k], y.waiting[k]) + unlike_sets(x.telling[k], y.telling[k]);
+    let of_messages = unlike_sets(x.due[k], y.due[k]) + unlike_sets(x.written[k], y.written[k]);
+    of_bytes + of_plan + of_messages
 }
 
 // 1 where two bytes differ.
@@ -21,26 +37,9 @@ pub fn unlike(x: u8, y: u8) -> u64
     if x == y { 0 } else { 1 }
 }
 
-fn bytes(x: &[u8; 32], y: &[u8; 32]) -> u64
-    ensures { λ r. ⌜ r ≤ 32 ⌝ }
+// 1 where two sets differ.
+fn unlike_sets(x: u32, y: u32) -> u64
+    ensures { λ r. ⌜ r ≤ 1 ⌝ }
 {
-    let mut count = 0;
-    for k in 0..32 {
-        if x[k] != y[k] {
-            count += 1;
-        }
-    }
-    count
-}
-
-fn sets(x: &[u32; 32], y: &[u32; 32]) -> u64
-    ensures { λ r. ⌜ r ≤ 32 ⌝ }
-{
-    let mut count = 0;
-    for k in 0..32 {
-        if x[k] != y[k] {
-            count += 1;
-        }
-    }
-    count
+    if x == y { 0 } else { 1 }
 }

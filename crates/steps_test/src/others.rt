@@ -7,7 +7,8 @@ use steps::Machine;
 use steps::Stepped;
 ghost use Prim.Native.Nat.{_<_, _≤_};
 
-// In how many answers and entries the method and the call in place differ from the step that begins with number k, if there is one.
+// In how many answers and entries the method and the call in place differ from the step that begins with number k, if
+// there is one.
 pub fn differing(now: Record, words: &[u8], k: usize) -> u64
     requires { ⌜ k < 200 ⌝ }
 {

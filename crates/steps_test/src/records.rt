@@ -1,7 +1,7 @@
 // Records: Plan's, and those made by hand.
 use cases::lists;
+use cases::metrics;
 use cases::read;
-use cases::tables;
 use plan::Record;
 ghost use Prim.Native.Nat.{_<_, _≤_};
 
@@ -73,7 +73,7 @@ fn set(x: u64) -> u32 {
 fn planned(n: usize, words: &[u8]) -> Record {
     let mut old = [0; 1025];
     let mut list = [0; 320];
-    tables::fill(&mut old, words);
+    metrics::fill(&mut old, words);
     let bytes = lists::fill(&mut list, words);
     plan(n, &old, &list, bytes)
 }

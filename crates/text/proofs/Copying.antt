@@ -1,4 +1,8 @@
 -- A copy to the end of a text, of as many bytes as there is room for, appends them.
+--     appended-copy                    the bytes w, copied to the end m of the text, k of them
+--     appended-byte, appended-full     one byte, where there is room for it, and where there is none
+-- Cut off at the buffer's length, a text and w after it are the whole text, and of w as much as is left of the length
+-- (take-both); that is what the copy wrote, since it stopped at the end of w or of the buffer (take-least).
 use Prim.Native.Nat.{ℕ, zero, suc, _+_, _-_, _≤_, _<_, min}
 use mathlib.Core.Path.{_≡_, refl, sym, ap, _∙_}
 use mathlib.Core.List.{List, [], _∷_, _++_}
@@ -24,20 +28,28 @@ take-least n l = elim (decLt n (length l)) [
 ]
 
 -- m is the end of the text, and k the number of bytes
-module _ (o w : List ℕ) (a m k : ℕ) (is-end : m ≡ min a (length o)) (is-count : k ≡ min (length w) (length o - m)) where
-  copied : take (length o) (take a o ++ w) ≡ take m o ++ take k w
-  copied =
-      take-both (length o) (take a o) w
-      ∙ rw (take-all (length o) (take a o) (omega (arith, length-take a o)), length-take a o, ← is-end)
-      (rw (← take-least a o, ← is-end, ← take-least (length o - m) w) (let e : min (length o - m) (length w) ≡ k = omega arith in rw e refl))
+module _
+    (o w : List ℕ) (a m k : ℕ)
+    (is-end : m ≡ min a (length o))
+    (is-count : k ≡ min (length w) (length o - m))
+  where
+    copied : take (length o) (take a o ++ w) ≡ take m o ++ take k w
+    copied =
+        let count : min (length o - m) (length w) ≡ k = omega arith in
+        take-both (length o) (take a o) w
+        ∙ rw (take-all (length o) (take a o) (omega (arith, length-take a o)), length-take a o, ← is-end)
+        (rw (← take-least a o, ← is-end, ← take-least (length o - m) w) (rw count refl))
 
-  pub appended-copy : Appended o a w (paste o m w k) (m + k)
-  appended-copy = record {
-    size = length-paste o m w k (omega arith) (omega arith);
-    within = omega (arith, length-paste o m w k (omega arith) (omega arith));
-    counted = sym (length-take-le (m + k) (paste o m w k) (omega (arith, length-paste o m w k (omega arith) (omega arith))));
-    text = take-paste o m w k (omega arith) (omega arith) ∙ sym copied;
-  }
+    kept-length : length (paste o m w k) ≡ length o
+    kept-length = length-paste o m w k (omega arith) (omega arith)
+
+    pub appended-copy : Appended o a w (paste o m w k) (m + k)
+    appended-copy = record {
+      size = kept-length;
+      within = omega (arith, kept-length);
+      counted = sym (length-take-le (m + k) (paste o m w k) (omega (arith, kept-length)));
+      text = take-paste o m w k (omega arith) (omega arith) ∙ sym copied;
+    }
 
 -- one byte, where there is room for it, and where there is none
 module _ (o : List ℕ) (a x : ℕ) where
@@ -46,7 +58,9 @@ module _ (o : List ℕ) (a x : ℕ) where
     size = length-set o a x;
     within = simp length-set (omega arith);
     counted = sym (length-take-le (a + 1) (set o a x) (simp length-set (omega arith)));
-    text = rw (add-one, take-suc-set o a x h) (sym (take-all (length o) (take a o ++ (x ∷ [])) (simp (length-append, length-take) (omega arith))));
+    text =
+        rw (add-one, take-suc-set o a x h)
+        (sym (take-all (length o) (take a o ++ (x ∷ [])) (simp (length-append, length-take) (omega arith))));
   }
 
   pub appended-full : length o ≤ a → Appended o a (x ∷ []) o (length o)

@@ -1,6 +1,9 @@
 -- The digits of a number, written from the last one back.
---     Spelled x d from rest        `rest` is what is left of x: its digits go up to place `from` of d, and those after it stand there
+--     Spelled x d from rest        `rest` is what is left of x: its digits go up to place `from` of d, and the digits
+--                                  of x after those stand behind it
 --     spelled-none, spelled-more, spelled-done     at the start, after a digit more, and with the first digit
+--     spelled-some                 a rest of two digits has a place in front
+--     appended-rest                the part of d from the first digit on is what is appended
 use Prim.Native.Nat.{ℕ, suc, _+_, _-_, _/_, _%_, _^_, _≤_, _<_}
 use mathlib.Core.Path.{_≡_, refl, sym, ap, _∙_}
 use mathlib.Core.List.{List, _∷_, _++_, append-nil, append-assoc}
@@ -30,7 +33,9 @@ spelled-none x d e h = record {
   size = e;
   place = omega arith;
   fits = omega arith;
-  split = sym (ap (λ (l : List ℕ). digits 10 x ++ l) (drop-of-length-le d {i = 10} (omega arith)) ∙ append-nil (digits 10 x));
+  split =
+      let none = drop-of-length-le d {i = 10} (omega arith) in
+      sym (ap (λ (l : List ℕ). digits 10 x ++ l) none ∙ append-nil (digits 10 x));
 }
 
 -- a rest of two digits does not stand in one place
@@ -40,20 +45,37 @@ spelled-some {x} {from} {rest} s h = elim (decLt 0 from) [
   | no f ↦ let e : from ≡ 0 = omega arith in omega (arith, rw e at (s .fits))
 ]
 
-pub spelled-more : {x from rest : ℕ} {d : List ℕ} → Spelled x d from rest → 10 ≤ rest → Spelled x (set d from (48 + rest % 10)) (from - 1) (rest / 10)
+pub spelled-more :
+    {x from rest : ℕ} {d : List ℕ}
+    → Spelled x d from rest
+    → 10 ≤ rest
+    → Spelled x (set d from (48 + rest % 10)) (from - 1) (rest / 10)
 spelled-more {x} {from} {rest} {d} s h =
-    let e : from - 1 + 1 ≡ from = omega (arith, spelled-some s h) in record {
+    let e : from - 1 + 1 ≡ from = omega (arith, spelled-some s h) in
+    let digit = written d from (48 + rest % 10) (omega (arith, s .size, s .place)) in record {
       size = simp length-set (s .size);
       place = omega (arith, s .place);
       fits = rw e (shorter from rest (rw add-one at (s .fits)));
-      split = rw (e, written d from (48 + rest % 10) (omega (arith, s .size, s .place))) (s .split ∙ rw (digits-more from rest h, append-assoc) refl);
+      split = rw (e, digit) (s .split ∙ rw (digits-more from rest h, append-assoc) refl);
     }
 
-pub spelled-done : {x from rest : ℕ} {d : List ℕ} → Spelled x d from rest → rest < 10 → drop from (set d from (48 + rest)) ≡ decimal x
-spelled-done {x} {from} {rest} {d} s h = written d from (48 + rest) (omega (arith, s .size, s .place)) ∙ sym (s .split ∙ rw (digits-one from rest h) refl)
+pub spelled-done :
+    {x from rest : ℕ} {d : List ℕ}
+    → Spelled x d from rest
+    → rest < 10
+    → drop from (set d from (48 + rest)) ≡ decimal x
+spelled-done {x} {from} {rest} {d} s h =
+    written d from (48 + rest) (omega (arith, s .size, s .place))
+    ∙ sym (s .split ∙ rw (digits-one from rest h) refl)
 
 -- the part of d from its first digit on is appended
-pub appended-rest : {o p w : List ℕ} {a r : ℕ} (d : List ℕ) (from : ℕ) → length d ≡ 10 → drop from d ≡ w → Appended o a (take (10 - from) (drop from d)) p r → Appended o a w p r
+pub appended-rest :
+    {o p w : List ℕ} {a r : ℕ} (d : List ℕ) (from : ℕ)
+    → length d ≡ 10
+    → drop from d ≡ w
+    → Appended o a (take (10 - from) (drop from d)) p r
+    → Appended o a w p r
 appended-rest {o} {p} {w} {a} {r} d from size e h =
-    let whole : take (10 - from) (drop from d) ≡ w = take-all (10 - from) (drop from d) (omega (arith, length-drop from d)) ∙ e in
+    let all = take-all (10 - from) (drop from d) (omega (arith, length-drop from d)) in
+    let whole : take (10 - from) (drop from d) ≡ w = all ∙ e in
     rw whole at h

@@ -8,7 +8,8 @@ use mathlib.Core.List.{List, [], _∷_, _++_}
 use lib.Dec.{ltb}
 use lib.ListN.{length, take}
 
--- The text of the first `at` bytes of `before`, and `bytes` after it, is the first r bytes of `after`; what does not fit is left off. `counted` follows from `within`: it stands here so that a caller's `&out[..r]` needs no proof file.
+-- The text of the first `at` bytes of `before`, and `bytes` after it, is the first r bytes of `after`; what does not
+-- fit is left off. `counted` follows from `within`: it stands here so that a caller's `&out[..r]` needs no proof file.
 pub record Appended (before : List ℕ) (at : ℕ) (bytes : List ℕ) (after : List ℕ) (r : ℕ) : Type 0 where
   pub size : length after ≡ length before
   pub within : r ≤ length after
@@ -16,23 +17,23 @@ pub record Appended (before : List ℕ) (at : ℕ) (bytes : List ℕ) (after : L
   pub text : take r after ≡ take (length before) (take at before ++ bytes)
 
 -- the bytes of a word in ASCII
-abbrev pub word : str.String → List ℕ
+abbrev pub word : (s : str.String) → List ℕ
 word str.[] = []
 word (str._∷_ c s) = code c ∷ word s
 
 -- the digits of x in ASCII, at most k of them, the most significant first, with no zero in front
-unfoldable pub digits : ℕ → ℕ → List ℕ
+unfoldable pub digits : (k x : ℕ) → List ℕ
 digits zero x = []
 digits (suc k) x = cond (ltb x 10) ((48 + x) ∷ []) (digits k (x / 10) ++ ((48 + x % 10) ∷ []))
 
 -- x in decimal; ten digits are enough for every u32
-unfoldable pub decimal : ℕ → List ℕ
+unfoldable pub decimal : (x : ℕ) → List ℕ
 decimal x = digits 10 x
 
 -- a number after its name
-unfoldable pub field : List ℕ → ℕ → List ℕ
+unfoldable pub field : (name : List ℕ) (x : ℕ) → List ℕ
 field name x = name ++ decimal x
 
 -- the same as a whole line
-unfoldable pub line : List ℕ → ℕ → List ℕ
+unfoldable pub line : (name : List ℕ) (x : ℕ) → List ℕ
 line name x = field name x ++ word "\n"

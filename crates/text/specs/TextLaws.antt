@@ -1,13 +1,16 @@
 -- Laws of texts and of numbers in decimal.
 --     appended-none, appended-then, appended-anew      nothing is appended; one after the other; from the start again
---     appended-field, appended-line    a number after its name
---     line-after                       a line whose name is made of two parts
---     appended-all                     what is appended to the empty text is the text, where there is room
---     shorter, digits-one, digits-more         a number without its last digit, one digit, and a digit more
---     decimal-some, decimal-most       a number has one to ten digits
---     field-most, line-most            so a number after its name is not long
---     decimal-value    they say the number
---     decimal-ascii, decimal-lead      each is one of `0` to `9`, and the first is no `0` but in 0 itself
+--     appended-field, appended-line        a number after its name
+--     line-after                           a line whose name is made of two parts
+--     appended-all                         what is appended to the empty text is the text, where there is room
+--     shorter, digits-one, digits-more     a number without its last digit, one digit, and a digit more
+--     decimal-some, decimal-most           a number has one to ten digits
+--     field-most, line-most                so a number after its name is not long
+--     decimal-value                        they say the number
+--     decimal-ascii, decimal-lead          each is one of `0` to `9`, and the first is no `0` but in 0 itself
+-- Cutting off what does not fit may be done after each append or once at the end (take-again): so one append after
+-- another is an append. What is said of digits is by induction on how many there may be: a number below 10 is its own
+-- digit, and every other is the digits of a tenth of it, and one more.
 use Prim.Native.Nat.{ℕ, zero, suc, _+_, _*_, _-_, _/_, _%_, _^_, _≤_, _<_}
 use mathlib.Core.Path.{_≡_, refl, sym, ap, _∙_}
 use mathlib.Core.List.{List, [], _∷_, _++_, append-nil, append-assoc}
@@ -33,10 +36,16 @@ appended-none o a h = record {
   size = refl;
   within = h;
   counted = sym (length-take-le a o h);
-  text = sym (ap (take (length o)) (append-nil (take a o)) ∙ take-all (length o) (take a o) (omega (arith, length-take a o)));
+  text =
+      let fits : length (take a o) ≤ length o = omega (arith, length-take a o) in
+      sym (ap (take (length o)) (append-nil (take a o)) ∙ take-all (length o) (take a o) fits);
 }
 
-pub appended-then : {o v p w q : List ℕ} {a b c : ℕ} → Appended o a v p b → Appended p b w q c → Appended o a (v ++ w) q c
+pub appended-then :
+    {o v p w q : List ℕ} {a b c : ℕ}
+    → Appended o a v p b
+    → Appended p b w q c
+    → Appended o a (v ++ w) q c
 appended-then {o} {v} {p} {w} {q} {a} {b} {c} x y = record {
   size = y .size ∙ x .size;
   within = y .within;
@@ -45,11 +54,19 @@ appended-then {o} {v} {p} {w} {q} {a} {b} {c} x y = record {
 }
 
 -- a number after its name, and the same as a line
-pub appended-field : (name : List ℕ) (x : ℕ) {o p q : List ℕ} {a b c : ℕ} → Appended o a name p b → Appended p b (decimal x) q c → Appended o a (field name x) q c
+pub appended-field :
+    (name : List ℕ) (x : ℕ) {o p q : List ℕ} {a b c : ℕ}
+    → Appended o a name p b
+    → Appended p b (decimal x) q c
+    → Appended o a (field name x) q c
 unfolding field
 appended-field name x u v = appended-then u v
 
-pub appended-line : (name : List ℕ) (x : ℕ) {o p q : List ℕ} {a b c : ℕ} → Appended o a (field name x) p b → Appended p b (word "\n") q c → Appended o a (line name x) q c
+pub appended-line :
+    (name : List ℕ) (x : ℕ) {o p q : List ℕ} {a b c : ℕ}
+    → Appended o a (field name x) p b
+    → Appended p b (word "\n") q c
+    → Appended o a (line name x) q c
 unfolding line
 appended-line name x u v = appended-then u v
 
@@ -85,20 +102,26 @@ digits-more k x h = rw (add-one, le-ltb x 10 h) refl
 
 digits-some : (k x : ℕ) → 1 ≤ length (digits (suc k) x)
 unfolding digits
-digits-some k x = elim (decLt x 10) [ yes h ↦ rw (lt-ltb x 10 h) (omega arith) | no f ↦ rw (le-ltb x 10 (omega arith), length-append) (omega arith) ]
+digits-some k x = elim (decLt x 10) [
+  | yes h ↦ rw (lt-ltb x 10 h) (omega arith)
+  | no f ↦ rw (le-ltb x 10 (omega arith), length-append) (omega arith)
+]
 
 digits-most : (k x : ℕ) → length (digits k x) ≤ k
 unfolding digits
 digits-most zero x = omega arith
-digits-most (suc k) x = elim (decLt x 10) [ yes h ↦ rw (lt-ltb x 10 h) (omega arith) | no f ↦ rw (le-ltb x 10 (omega arith), length-append) (omega (arith, digits-most k (x / 10))) ]
+digits-most (suc k) x = elim (decLt x 10) [
+  | yes h ↦ rw (lt-ltb x 10 h) (omega arith)
+  | no f ↦ rw (le-ltb x 10 (omega arith), length-append) (omega (arith, digits-most k (x / 10)))
+]
 
 -- the number that a list of digits is, where v is what the digits before it are
-unfoldable pub valueAfter : ℕ → List ℕ → ℕ
+unfoldable pub valueAfter : (v : ℕ) (l : List ℕ) → ℕ
 valueAfter v [] = v
 valueAfter v (d ∷ l) = valueAfter (10 * v + (d - 48)) l
 
 -- the number that a list of digits is
-unfoldable pub value : List ℕ → ℕ
+unfoldable pub value : (l : List ℕ) → ℕ
 value l = valueAfter 0 l
 
 -- the number that digits are, with one digit more at their end
@@ -112,14 +135,22 @@ unfolding digits valueAfter
 digits-value zero x h = omega arith
 digits-value (suc k) x h = elim (decLt x 10) [
   | yes l ↦ rw (lt-ltb x 10 l) (omega arith)
-  | no f ↦ rw (le-ltb x 10 (omega arith), value-more 0 (48 + x % 10) (digits k (x / 10)), digits-value k (x / 10) (shorter k x h)) (omega arith)
+  | no f ↦
+      let last = value-more 0 (48 + x % 10) (digits k (x / 10)) in
+      let rest = digits-value k (x / 10) (shorter k x h) in
+      rw (le-ltb x 10 (omega arith), last, rest) (omega arith)
 ]
 
 -- each digit is one of `0` to `9`
-abbrev Ascii : ℕ → Type 0
+abbrev Ascii : (d : ℕ) → Type 0
 Ascii d = (48 ≤ d) × (d ≤ 57)
 
-all-more : (l : List ℕ) (d i : ℕ) → ((j : ℕ) → j < length l → Ascii (getD l j 0)) → Ascii d → i < length l + 1 → Ascii (getD (l ++ (d ∷ [])) i 0)
+all-more :
+    (l : List ℕ) (d i : ℕ)
+    → ((j : ℕ) → j < length l → Ascii (getD l j 0))
+    → Ascii d
+    → i < length l + 1
+    → Ascii (getD (l ++ (d ∷ [])) i 0)
 all-more l d i all a h = elim (decLt i (length l)) [
   | yes s ↦ rw (List·getD-append l (d ∷ []) 0 i s) (all i s)
   | no f ↦ let e : i ≡ length l = omega arith in rw (e, getD-append-seam l d [] 0) a
@@ -135,7 +166,10 @@ digits-ascii (suc k) x i h = elim (decLt x 10) [
       rw (lt-ltb x 10 s, e) (omega arith, omega arith)
   | no f ↦
       let more : digits (suc k) x ≡ digits k (x / 10) ++ ((48 + x % 10) ∷ []) = rw (le-ltb x 10 (omega arith)) refl in
-      rw (le-ltb x 10 (omega arith)) (all-more (digits k (x / 10)) (48 + x % 10) i (λ j l. digits-ascii k (x / 10) j l) (omega arith, omega arith) (omega (arith, ap length more, length-append (digits k (x / 10)) ((48 + x % 10) ∷ []))))
+      let size = length-append (digits k (x / 10)) ((48 + x % 10) ∷ []) in
+      rw (le-ltb x 10 (omega arith))
+      (all-more (digits k (x / 10)) (48 + x % 10) i (λ j l. digits-ascii k (x / 10) j l) (omega arith, omega arith)
+      (omega (arith, ap length more, size)))
 ]
 
 -- the first digit is no `0`
@@ -148,7 +182,9 @@ unfolding digits
 digits-lead zero x l h = absurd (let x : ⊥ = omega arith in x)
 digits-lead (suc k) x l h = elim (decLt x 10) [
   | yes s ↦ rw (lt-ltb x 10 s) (omega arith)
-  | no f ↦ rw (le-ltb x 10 (omega arith)) (lead (digits k (x / 10)) ((48 + x % 10) ∷ []) (digits-lead k (x / 10) (omega arith) (shorter k x h)))
+  | no f ↦
+      let first = digits-lead k (x / 10) (omega arith) (shorter k x h) in
+      rw (le-ltb x 10 (omega arith)) (lead (digits k (x / 10)) ((48 + x % 10) ∷ []) first)
 ]
 
 -- ---- numbers in decimal

@@ -1,4 +1,11 @@
-// Texts in a lent buffer: a text is the first bytes of `out`, and each function here appends to it and gives its new length. What `out` has no room for is left off.
+// Texts in a lent buffer: a text is the first bytes of `out`, and each function here appends to it and gives its new
+// length. What `out` has no room for is left off.
+//     append       bytes; `byte` one byte
+//     number       a number in decimal, by `spell`, which puts the digits down from the last one back
+//     field        a number after its name
+//     line         the same as a line
+// What they promise is specs/Text.antt, and what a caller may conclude specs/TextLaws.antt. The loops' arguments are
+// proofs/Copying.antt (append) and proofs/Spelling.antt (spell).
 ghost use mathlib.Core.Path.{_≡_};
 ghost use mathlib.Core.List.{[], _∷_};
 ghost use Prim.Native.Nat.{_≤_, min};
@@ -7,7 +14,7 @@ ghost use Rattle.text.specs.Text.{Appended, decimal, field, line};
 
 // Appends `bytes` to the text of the first `at` bytes of `out`.
 pub fn append(out: &mut [u8], at: usize, bytes: &[u8]) -> usize
-    ensures { λ r. ⌜ Appended (now (out .entry)) at (now (bytes .entry)) (now (out .exit)) r ⌝ }
+    ensures appended { λ r. ⌜ Appended (now (out .entry)) at (now (bytes .entry)) (now (out .exit)) r ⌝ }
 {
     let from = least(at, out.len());
     let count = least(bytes.len(), out.len() - from);
@@ -30,7 +37,7 @@ fn byte(out: &mut [u8], at: usize, x: u8) -> usize
 
 // Appends x in decimal.
 pub fn number(out: &mut [u8], at: usize, x: u32) -> usize
-    ensures { λ r. ⌜ Appended (now (out .entry)) at (decimal x) (now (out .exit)) r ⌝ }
+    ensures appended { λ r. ⌜ Appended (now (out .entry)) at (decimal x) (now (out .exit)) r ⌝ }
 {
     let mut digits = [0u8; 10];
     let from = spell(x, &mut digits);
@@ -39,7 +46,7 @@ pub fn number(out: &mut [u8], at: usize, x: u32) -> usize
 
 // Appends a number after its name.
 pub fn field(out: &mut [u8], at: usize, name: &[u8], x: u32) -> usize
-    ensures { λ r. ⌜ Appended (now (out .entry)) at (field (now (name .entry)) x) (now (out .exit)) r ⌝ }
+    ensures appended { λ r. ⌜ Appended (now (out .entry)) at (field (now (name .entry)) x) (now (out .exit)) r ⌝ }
 {
     let named = append(out, at, name);
     number(out, named, x)
@@ -47,7 +54,7 @@ pub fn field(out: &mut [u8], at: usize, name: &[u8], x: u32) -> usize
 
 // Appends a line: a number after its name.
 pub fn line(out: &mut [u8], at: usize, name: &[u8], x: u32) -> usize
-    ensures { λ r. ⌜ Appended (now (out .entry)) at (line (now (name .entry)) x) (now (out .exit)) r ⌝ }
+    ensures appended { λ r. ⌜ Appended (now (out .entry)) at (line (now (name .entry)) x) (now (out .exit)) r ⌝ }
 {
     let numbered = field(out, at, name, x);
     byte(out, numbered, b'\n')

@@ -7,10 +7,17 @@ use Rattle.area.specs.Limits.{width, unused}
 use Rattle.area.specs.Tests.{pick}
 use Rattle.area.specs.Tables.{cell}
 
--- The link from i to j is used: two different routers of the area, with a metric that is neither 0 nor the value for "not used".
-unfoldable pub isLink : ℕ → List ℕ → ℕ → ℕ → Bool
-isLink n m i j = ltb i n && (ltb j n && (not (eqb i j) && (leb 1 (cell width m i j) && ltb (cell width m i j) unused)))
+-- A topology g is known by its links: g i k is the metric of the link from i to k, and `unused` where none is used.
+-- Walks, distances and next hops are over any such g.
+abbrev pub Topology : Type 0
+Topology = ℕ → ℕ → ℕ
 
--- The metric of the used link from i to j, and `unused` where there is none. All that follows is over such a function g.
-unfoldable pub topology : ℕ → List ℕ → ℕ → ℕ → ℕ
+-- The link from i to j is used, in an area of n routers with the metric table m: two different routers of the area,
+-- with a metric that is neither 0 nor the value for "not used".
+unfoldable pub isLink : (n : ℕ) (m : List ℕ) (i j : ℕ) → Bool
+isLink n m i j =
+    ltb i n && (ltb j n && (not (eqb i j) && (leb 1 (cell width m i j) && ltb (cell width m i j) unused)))
+
+-- the topology of this area: the table's metric where the link is used
+unfoldable pub topology : (n : ℕ) (m : List ℕ) → Topology
 topology n m i j = pick (isLink n m i j) (cell width m i j) unused

@@ -1,14 +1,16 @@
--- Walks over the used links of a topology g (01, "The area and its paths"): g i k is the metric of the link from i to k, which is used where that is below `unused`.
+-- Walks over the used links of a topology g (01, "The area and its paths").
+-- A link from i to k is used where its metric g i k is below `unused`.
 use Prim.Native.Nat.{ℕ, suc, _+_, _<_}
 use mathlib.Core.List.{List, [], _∷_}
 use Rattle.area.specs.Limits.{unused}
+use Rattle.topology.specs.Topology.{Topology}
 
 -- A walk from i to j: to stay, or to take a used link from i and walk on.
-pub data Walk (g : ℕ → ℕ → ℕ) : ℕ → ℕ → Type 0 where
+pub data Walk (g : Topology) : (i j : ℕ) → Type 0 where
   stay : {i : ℕ} → Walk g i i
   link : {i k j : ℕ} → g i k < unused → Walk g k j → Walk g i j
 
-module _ {g : ℕ → ℕ → ℕ} where
+module _ {g : Topology} where
   -- the sum of its metrics
   abbrev pub sum : {i j : ℕ} → Walk g i j → ℕ
   sum stay = 0

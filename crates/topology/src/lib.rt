@@ -1,1 +1,1 @@
-// This crate has no code: its specs/ define distances, next hops and what Paths gives, with their laws.
+// This crate has no code: it defines distances and next hops. The way round is on top of specs/Lib.antt.

@@ -1,4 +1,5 @@
-// Reads a text in hexadecimal from standard input, and writes the bytes that it stands for, or its first fault, to standard output.
+// Reads a text in hexadecimal from standard input, and writes the bytes that it stands for, or its first fault, to
+// standard output. What the two are is crates/hex.
 use hex::MOST;
 use hex::ROOM;
 use libc::STDIN_FILENO;

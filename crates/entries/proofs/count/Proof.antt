@@ -1,10 +1,11 @@
+-- The number of whole entries is the quotient, in code and definition alike.
 use mathlib.Core.Path.{refl}
-use Rattle.entries.specs.Entries.{count}
+use Rattle.entries.specs.Entries.{entryCount}
 use Rattle.entries.proofs.count.Statement.{statement}
 use Rattle.entries.proofs.count.Tie as tie
 
 returns : tie.Need-returns
-unfolding count
+unfolding entryCount
 returns c = refl
 
 pub count-spec : {M : Type 1} → statement M

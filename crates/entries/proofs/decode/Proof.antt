@@ -1,8 +1,10 @@
+-- Where the list has the entry, its five bytes are inside, and so the fields are those of the definition; where it has
+-- not, both are 0.
 use mathlib.Core.Path.{refl}
 use borrow.Author.Needs.{needs}
 use borrow.Author.Tests.{lt-ltb, le-ltb}
 use denote.Ref.{now}
-use Rattle.entries.specs.Entries.{count, entryOf}
+use Rattle.entries.specs.Entries.{entryCount, entryOf}
 use Rattle.entries.proofs.decode.Statement.{statement}
 use Rattle.entries.proofs.decode.Tie as tie
 
@@ -70,7 +72,7 @@ add-t26 : tie.Need-add-t26
 add-t26 c = search needs
 
 returns : tie.Need-returns
-unfolding entryOf count
+unfolding entryOf entryCount
 returns c =
     let start = c .before .before .before .before .before .before .before .before .before .before in
     let from = c .before .before .wide4 .ensures .0 in
@@ -78,11 +80,15 @@ returns c =
     let high = c .before .before .before .before .before .before .before .before .wide .ensures .0 in
     let middle = c .before .before .before .before .before .before .wide2 .ensures .0 in
     let low = c .before .before .before .before .wide3 .ensures .0 in
-    rw (lt-ltb (start .before .before .args .e) (count (now (start .before .before .args .list))) (start .if1 .taken), from, to, high, middle, low) refl
+    let a = start .before .before .args in
+    let listed = lt-ltb (a .e) (entryCount (now (a .list))) (start .if1 .taken) in
+    rw (listed, from, to, high, middle, low) refl
 
 returns-2 : tie.Need-returns-2
-unfolding entryOf count
-returns-2 c = rw (le-ltb (c .before .before .args .e) (count (now (c .before .before .args .list))) (c .if1 .left)) refl
+unfolding entryOf entryCount
+returns-2 c =
+    let a = c .before .before .args in
+    rw (le-ltb (a .e) (entryCount (now (a .list))) (c .if1 .left)) refl
 
 pub decode-spec : {M : Type 1} → statement M
 decode-spec =

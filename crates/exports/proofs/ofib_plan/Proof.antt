@@ -30,8 +30,10 @@ same-length-5 c = search needs
 
 returns : tie.Need-returns
 returns c =
-    let plan = c .before .before .before .before .before .before .before .before .before .before .before .before .before .before .before .before .before .before .before .before .before .plan in
-    (c .number .ensures ∙ plan .ensures .0, (c .before .hand-back .ensures ∙ plan .ensures .1 .0, plan .ensures .1 .1))
+    let handed = c .before .hand-back in
+    let at = c .before .before .before .before .before .before .before .before .before .before .before .before in
+    let plan = at .before .before .before .before .before .before .before .before .before .plan in
+    (c .number .ensures ∙ plan .ensures .0, (handed .ensures ∙ plan .ensures .1 .0, plan .ensures .1 .1))
 
 pub ofib-plan-spec : {M : Type 1} → statement M
 ofib-plan-spec =

@@ -1,7 +1,8 @@
 -- Each range of bytes has its law.
 use native.Mathlib.Omega.{arith}
 use borrow.Author.Needs.{needs}
-use Rattle.hex.specs.ReadingLaws.{digit-decimal, digit-upper, digit-lower, digit-low, digit-middle, digit-between, digit-high}
+use Rattle.hex.specs.ReadingLaws.{digit-decimal, digit-upper, digit-lower}
+use Rattle.hex.specs.ReadingLaws.{digit-low, digit-middle, digit-between, digit-high}
 use Rattle.hex.proofs.digit.Statement.{statement}
 use Rattle.hex.proofs.digit.Tie as tie
 

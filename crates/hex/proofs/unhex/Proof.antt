@@ -16,7 +16,10 @@ same-length : tie.Need-same-length
 same-length c = search needs
 
 returns : tie.Need-returns
-returns c = rw (unhexed-long (now (c .before .before .before .before .before .before .before .before .args .text)) (omega arith)) (c .before .before .append .ensures)
+returns c =
+    let appended = c .before .before in
+    let text = now (appended .before .before .before .before .before .before .args .text) in
+    rw (unhexed-long text (omega arith)) (appended .append .ensures)
 
 decode-requires : tie.Need-decode-requires
 decode-requires c κs = search needs
@@ -25,7 +28,10 @@ same-length-2 : tie.Need-same-length-2
 same-length-2 c = search needs
 
 returns-2 : tie.Need-returns-2
-returns-2 c = rw (unhexed-decoded (now (c .before .before .before .before .before .before .before .args .text)) (omega arith)) (c .before .before .decode .ensures)
+returns-2 c =
+    let decoded = c .before .before in
+    let text = now (decoded .before .before .before .before .before .args .text) in
+    rw (unhexed-decoded text (omega arith)) (decoded .decode .ensures)
 
 pub unhex-spec : {M : Type 1} → statement M
 unhex-spec =

@@ -16,11 +16,19 @@ use Rattle.order.proofs.Converse.{converse-of, ranks-of}
 use Rattle.order.proofs.ordered.Statement.{statement}
 use Rattle.order.proofs.ordered.Tie as tie
 
-put-together : (n c : ℕ) (rising : Bool) (old new ws ts rs ds : List ℕ) → n ≤ width → ws ≡ perRouter width n (waitingBy n c rising (cell width old) (cell width new)) → ts ≡ perRouter width n (tellingBy n (λ s. getD ws s 0)) → rs ≡ ranksOf n ws → ds ≡ perRouter width n (dueBy n (cell width old) (cell width new)) → record { waiting = ws; telling = ts; ranks = rs; due = ds } ≡ ordered n c rising old new
+put-together :
+    (n c : ℕ) (rising : Bool) (old new ws ts rs ds : List ℕ)
+    → n ≤ width
+    → ws ≡ perRouter width n (waitingBy n c rising (cell width old) (cell width new))
+    → ts ≡ perRouter width n (tellingBy n (λ s. getD ws s 0))
+    → rs ≡ ranksOf n ws
+    → ds ≡ perRouter width n (dueBy n (cell width old) (cell width new))
+    → record { waiting = ws; telling = ts; ranks = rs; due = ds } ≡ ordered n c rising old new
 unfolding ordered
 put-together n c rising old new ws ts rs ds most w t r d =
-    let t-is = t ∙ converse-of width n (waitingBy n c rising (cell width old) (cell width new)) ws most w in
-    let r-is = r ∙ ranks-in n ws most ∙ ranks-of width n (waitingBy n c rising (cell width old) (cell width new)) ws most w in
+    let waits = waitingBy n c rising (cell width old) (cell width new) in
+    let t-is = t ∙ converse-of width n waits ws most w in
+    let r-is = r ∙ ranks-in n ws most ∙ ranks-of width n waits ws most w in
     rw (w, t-is, r-is, d) refl
 
 waiting-requires : tie.Need-waiting-requires
@@ -41,7 +49,9 @@ returns c =
     let ws = c .before .before .before .waiting in
     let ts = c .before .before .converse in
     let rs = c .before .ranks in
-    put-together (a .n) (a .root) (a .rising) (now (a .old)) (now (a .new)) (ws .result) (ts .result) (rs .result) (c .due .result) (omega arith) (ws .ensures) (ts .ensures) (rs .ensures) (c .due .ensures)
+    put-together (a .n) (a .root) (a .rising) (now (a .old)) (now (a .new))
+    (ws .result) (ts .result) (rs .result) (c .due .result)
+    (omega arith) (ws .ensures) (ts .ensures) (rs .ensures) (c .due .ensures)
 
 pub ordered-spec : {M : Type 1} → statement M
 ordered-spec =

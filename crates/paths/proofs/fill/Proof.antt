@@ -1,17 +1,19 @@
--- The rows above row i are filled.
+-- The rows above row i are filled (`Rows`). A turn lends the search row i of both tables; both have the right size, so
+-- the search fills them, and no other row is touched.
 use mathlib.Core.Path.{_≡_, sym, _∙_}
 use Prim.Native.Nat.{_-_, _<_, _≤_}
 use native.Mathlib.Omega.{arith}
 use borrow.Author.Needs.{needs}
 use Rattle.area.specs.Limits.{width}
 use Rattle.area.specs.RowLaws.{lent-length, Rows, rows-none, rows-more, rows-all}
-use Rattle.topology.specs.Paths.{distanceCell, hopCell}
-use Rattle.search.specs.RowsLaws.{true-sizes, distances-row, hops-row}
+use Rattle.topology.specs.Cells.{distanceCell, hopCell}
+use Rattle.search.specs.RowsLaws.{sizes-true, distances-row, hops-row}
 use Rattle.paths.proofs.fill.Statement.{statement}
 use Rattle.paths.proofs.fill.Tie as tie
 
 abbrev Inv-loop : tie.InvT-loop
-Inv-loop n metric dist₀ hops₀ i₀ dist hops i = (i ≤ width) × Rows width (distanceCell n metric) i dist × Rows width (hopCell n metric) i hops
+Inv-loop n metric dist₀ hops₀ i₀ dist hops i =
+    (i ≤ width) × Rows width (distanceCell n metric) i dist × Rows width (hopCell n metric) i hops
 
 abbrev μ-loop : tie.MeasureT-loop
 μ-loop n metric dist₀ hops₀ i₀ dist hops i = width - i
@@ -62,14 +64,22 @@ loop-less c = omega arith
 
 loop-again : tie.Need-loop-again Inv-loop μ-loop
 loop-again c =
-    let at-loop = c .before .before .before .before .before .before .before .before .loop in
-    let start = c .before .before .before .before .before .before .before .before .before .before .before .before in
-    let turn = c .before .before .before .before .search in
-    let l : at-loop .i < width = omega arith in
-    let sizes = true-sizes _ _ _ _ (start .pre .0 .0) (start .pre .0 .1) (lent-length width _ (at-loop .inv .1 .size) (at-loop .i) l) (lent-length width _ (at-loop .inv .2 .size) (at-loop .i) l) in (
+    let after-search = c .before .before .before .before in
+    let at-loop = after-search .before .before .before .before in
+    let start = at-loop .before .before .before .before in
+    let at = at-loop .loop in
+    let turn = after-search .search in
+    let last = turn .last .1 .1 .1 in
+    let kept = turn .kept .1 .1 .1 in
+    let l : at .i < width = omega arith in
+    let size = lent-length width _ (at .inv .1 .size) (at .i) l in
+    let size-h = lent-length width _ (at .inv .2 .size) (at .i) l in
+    let sizes = sizes-true _ _ _ _ (start .pre .0 .0) (start .pre .0 .1) size size-h in
+    let row = turn .ensures .0 ∙ distances-row _ _ _ _ _ sizes in
+    let row-h = turn .ensures .1 ∙ hops-row _ _ _ _ _ sizes in (
       omega arith,
-      rows-more width _ (at-loop .i) _ (at-loop .inv .1) l (turn .last .1 .1 .1 .0) (turn .kept .1 .1 .1 .0) (turn .ensures .0 ∙ distances-row _ _ _ _ _ sizes),
-      rows-more width _ (at-loop .i) _ (at-loop .inv .2) l (turn .last .1 .1 .1 .1 .0) (turn .kept .1 .1 .1 .1 .0) (turn .ensures .1 ∙ hops-row _ _ _ _ _ sizes),
+      rows-more width _ (at .i) _ (at .inv .1) l (last .0) (kept .0) row,
+      rows-more width _ (at .i) _ (at .inv .2) l (last .1 .0) (kept .1 .0) row-h,
     )
 
 same-length : tie.Need-same-length Inv-loop μ-loop
@@ -80,9 +90,9 @@ same-length-2 c = c .before .loop .inv .2 .size ∙ sym (c .before .before .befo
 
 returns : tie.Need-returns Inv-loop μ-loop
 returns c =
-    let at-loop = c .before .loop in
-    let e : at-loop .i ≡ width = omega arith in
-    (rows-all width _ _ (omega arith) (rw e at (at-loop .inv .1)), rows-all width _ _ (omega arith) (rw e at (at-loop .inv .2)))
+    let at = c .before .loop in
+    let e : at .i ≡ width = omega arith in
+    (rows-all width _ _ (omega arith) (rw e at (at .inv .1)), rows-all width _ _ (omega arith) (rw e at (at .inv .2)))
 
 pub fill-spec : {M : Type 1} → statement M
 fill-spec =

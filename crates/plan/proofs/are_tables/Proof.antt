@@ -8,40 +8,42 @@ use lib.Dec.{eqb}
 use lib.ListN.{length}
 use Rattle.area.specs.Limits.{width}
 use Rattle.area.specs.SizeLaws.{table-true, table-false, table-is}
-use Rattle.plan.specs.Plan.{tables, areTables}
+use Rattle.plan.specs.Plan.{asTables, areTables}
 use Rattle.plan.proofs.are_tables.Statement.{statement}
 use Rattle.plan.proofs.are_tables.Tie as tie
 
 -- one law for each return
 module _ (m a b c d e : List ℕ) where
-  short-m : length m ≢ width * width → false ≡ areTables m (tables a b c d e)
+  short-m : length m ≢ width * width → false ≡ areTables m (asTables a b c d e)
   unfolding areTables
   short-m f = rw (table-false m f) refl
 
   module _ (pm : length m ≡ width * width) where
-    short-a : length a ≢ width * width → false ≡ areTables m (tables a b c d e)
+    short-a : length a ≢ width * width → false ≡ areTables m (asTables a b c d e)
     unfolding areTables
     short-a f = rw (table-true m pm, table-false a f) refl
 
     module _ (pa : length a ≡ width * width) where
-      short-b : length b ≢ width * width → false ≡ areTables m (tables a b c d e)
+      short-b : length b ≢ width * width → false ≡ areTables m (asTables a b c d e)
       unfolding areTables
       short-b f = rw (table-true m pm, table-true a pa, table-false b f) refl
 
       module _ (pb : length b ≡ width * width) where
-        short-c : length c ≢ width * width → false ≡ areTables m (tables a b c d e)
+        short-c : length c ≢ width * width → false ≡ areTables m (asTables a b c d e)
         unfolding areTables
         short-c f = rw (table-true m pm, table-true a pa, table-true b pb, table-false c f) refl
 
         module _ (pc : length c ≡ width * width) where
-          short-d : length d ≢ width * width → false ≡ areTables m (tables a b c d e)
+          short-d : length d ≢ width * width → false ≡ areTables m (asTables a b c d e)
           unfolding areTables
           short-d f = rw (table-true m pm, table-true a pa, table-true b pb, table-true c pc, table-false d f) refl
 
           module _ (pd : length d ≡ width * width) where
-            last : eqb (length e) (width * width) ≡ areTables m (tables a b c d e)
+            last : eqb (length e) (width * width) ≡ areTables m (asTables a b c d e)
             unfolding areTables
-            last = rw (table-true m pm, table-true a pa, table-true b pb, table-true c pc, table-true d pd, table-is e) refl
+            last =
+                rw (table-true m pm, table-true a pa, table-true b pb, table-true c pc, table-true d pd, table-is e)
+                refl
 
 returns : tie.Need-returns
 returns c = search short-m

@@ -1,11 +1,12 @@
--- Paths refuses neither table, so what it fills in is what is asked for.
+-- Paths refuses neither table, so what it fills in is what is asked for. The moments that `returns` names: the new
+-- metrics are there (`changed`), Paths has filled the old tables (`old-done`), and the new ones (`new-done`).
 use mathlib.Core.Path.{_∙_}
 use Prim.Native.Nat.{ℕ, _<_}
 use native.Mathlib.Omega.{arith}
 use borrow.Author.Needs.{needs}
 use lib.ListN.{getD}
 use denote.Ref.{now}
-use Rattle.plan.specs.Plan.{Tables, tables}
+use Rattle.plan.specs.Plan.{Tables, asTables}
 use Rattle.plan.specs.FreshLaws.{plan-root}
 use Rattle.plan.proofs.Recording.{fresh-is}
 use Rattle.plan.proofs.Filling.{old-hops, new-hops, filled-is}
@@ -14,7 +15,9 @@ use Rattle.plan.proofs.fill.Tie as tie
 
 -- the tables that were lent
 abbrev lent : tie.Start → Tables
-lent s = tables (now (s .args .new)) (now (s .args .old-dist)) (now (s .args .new-dist)) (now (s .args .old-hops)) (now (s .args .new-hops))
+lent s =
+    let a = s .args in
+    asTables (now (a .new)) (now (a .old-dist)) (now (a .new-dist)) (now (a .old-hops)) (now (a .new-hops))
 
 apply-requires : tie.Need-apply-requires
 apply-requires c κs = search needs
@@ -27,7 +30,10 @@ paths-requires-2 c κs = search needs
 
 fresh-requires : tie.Need-fresh-requires
 fresh-requires c κs =
-    let start = c .before .before .before .before .before .before .before .before .before .before .before .before .before .before .before .before .before .before .before .before .before .before .before .before .before .before .before .before in
+    let new-done = c .before .before .before .before .before .before .before in
+    let old-done = new-done .before .before .before .before .before .before .before in
+    let changed = old-done .before .before .before .before .before in
+    let start = changed .before .before .before .before .before .before .before .before .before in
     let a = start .args in
     let c-in = plan-root (a .n) (now (a .old)) (now (a .list)) (start .pre .0) in
     (start .pre .0 .ready .most, omega (arith, c-in, start .pre .0 .ready .most, start .pre .1 .0 .0))
@@ -49,20 +55,32 @@ same-length-5 c = search needs
 
 returns : tie.Need-returns
 returns c =
-    let start = c .before .before .before .before .before .before .before .before .before .before .before .before .before .before .before .before .before .before .before .before .before .before .before .before .before .before .before .before .before in
+    let new-done = c .before .before .before .before .before .before .before in
+    let old-done = new-done .before .before .before .before .before .before .before .before in
+    let changed = old-done .before .before .before .before .before in
+    let lists = changed .before .before .before .before .before .before .before in
+    let start = lists .before .before in
     let a = start .args in
+    let n = a .n in
+    let m = now (a .old) in
+    let l = now (a .list) in
+    let t = lent start in
     let p = start .pre .0 in
     let z = start .pre .1 .1 in
-    let bytes : (k : ℕ) → getD (now (a .list)) k 0 < 256 = λ k. c .before .before .before .before .before .before .before .before .before .before .before .before .before .before .before .before .before .before .before .before .before .before .before .before .before .before .before .shared-slice-known2 .given k .fits in
-    let applied = c .before .before .before .before .before .before .before .before .before .before .before .before .before .before .before .before .before .before .before .before .apply in
-    let was = c .before .before .before .before .before .before .before .before .before .before .before .before .before .before .before .paths in
-    let is = c .before .before .before .before .before .before .before .paths2 in
-    let old-is = old-hops (a .n) (now (a .old)) (now (a .list)) p (lent start) z bytes (was .last .1 .1 .1 .0) (was .ensures .1 .1) in
-    let new-is = new-hops (a .n) (now (a .old)) (now (a .list)) p (lent start) z bytes (applied .last .1 .1 .1 .0) (applied .ensures) (is .last .1 .1 .1 .0) (is .ensures .1 .1) in (
-      c .fresh .ensures
-          ∙ fresh-is (a .n) (now (a .old)) (now (a .list)) (p .ready .most) (plan-root (a .n) (now (a .old)) (now (a .list)) p) (was .last .1 .1 .1 .0) (is .last .1 .1 .1 .0) old-is new-is (a .c) (a .rising) (start .pre .1 .0 .0) (start .pre .1 .0 .1),
-      filled-is (a .n) (now (a .old)) (now (a .list)) p (lent start) z bytes (applied .last .1 .1 .1 .0) (applied .ensures)
-          (was .last .1 .1 .0) (is .last .1 .1 .0) (was .last .1 .1 .1 .0) (is .last .1 .1 .1 .0) (was .ensures .1 .0) (was .ensures .1 .1) (is .ensures .1 .0) (is .ensures .1 .1),
+    let bytes : (k : ℕ) → getD l k 0 < 256 = λ k. lists .shared-slice-known2 .given k .fits in
+    let new = changed .apply .last .1 .1 .1 .0 in
+    let applied = changed .apply .ensures in
+    let was = old-done .paths .last .1 .1 in
+    let old-left = old-done .paths .ensures .1 in
+    let is = new-done .paths2 .last .1 .1 in
+    let new-left = new-done .paths2 .ensures .1 in
+    let old-is = old-hops n m l p t z bytes (was .1 .0) (old-left .1) in
+    let new-is = new-hops n m l p t z bytes new applied (is .1 .0) (new-left .1) in
+    let root-in = plan-root n m l p in
+    let made = fresh-is n m l (p .ready .most) root-in (was .1 .0) (is .1 .0) old-is new-is (a .c) (a .rising) in
+    let filled = filled-is n m l p t z bytes new applied (was .0) (is .0) (was .1 .0) (is .1 .0) in (
+      c .fresh .ensures ∙ made (start .pre .1 .0 .0) (start .pre .1 .0 .1),
+      filled (old-left .0) (old-left .1) (new-left .0) (new-left .1),
     )
 
 pub fill-spec : {M : Type 1} → statement M

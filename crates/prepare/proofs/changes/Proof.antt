@@ -26,8 +26,10 @@ part-result-end c = search needs
 returns : tie.Need-returns
 returns c =
     let a = c .before .before .before .args in
-    let size : a .contents .changes .at + 5 * a .contents .changes .count - a .contents .changes .at ≡ 5 * a .contents .changes .count = omega arith in
-    ap (λ (k : ℕ). take k (drop (a .contents .changes .at) (now (a .file)))) size
+    let at = a .contents .changes .at in
+    let count = a .contents .changes .count in
+    let size : at + 5 * count - at ≡ 5 * count = omega arith in
+    ap (λ (k : ℕ). take k (drop at (now (a .file)))) size
 
 pub changes-spec : {M : Type 1} → statement M
 changes-spec = tie.close (tie.spec mul-to add-to sub-result part-result-start part-result-end returns)

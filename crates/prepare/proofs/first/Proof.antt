@@ -1,3 +1,4 @@
+-- The first number decides, unless it is 0: these are the two laws of `orThen`.
 use mathlib.Core.Path.{sym}
 use native.Mathlib.Omega.{arith}
 use Rattle.area.specs.TestLaws.{then-some, then-none}

@@ -1,8 +1,9 @@
--- What Read gives is what Plan gets.
+-- What Read gives is what Plan gets: the contents, the table and the part of the file with the changes. So the laws
+-- refusal-given, record-given and tables-given (BenchLaws) say what both answers come to.
 use mathlib.Core.Path.{ap, _∙_}
 use borrow.Author.Needs.{needs}
 use denote.Ref.{now}
-use Rattle.plan.specs.Plan.{tables}
+use Rattle.plan.specs.Plan.{asTables}
 use Rattle.bench_file.specs.declared.Contents.{Contents}
 use Rattle.prepare.specs.BenchLaws.{changes-within, refusal-given, record-given, tables-given}
 use Rattle.prepare.proofs.prepare.Statement.{statement}
@@ -12,7 +13,10 @@ read-requires : tie.Need-read-requires
 read-requires c κs = search needs
 
 changes-requires : tie.Need-changes-requires
-changes-requires c κs = changes-within (now (c .before .before .before .before .before .before .before .before .before .before .before .before .args .file)) (now (c .before .before .before .before .before .before .before .before .before .before .before .before .args .old)) (c .before .before .before .read .result .contents) (c .before .before .before .read .ensures .1 .0)
+changes-requires c κs =
+    let read = c .before .before .before in
+    let a = read .before .before .before .before .before .before .before .before .before .args in
+    changes-within (now (a .file)) (now (a .old)) (read .read .result .contents) (read .read .ensures .1 .0)
 
 plan-requires : tie.Need-plan-requires
 plan-requires c κs = search needs
@@ -21,7 +25,9 @@ started-requires : tie.Need-started-requires
 started-requires c κs = search needs
 
 same-length : tie.Need-same-length
-same-length c = c .before .before .before .before .before .before .before .before .before .before .before .before .before .before .before .before .before .before .before .before .before .old .given
+same-length c =
+    let planned = c .before .before .before .before .before .before .before .before .before .before .before in
+    planned .before .before .before .before .before .before .before .before .before .before .old .given
 
 same-length-2 : tie.Need-same-length-2
 same-length-2 c = search needs
@@ -40,21 +46,27 @@ same-length-6 c = search needs
 
 returns : tie.Need-returns
 returns c =
-    let a = c .before .before .before .before .before .before .before .before .before .before .before .before .before .before .before .before .before .before .before .before .before .before .before .before .before .before .before .before .before .before .before .args in
-    let t = tables (now (a .new)) (now (a .old-dist)) (now (a .new-dist)) (now (a .old-hops)) (now (a .new-hops)) in
-    let read = c .before .before .before .before .before .before .before .before .before .before .before .before .before .before .before .before .before .before .before .before .before .before .read in
-    let list = c .before .before .before .before .before .before .before .before .before .before .before .before .before .before .before .before .before .before .changes in
-    let plan = c .before .before .before .before .before .before .before .before .before .before .before .plan in
-    let both = c .started in (
-      refusal-given (now (a .file)) (now (a .old)) t (read .result .contents) (read .ensures .1 .0) _ (read .ensures .1 .1) _ (list .ensures) (read .ensures .0) (plan .ensures .0) (both .ensures .0),
-      (
-        both .ensures .1 .0 ∙ record-given (now (a .file)) (now (a .old)) t (read .result .contents) (read .ensures .1 .0) _ (read .ensures .1 .1) _ (list .ensures) (plan .ensures .1 .0),
-        (
-          both .ensures .1 .1 ∙ ap (λ (x : Contents). x .steps) (read .ensures .1 .0),
-          (read .ensures .1 .1, tables-given (now (a .file)) (now (a .old)) t (read .result .contents) (read .ensures .1 .0) _ (read .ensures .1 .1) _ (list .ensures) (plan .ensures .1 .1)),
-        ),
-      ),
-    )
+    let both = c .started in
+    let planned = c .before .before .before .before .before .before .before .before .before .before .before in
+    let listed = planned .before .before .before .before .before .before .before in
+    let found = listed .before .before .before .before in
+    let a = found .before .before .before .before .before .before .before .before .before .args in
+    let plan = planned .plan in
+    let list = listed .changes .ensures in
+    let read = found .read in
+    let said = read .ensures .1 .0 in
+    let old = read .ensures .1 .1 in
+    let f = now (a .file) in
+    let m = now (a .old) in
+    let t =
+    asTables (now (a .new)) (now (a .old-dist)) (now (a .new-dist)) (now (a .old-hops)) (now (a .new-hops)) in
+    let contents = read .result .contents in
+    let answer =
+    refusal-given f m t contents said _ old _ list (read .ensures .0) (plan .ensures .0) (both .ensures .0) in
+    let record-is = both .ensures .1 .0 ∙ record-given f m t contents said _ old _ list (plan .ensures .1 .0) in
+    let steps = both .ensures .1 .1 ∙ ap (λ (x : Contents). x .steps) said in
+    let tables = tables-given f m t contents said _ old _ list (plan .ensures .1 .1) in
+    (answer, (record-is, (steps, (old, tables))))
 
 pub prepare-spec : {M : Type 1} → statement M
 prepare-spec =

@@ -15,7 +15,9 @@ first-requires : tie.Need-first-requires
 first-requires c κs = search needs
 
 returns : tie.Need-returns
-returns c = (c .first .ensures ∙ ap₂ orThen (c .before .before .number .ensures) (c .before .number2 .ensures), (refl, refl))
+returns c =
+    let both = ap₂ orThen (c .before .before .number .ensures) (c .before .number2 .ensures) in
+    (c .first .ensures ∙ both, (refl, refl))
 
 pub started-spec : {M : Type 1} → statement M
 started-spec = tie.close (tie.spec number-requires number-requires-2 first-requires returns)

@@ -1,5 +1,6 @@
 -- The routers below s have the same rank in both.
 use mathlib.Core.Path.{_≡_, sym}
+use mathlib.Core.Bool.{Bool}
 use Prim.Native.Nat.{ℕ, _-_, _<_, _≤_}
 use native.Mathlib.Omega.{arith}
 use borrow.Author.Count.{below-none, below-more}
@@ -29,7 +30,8 @@ returns : tie.Need-returns Inv-loop μ-loop
 returns c =
     let at-loop = c .before .before in
     let args = at-loop .before .args in
-    sym (all-false (args .n) (λ k. eqb (getD (args .t2) k 0) (getD (args .t3) k 0)) (at-loop .loop .s) (omega arith) (ne-eqb _ _ (c .if1 .taken)))
+    let same : ℕ → Bool = λ k. eqb (getD (args .t2) k 0) (getD (args .t3) k 0) in
+    sym (all-false (args .n) same (at-loop .loop .s) (omega arith) (ne-eqb _ _ (c .if1 .taken)))
 
 add-s : tie.Need-add-s Inv-loop μ-loop
 add-s c = omega arith
@@ -38,7 +40,9 @@ loop-less : tie.Need-loop-less Inv-loop μ-loop
 loop-less c = omega arith
 
 loop-again : tie.Need-loop-again Inv-loop μ-loop
-loop-again c = let at-loop = c .before .before .loop in (omega arith, below-more _ (at-loop .s) (at-loop .inv .1) (c .if1 .left))
+loop-again c =
+    let at-loop = c .before .before .loop in
+    (omega arith, below-more _ (at-loop .s) (at-loop .inv .1) (c .if1 .left))
 
 returns-2 : tie.Need-returns-2 Inv-loop μ-loop
 returns-2 c = sym (all-true _ _ (λ k l. eq-eqb _ _ (c .before .loop .inv .1 k (omega arith))))

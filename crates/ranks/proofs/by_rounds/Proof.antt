@@ -1,6 +1,6 @@
 -- h - 1 rounds are made.
 use mathlib.Core.Path.{_≡_, sym, _∙_}
-use Prim.Native.Nat.{suc, _+_, _-_, _≤_}
+use Prim.Native.Nat.{ℕ, suc, _+_, _-_, _≤_}
 use native.Mathlib.Omega.{arith}
 use borrow.Author.Tests.{eqb-true}
 use lib.Dec.{eqb}
@@ -13,7 +13,8 @@ use Rattle.ranks.proofs.by_rounds.Statement.{statement}
 use Rattle.ranks.proofs.by_rounds.Tie as tie
 
 abbrev Inv-loop : tie.InvT-loop
-Inv-loop n waiting ranks₀ h₀ ranks h = (1 ≤ h) × (h - 1 ≤ n - 1) × Made width n (λ r. getD waiting r 0) (h - 1) ranks
+Inv-loop n waiting ranks₀ h₀ ranks h =
+    (1 ≤ h) × (h - 1 ≤ n - 1) × Made width n (λ r. getD waiting r 0) (h - 1) ranks
 
 abbrev μ-loop : tie.MeasureT-loop
 μ-loop n waiting ranks₀ h₀ ranks h = n - h
@@ -24,10 +25,10 @@ loop-holds c = (omega arith, omega arith, made-none width _ _)
 longer-requires : tie.Need-longer-requires Inv-loop μ-loop
 longer-requires c κs =
     let at-loop = c .before .loop in
-    let a = c .before .before .args in (
-      omega arith,
-      λ s l. omega (arith, made-le width (a .n) (λ r. getD (a .waiting) r 0) (omega arith) (at-loop .h - 1) (at-loop .ranks) (at-loop .inv .2) s l),
-    )
+    let a = c .before .before .args in
+    let w : ℕ → ℕ = λ r. getD (a .waiting) r 0 in
+    let low = made-le width (a .n) w (omega arith) (at-loop .h - 1) (at-loop .ranks) (at-loop .inv .2) in
+    (omega arith, λ s l. omega (arith, low s l))
 
 agree-requires : tie.Need-agree-requires Inv-loop μ-loop
 agree-requires c κs = omega arith
@@ -39,8 +40,11 @@ returns c =
     let at-loop = turn .before .before .loop in
     let a = turn .before .before .before .args in
     let next = turn .longer .result in
-    let same = all-at (a .n) (λ s. eqb (getD (at-loop .ranks) s 0) (getD next s 0)) (sym (c .before .agree .ensures) ∙ c .if1 .taken) in
-    made-stays width (a .n) (λ r. getD (a .waiting) r 0) (omega arith) (at-loop .h - 1) (at-loop .ranks) (at-loop .inv .2) next (turn .longer .ensures) (λ s l. eqb-true _ _ (same s l)) (a .n - 1) (omega arith)
+    let agreed = sym (c .before .agree .ensures) ∙ c .if1 .taken in
+    let same = all-at (a .n) (λ s. eqb (getD (at-loop .ranks) s 0) (getD next s 0)) agreed in
+    let w : ℕ → ℕ = λ r. getD (a .waiting) r 0 in
+    made-stays width (a .n) w (omega arith) (at-loop .h - 1) (at-loop .ranks) (at-loop .inv .2) next
+    (turn .longer .ensures) (λ s l. eqb-true _ _ (same s l)) (a .n - 1) (omega arith)
 
 add-h : tie.Need-add-h Inv-loop μ-loop
 add-h c = omega arith
@@ -53,11 +57,10 @@ loop-again c =
     let turn = c .before .before in
     let at-loop = turn .before .before .loop in
     let a = turn .before .before .before .args in
-    let e : at-loop .h + 1 - 1 ≡ suc (at-loop .h - 1) = omega arith in (
-      omega arith,
-      omega arith,
-      rw e (turn .longer .ensures ∙ made-more width (a .n) (λ r. getD (a .waiting) r 0) (omega arith) (at-loop .h - 1) (at-loop .ranks) (at-loop .inv .2)),
-    )
+    let e : at-loop .h + 1 - 1 ≡ suc (at-loop .h - 1) = omega arith in
+    let w : ℕ → ℕ = λ r. getD (a .waiting) r 0 in
+    let more = made-more width (a .n) w (omega arith) (at-loop .h - 1) (at-loop .ranks) (at-loop .inv .2) in
+    (omega arith, omega arith, rw e (turn .longer .ensures ∙ more))
 
 returns-2 : tie.Need-returns-2 Inv-loop μ-loop
 unfolding rank

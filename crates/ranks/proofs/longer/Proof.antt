@@ -10,7 +10,8 @@ use Rattle.ranks.proofs.longer.Statement.{statement}
 use Rattle.ranks.proofs.longer.Tie as tie
 
 abbrev Inv-loop : tie.InvT-loop
-Inv-loop n ranks waiting out₀ r₀ out r = (r ≤ n) × Filled width r (λ k. above n (getD waiting k 0) (λ s. getD ranks s 0)) out
+Inv-loop n ranks waiting out₀ r₀ out r =
+    (r ≤ n) × Filled width r (λ k. above n (getD waiting k 0) (λ s. getD ranks s 0)) out
 
 abbrev μ-loop : tie.MeasureT-loop
 μ-loop n ranks waiting out₀ r₀ out r = n - r
@@ -37,7 +38,9 @@ loop-less : tie.Need-loop-less Inv-loop μ-loop
 loop-less c = omega arith
 
 loop-again : tie.Need-loop-again Inv-loop μ-loop
-loop-again c = let at-loop = c .before .before .loop in (omega arith, filled-more width (at-loop .r) _ (at-loop .out) _ (at-loop .inv .1) (omega arith) (c .after .ensures))
+loop-again c =
+    let at-loop = c .before .before .loop in
+    (omega arith, filled-more width (at-loop .r) _ (at-loop .out) _ (at-loop .inv .1) (omega arith) (c .after .ensures))
 
 returns : tie.Need-returns Inv-loop μ-loop
 returns c =

@@ -16,7 +16,10 @@ module _ (n : ℕ) (waiting : List ℕ) where
   many : width < n → replicate width 0 ≡ ranksOf n waiting
   many a = sym (ranks-beyond n waiting a)
 
-  few : n ≤ width → (t : List ℕ) → t ≡ perRouter width n (rank n (λ r. getD waiting r 0)) → t ≡ ranksOf n waiting
+  few :
+      n ≤ width → (t : List ℕ)
+      → t ≡ perRouter width n (rank n (λ r. getD waiting r 0))
+      → t ≡ ranksOf n waiting
   few a t e = e ∙ sym (ranks-in n waiting a)
 
 returns : tie.Need-returns

@@ -1,4 +1,4 @@
--- One law for each return.
+-- One law for each return: RowsLaws.antt has them in the same order.
 use mathlib.Core.Path.{sym}
 use Rattle.search.specs.RowsLaws.{many-routers, other-table, other-row, last-size}
 use Rattle.search.proofs.are_sizes.Statement.{statement}

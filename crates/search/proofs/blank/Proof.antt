@@ -1,13 +1,13 @@
--- Both rows are gone through: the cells below j are blank.
+-- Both rows are gone through at once: the cells below j are blank (`Blanked`).
 use Prim.Native.Nat.{_-_, _≤_}
 use native.Mathlib.Omega.{arith}
-use Rattle.area.specs.Limits.{width}
+use Rattle.area.specs.Limits.{width, unreached}
 use Rattle.search.proofs.Sweep.{Blanked, blanked-none, blanked-more}
 use Rattle.search.proofs.blank.Statement.{statement}
 use Rattle.search.proofs.blank.Tie as tie
 
 abbrev Inv-loop : tie.InvT-loop
-Inv-loop dist₀ hops₀ j₀ dist hops j = (j ≤ width) × Blanked 4294967295 dist j × Blanked 0 hops j
+Inv-loop dist₀ hops₀ j₀ dist hops j = (j ≤ width) × Blanked unreached dist j × Blanked 0 hops j
 
 abbrev μ-loop : tie.MeasureT-loop
 μ-loop dist₀ hops₀ j₀ dist hops j = width - j
@@ -35,8 +35,8 @@ loop-less c = omega arith
 
 loop-again : tie.Need-loop-again Inv-loop μ-loop
 loop-again c =
-    let at-loop = c .before .loop in
-    (omega arith, blanked-more _ _ _ (at-loop .inv .1) (omega arith), blanked-more _ _ _ (at-loop .inv .2) (omega arith))
+    let inv = c .before .loop .inv in
+    (omega arith, blanked-more _ _ _ (inv .1) (omega arith), blanked-more _ _ _ (inv .2) (omega arith))
 
 same-length : tie.Need-same-length Inv-loop μ-loop
 same-length c = omega arith

@@ -1,4 +1,5 @@
--- The metric that is read off the table is the topology's.
+-- The metric that is read off the table is the topology's: `unused` where one of the tests finds no link (`no-link`),
+-- and the cell's where none does (`a-link`).
 use Prim.Native.Nat.{ℕ, _<_, _≤_}
 use mathlib.Core.Path.{_≡_, sym}
 use mathlib.Core.Logic.{_≢_}
@@ -16,9 +17,18 @@ use Rattle.search.proofs.link.Tie as tie
 
 module _ (n : ℕ) (m : List ℕ) (q j : ℕ) where
   no-link : (Link n m q j → ⊥) → unused ≡ topology n m q j
-  no-link f = elim (decLt (topology n m q j) unused) [ yes u ↦ absurd (f (metric-link n m q j u)) | no g ↦ omega (arith, topology-top n m q j) ]
+  no-link f = elim (decLt (topology n m q j) unused) [
+    | yes u ↦ absurd (f (metric-link n m q j u))
+    | no g ↦ omega (arith, topology-top n m q j)
+  ]
 
-  a-link : q < n → j < n → q ≢ j → 1 ≤ cell width m q j → cell width m q j ≤ unused → cell width m q j ≡ topology n m q j
+  a-link :
+      q < n
+      → j < n
+      → q ≢ j
+      → 1 ≤ cell width m q j
+      → cell width m q j ≤ unused
+      → cell width m q j ≡ topology n m q j
   a-link from to f a b = elim (decLt (cell width m q j) unused) [
     | yes u ↦ sym (link-metric (record { from = from; to = to; other = f; positive = a; used = u }))
     | no g ↦ omega (arith, no-link (λ l. g (l .used)))
@@ -54,7 +64,8 @@ returns-3 c =
 returns-4 : tie.Need-returns-4
 returns-4 c =
     let a = c .before .before .before .before .args in
-    a-link (a .n) (now (a .metric)) (a .q) (a .j) (omega arith) (omega arith) (c .before .before .before .if1 .left) (omega arith) (omega arith)
+    let other = c .before .before .before .if1 .left in
+    a-link (a .n) (now (a .metric)) (a .q) (a .j) (omega arith) (omega arith) other (omega arith) (omega arith)
 
 pub link-spec : {M : Type 1} → statement M
 link-spec =

@@ -1,24 +1,26 @@
--- The routers below j were offered the way by q.
+-- The loop has offered the way by q to the routers below j, and the cells of the others are as they were (`Swept`). A
+-- turn offers where there is a link, and changes nothing where there is none; no link goes to a router from n on.
 use mathlib.Core.Path.{refl}
 use mathlib.Core.Logic.{⊎-elim}
-use Prim.Native.Nat.{_-_, _<_, _≤_}
+use Prim.Native.Nat.{_-_, _≤_}
 use native.Mathlib.Omega.{arith}
 use native.Mathlib.Decide.{decLt}
-use lib.ListN.{length}
 use denote.Ref.{now}
 use Rattle.topology.specs.Topology.{topology}
 use Rattle.topology.specs.TopologyLaws.{metric-link}
-use Rattle.offers.specs.OfferLaws.{offered, others}
+use Rattle.search.specs.Offers.{firstHop}
 use Rattle.search.specs.Search.{Relaxed, no-link, linked}
 use Rattle.search.proofs.Sweep.{Swept, swept-none, swept-more, swept-same}
 use Rattle.search.proofs.relax.Statement.{statement}
 use Rattle.search.proofs.relax.Tie as tie
 
 abbrev Inv-loop : tie.InvT-loop
-Inv-loop n metric source q dist₀ hops₀ base via j₀ dist hops j = (j ≤ n) × Swept (Relaxed (topology n metric) source q base via) dist₀ hops₀ dist hops j
+Inv-loop n metric source q dist₀ hops₀ base own j₀ dist hops j =
+    (j ≤ n)
+    × Swept (λ k. Relaxed base (topology n metric q k) (firstHop source q own k)) dist₀ hops₀ dist hops j
 
 abbrev μ-loop : tie.MeasureT-loop
-μ-loop n metric source q dist₀ hops₀ base via j₀ dist hops j = n - j
+μ-loop n metric source q dist₀ hops₀ base own j₀ dist hops j = n - j
 
 mul-base : tie.Need-mul-base Inv-loop μ-loop
 mul-base c = omega arith
@@ -26,11 +28,11 @@ mul-base c = omega arith
 slice-read-base : tie.Need-slice-read-base Inv-loop μ-loop
 slice-read-base c = omega arith
 
-mul-via : tie.Need-mul-via Inv-loop μ-loop
-mul-via c = omega arith
+mul-own : tie.Need-mul-own Inv-loop μ-loop
+mul-own c = omega arith
 
-slice-read-via : tie.Need-slice-read-via Inv-loop μ-loop
-slice-read-via c = omega arith
+slice-read-own : tie.Need-slice-read-own Inv-loop μ-loop
+slice-read-own c = omega arith
 
 loop-holds : tie.Need-loop-holds Inv-loop μ-loop
 loop-holds c = (omega arith, swept-none _ _ _)
@@ -56,19 +58,23 @@ loop-less c = omega arith
 loop-again : tie.Need-loop-again Inv-loop μ-loop
 loop-again c =
     let at-loop = c .before .before .before in
-    let start = at-loop .before .before .before .before .before .before in
-    let s = at-loop .loop .inv .1 in
-    let j = at-loop .loop .j in
-    let is-link = c .before .link .ensures in
-    let in-d : j < length (at-loop .loop .dist) = omega arith in
-    let in-h : j < length (at-loop .loop .hops) = omega arith in (
+    let at = at-loop .loop in
+    let s = at .inv .1 in
+    let is-link = c .before .link .ensures in (
       omega arith,
       ⊎-elim
           (λ w.
           let o = w .4 in
           let l = o .last .1 .1 .1 in
-          rw (w .9, w .10) (swept-more _ _ _ (at-loop .loop .dist) (at-loop .loop .hops) (l .0) (l .1 .0) j s (o .kept .1 .1 .1 .0) (o .kept .1 .1 .1 .1 .0) (linked (omega (arith, is-link, w .0 .taken)) (rw (is-link, w .1 .ensures) at (offered _ _ j _ _ in-d in-h (o .ensures .0) (o .ensures .1)))) (others _ _ j _ _ in-d in-h (o .ensures .0) (o .ensures .1))))
-          (λ w. rw (w .1, w .2) (swept-same _ _ _ _ _ _ s (no-link (λ u. omega (arith, is-link, w .0 .left)) refl refl)))
+          let kept = o .kept .1 .1 .1 in
+          let is-offer = rw (is-link, w .1 .ensures) at (o .ensures .offered) in
+          rw (w .9, w .10)
+          (swept-more _ _ _ (at .dist) (at .hops) (l .0) (l .1 .0) (at .j) s (kept .0) (kept .1 .0)
+          (linked (omega (arith, is-link, w .0 .taken)) is-offer)
+          (o .ensures .others)))
+          (λ w.
+          let none = no-link (λ u. omega (arith, is-link, w .0 .left)) refl refl in
+          rw (w .1, w .2) (swept-same _ _ _ _ _ _ s none))
           (c .if1 .came),
     )
 
@@ -87,7 +93,8 @@ returns c =
       | no f ↦
           let g : start .args .n ≤ j = omega arith in
           let e = s .rest j (omega arith) in
-          no-link (λ u. let x = metric-link (start .args .n) (now (start .args .metric)) (start .args .q) j u .to in omega arith) (e .0) (e .1)
+          let a = start .args in
+          no-link (λ u. let x = metric-link (a .n) (now (a .metric)) (a .q) j u .to in omega arith) (e .0) (e .1)
     ]
 
 pub relax-spec : {M : Type 1} → statement M
@@ -98,8 +105,8 @@ relax-spec =
     μ-loop
     mul-base
     slice-read-base
-    mul-via
-    slice-read-via
+    mul-own
+    slice-read-own
     loop-holds
     link-requires
     first-hop-requires

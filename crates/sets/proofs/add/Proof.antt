@@ -1,3 +1,4 @@
+-- Below the width `|` sets the bit; no set has a router from there on, so none can be added.
 use borrow.Author.Needs.{needs}
 use Rattle.area.specs.Limits.{width}
 use Rattle.sets.specs.SetLaws.{or-added, same-added}

@@ -1,4 +1,4 @@
--- What is a member is below the width, so the shift is too.
+-- A member is below the width, so the shift is too, and `^` clears its bit; what is no member need not be removed.
 use Prim.Native.Nat.{_<_}
 use mathlib.Core.Path.{sym, _∙_}
 use native.Mathlib.Omega.{arith}
@@ -12,7 +12,9 @@ member-requires : tie.Need-member-requires
 member-requires c κs = search needs
 
 low : (c : tie.Then1) → c .before .before .args .k < width
-low c = bit-lt width (c .before .before .args .s) (c .before .before .args .k) (c .before .before .fits .s .fits) (sym (c .before .member .ensures) ∙ c .if1 .taken)
+low c =
+    let a = c .before .before in
+    bit-lt width (a .args .s) (a .args .k) (a .fits .s .fits) (sym (c .before .member .ensures) ∙ c .if1 .taken)
 
 cast-result : tie.Need-cast-result
 cast-result c = omega (arith, low c)
@@ -23,7 +25,8 @@ shl-result c = omega (arith, low c)
 returns : tie.Need-returns
 returns c =
     let a = c .before .before in
-    xor-removed width (a .args .s) (a .fits .s .fits) (a .args .k) (low c) (sym (c .before .member .ensures) ∙ c .if1 .taken)
+    let is-member = sym (c .before .member .ensures) ∙ c .if1 .taken in
+    xor-removed width (a .args .s) (a .fits .s .fits) (a .args .k) (low c) is-member
 
 returns-2 : tie.Need-returns-2
 returns-2 c =

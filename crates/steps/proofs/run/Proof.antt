@@ -1,4 +1,5 @@
--- Between two steps: the record at hand and the bytes that are left lead to the same last record as the first one and all bytes.
+-- Between two steps, the record at hand and the bytes that are left lead to the same last record as the first record
+-- and all bytes (`Left`). A step keeps this (`left-more`); where no call is left, the record at hand is the last one.
 use mathlib.Core.Path.{_≡_, refl, sym, _∙_}
 use mathlib.Core.List.{List}
 use Prim.Native.Nat.{ℕ, _+_, _-_, _<_, _≤_}
@@ -18,14 +19,19 @@ module _ (first : Record) (l : List ℕ) where
   abbrev Left : Record → ℕ → Type 0
   Left r i = run first (callsOf l) ≡ run r (callsOf (drop i l))
 
-  left-more : (r : Record) (i : ℕ) (o : Outcome) → Left r i → i + 2 < length l → o ≡ stepOf r (getD l i 0) (getD l (i + 1) 0) (getD l (i + 2) 0) → Left (o .next) (i + 3)
+  left-more : (r : Record) (i : ℕ) (o : Outcome)
+      → Left r i
+      → i + 2 < length l
+      → o ≡ stepOf r (getD l i 0) (getD l (i + 1) 0) (getD l (i + 2) 0)
+      → Left (o .next) (i + 3)
   left-more r i o e h s = e ∙ run-next l i r o s h
 
   left-none : (r : Record) (i : ℕ) → Left r i → length l ≤ i + 2 → r ≡ run first (callsOf l)
   left-none r i e h = sym (e ∙ run-none l i r h)
 
 abbrev Inv-loop : tie.InvT-loop
-Inv-loop first bytes n waiting₀ telling due states₀ written₀ at₀ waiting states written at = (at ≤ length bytes) × Left first bytes (withTables first waiting states written) at
+Inv-loop first bytes n waiting₀ telling due states₀ written₀ at₀ waiting states written at =
+    (at ≤ length bytes) × Left first bytes (withTables first waiting states written) at
 
 abbrev μ-loop : tie.MeasureT-loop
 μ-loop first bytes n waiting₀ telling due states₀ written₀ at₀ waiting states written at = length bytes - at
@@ -62,10 +68,13 @@ loop-less c = omega arith
 
 loop-again : tie.Need-loop-again Inv-loop μ-loop
 loop-again c =
-    let start = c .before .before .before .before .before .before .before .before .before .before .before .before .before .before .before .before .before .args in
-    let at-loop = c .before .before .before .before .before .before .before .before .before .before .loop in
+    let here = c .before .before .before .before .before .before .before .before .before .before in
+    let start = here .before .before .before .before .before .before .before .args in
+    let at-loop = here .loop in
     let r = withTables (start .first) (at-loop .waiting) (at-loop .states) (at-loop .written) in
-    (omega arith, left-more (start .first) (start .bytes .now) r (at-loop .at) _ (at-loop .inv .1) (omega arith) (c .step .ensures (start .first)))
+    let stepped = c .step .ensures (start .first) in
+    let left = at-loop .inv .1 in
+    (omega arith, left-more (start .first) (start .bytes .now) r (at-loop .at) _ left (omega arith) stepped)
 
 returns : tie.Need-returns Inv-loop μ-loop
 returns c =

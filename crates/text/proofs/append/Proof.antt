@@ -27,7 +27,8 @@ least-requires-2 c κs = omega arith
 
 loop-holds : tie.Need-loop-holds Inv-loop μ-loop
 loop-holds c =
-    let a = c .before .before .before .before .args in (omega arith, paste-zero (now (a .out)) (c .before .least .result) (now (a .bytes)), refl)
+    let a = c .before .before .before .before .args in
+    (omega arith, paste-zero (now (a .out)) (c .before .least .result) (now (a .bytes)), refl)
 
 shared-slice-read-out : tie.Need-shared-slice-read-out Inv-loop μ-loop
 shared-slice-read-out c = omega arith
@@ -48,11 +49,9 @@ loop-again : tie.Need-loop-again Inv-loop μ-loop
 loop-again c =
     let at-loop = c .before .before .loop in
     let a = c .before .before .before .before .before .before .before .args in
-    let from = c .before .before .before .before .least .result in (
-      omega arith,
-      rw (at-loop .inv .1, add-one) (paste-suc (now (a .out)) from (now (a .bytes)) (at-loop .i) 0 (omega arith) (omega arith)),
-      simp length-set (at-loop .inv .2),
-    )
+    let from = c .before .before .before .before .least .result in
+    let one-more = paste-suc (now (a .out)) from (now (a .bytes)) (at-loop .i) 0 (omega arith) (omega arith) in
+    (omega arith, rw (at-loop .inv .1, add-one) one-more, simp length-set (at-loop .inv .2))
 
 add-result : tie.Need-add-result Inv-loop μ-loop
 add-result c = omega arith
@@ -64,8 +63,11 @@ returns : tie.Need-returns Inv-loop μ-loop
 returns c =
     let at-loop = c .before .loop in
     let a = c .before .before .before .before .before .before .args in
-    let e : at-loop .i ≡ c .before .before .least2 .result = omega arith in
-    rw (at-loop .inv .1, e) (appended-copy (now (a .out)) (now (a .bytes)) (a .at) (c .before .before .before .least .result) (c .before .before .least2 .result) (omega arith) (omega arith))
+    let from = c .before .before .before .least .result in
+    let count = c .before .before .least2 .result in
+    let e : at-loop .i ≡ count = omega arith in
+    let all = appended-copy (now (a .out)) (now (a .bytes)) (a .at) from count (omega arith) (omega arith) in
+    rw (at-loop .inv .1, e) all
 
 pub append-spec : {M : Type 1} → statement M
 append-spec =

@@ -1,3 +1,4 @@
+-- Without room nothing is written (appended-full); else the byte stands behind the text (appended-byte).
 use borrow.Author.Needs.{needs}
 use Rattle.text.proofs.Copying.{appended-byte, appended-full}
 use Rattle.text.proofs.byte.Statement.{statement}

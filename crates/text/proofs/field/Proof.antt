@@ -1,3 +1,4 @@
+-- The name is appended, and then the number: together they are the field (appended-field).
 use borrow.Author.Needs.{needs}
 use Rattle.text.specs.TextLaws.{appended-field}
 use Rattle.text.proofs.field.Statement.{statement}

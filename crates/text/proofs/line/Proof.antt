@@ -1,3 +1,4 @@
+-- The field is appended, and then the newline: together they are the line (appended-line).
 use borrow.Author.Needs.{needs}
 use Rattle.text.specs.TextLaws.{appended-line}
 use Rattle.text.proofs.line.Statement.{statement}

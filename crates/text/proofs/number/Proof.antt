@@ -28,7 +28,8 @@ same-length c = search needs
 returns : tie.Need-returns
 returns c =
     let spelled = c .before .before .before .before .before .before .before .spell in
-    appended-rest (spelled .last .1 .0) (spelled .result) (spelled .kept .1 .0) (spelled .ensures .1) (c .before .before .append .ensures)
+    let appended = c .before .before .append .ensures in
+    appended-rest (spelled .last .1 .0) (spelled .result) (spelled .kept .1 .0) (spelled .ensures .1) appended
 
 pub number-spec : {M : Type 1} → statement M
 number-spec =

@@ -1,4 +1,4 @@
--- The places before k are cleared.
+-- The loop's invariant: the places before k are cleared. At the end all are, and that is the table of no links.
 use mathlib.Core.Path.{_≡_, refl, sym, _∙_}
 use mathlib.Core.List.{[]}
 use Prim.Native.Nat.{_-_, _*_, _/_, _%_, _≤_}
@@ -7,7 +7,7 @@ use lib.ListN.{length, length-set}
 use denote.Ref.{now}
 use Rattle.area.specs.Limits.{width, unused}
 use Rattle.area.specs.TableLaws.{Front, front-none, front-more, places-tabulate}
-use Rattle.entries.specs.Entries.{listed}
+use Rattle.entries.specs.Entries.{listedMetric}
 use Rattle.entries.specs.EntryLaws.{given-start}
 use Rattle.bench_file.specs.Read.{linked}
 use Rattle.bench_file.proofs.metrics.clear.Statement.{statement}
@@ -37,7 +37,8 @@ loop-less c = omega arith
 loop-again : tie.Need-loop-again Inv-loop μ-loop
 loop-again c =
     let at-loop = c .before .loop in
-    (omega arith, simp length-set (at-loop .inv .1), front-more (at-loop .k) _ (at-loop .table) _ (at-loop .inv .2) (omega arith) refl)
+    let front = front-more (at-loop .k) _ (at-loop .table) _ (at-loop .inv .2) (omega arith) refl in
+    (omega arith, simp length-set (at-loop .inv .1), front)
 
 same-length : tie.Need-same-length Inv-loop μ-loop
 same-length c = omega arith
@@ -47,7 +48,8 @@ unfolding linked
 returns c =
     let at-loop = c .before .loop in
     let e : at-loop .k ≡ width * width = omega arith in
-    places-tabulate width (λ i j. listed [] 0 i j unused) (at-loop .table) (at-loop .inv .1) (λ i h. at-loop .inv .2 i (omega arith) ∙ sym (given-start [] (i / width) (i % width) unused))
+    places-tabulate width (λ i j. listedMetric [] 0 i j unused) (at-loop .table) (at-loop .inv .1)
+    (λ i h. at-loop .inv .2 i (omega arith) ∙ sym (given-start [] (i / width) (i % width) unused))
 
 pub clear-spec : {M : Type 1} → statement M
 clear-spec =

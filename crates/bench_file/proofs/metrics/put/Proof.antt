@@ -1,4 +1,5 @@
--- The links before e are put in.
+-- The loop's invariant: the links before e are put in (proofs/Linking.antt). Each link's cell is in the table, since
+-- both its ends are routers.
 use mathlib.Core.Path.{_≡_}
 use mathlib.Core.List.{[]}
 use Prim.Native.Nat.{_-_, _≤_}
@@ -56,10 +57,15 @@ loop-again c =
     let at-loop = c .before .before .loop in
     let a = c .before .before .before .before .before in
     let ends = a .pre .1 (at-loop .e) (omega arith) in
-    (omega arith, linked-more (now (a .args .list)) (at-loop .e) (at-loop .table) (at-loop .inv .1) (ends .0) (ends .1) (c .decode .result) (c .decode .ensures))
+    let so-far = at-loop .inv .1 in
+    let l = now (a .args .list) in
+    let link = c .decode in
+    (omega arith, linked-more l (at-loop .e) (at-loop .table) so-far (ends .0) (ends .1) (link .result) (link .ensures))
 
 same-length : tie.Need-same-length Inv-loop μ-loop
-same-length c = let start = linked-none [] _ (c .before .before .before .before .pre .0) in omega (arith, c .before .loop .inv .1 .size, start .size)
+same-length c =
+    let start = linked-none [] _ (c .before .before .before .before .pre .0) in
+    omega (arith, c .before .loop .inv .1 .size, start .size)
 
 returns : tie.Need-returns Inv-loop μ-loop
 returns c =

@@ -11,14 +11,14 @@ use lib.Dec.{eqb}
 use denote.Ref.{now}
 use Rattle.area.specs.TestLaws.{or-right, all-true, all-false}
 use Rattle.entries.specs.declared.Entry.{Entry}
-use Rattle.entries.specs.Entries.{count, entryOf, from, to}
+use Rattle.entries.specs.Entries.{entryCount, entryOf, from, to}
 use Rattle.entries.specs.EntryLaws.{read-from, read-to}
 use Rattle.changes.specs.Root.{isCommon}
 use Rattle.changes.proofs.root.is_common.Statement.{statement}
 use Rattle.changes.proofs.root.is_common.Tie as tie
 
 -- router c is an end of change e
-abbrev IsEnd : List ℕ → ℕ → ℕ → Bool
+abbrev IsEnd : (l : List ℕ) (c e : ℕ) → Bool
 IsEnd l c e = eqb (from l e) c || eqb (to l e) c
 
 -- by the change that was read
@@ -33,7 +33,7 @@ module _ (l : List ℕ) (e c : ℕ) (x : Entry) (is : x ≡ entryOf l e) where
   no-end f g = rw (ne-eqb (from l e) c (λ q. f (read-from is ∙ q)), ne-eqb (to l e) c (λ q. g (read-to is ∙ q))) refl
 
 abbrev Inv-loop : tie.InvT-loop
-Inv-loop list c e₀ e-end e = (e-end ≡ count list) × (e ≤ e-end) × ((k : ℕ) → k < e → IsEnd list c k ≡ true)
+Inv-loop list c e₀ e-end e = (e-end ≡ entryCount list) × (e ≤ e-end) × ((k : ℕ) → k < e → IsEnd list c k ≡ true)
 
 abbrev μ-loop : tie.MeasureT-loop
 μ-loop list c e₀ e-end e = e-end - e
@@ -53,7 +53,11 @@ returns c =
     let turn = c .before .before .before in
     let at-loop = turn .before .before .before .loop in
     let a = turn .before .before .before .before .before .before .args in
-    sym (all-false (count (now (a .list))) (IsEnd (now (a .list)) (a .c)) (at-loop .e) (omega arith) (no-end (now (a .list)) (at-loop .e) (a .c) (turn .before .decode .result) (turn .before .decode .ensures) (c .before .before .if1 .taken) (c .if2 .taken)))
+    let l = now (a .list) in
+    let change = turn .before .decode in
+    let none = no-end l (at-loop .e) (a .c) (change .result) (change .ensures) in
+    sym (all-false (entryCount l) (IsEnd l (a .c)) (at-loop .e) (omega arith)
+    (none (c .before .before .if1 .taken) (c .if2 .taken)))
 
 add-e : tie.Need-add-e Inv-loop μ-loop
 add-e c = omega arith

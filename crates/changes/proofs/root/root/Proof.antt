@@ -24,7 +24,8 @@ returns-2 : tie.Need-returns-2
 returns-2 c =
     let l = now (c .before .before .before .before .args .list) in
     let far = read-to (c .before .before .decode .ensures) in
-    read-from (c .before .before .decode .ensures) ∙ sym (root-near l (ap (isCommon l) (sym far) ∙ sym (c .before .is-common .ensures) ∙ c .if1 .left))
+    read-from (c .before .before .decode .ensures)
+    ∙ sym (root-near l (ap (isCommon l) (sym far) ∙ sym (c .before .is-common .ensures) ∙ c .if1 .left))
 
 pub root-spec : {M : Type 1} → statement M
 root-spec = tie.close (tie.spec decode-requires is-common-requires returns returns-2)

@@ -15,7 +15,8 @@ use Rattle.order.proofs.due.changed.Statement.{statement}
 use Rattle.order.proofs.due.changed.Tie as tie
 
 abbrev Inv-loop : tie.InvT-loop
-Inv-loop n old new r found₀ d₀ found d = (d ≤ n) × (found ≡ setOf d (λ k. not (eqb (cell width old r k) (cell width new r k))))
+Inv-loop n old new r found₀ d₀ found d =
+    (d ≤ n) × (found ≡ setOf d (λ k. not (eqb (cell width old r k) (cell width new r k))))
 
 abbrev μ-loop : tie.MeasureT-loop
 μ-loop n old new r found₀ d₀ found d = n - d
@@ -60,7 +61,10 @@ loop-again c =
     let p : ℕ → Bool = λ k. not (eqb (cell width (now (a .old)) (a .r) k) (cell width (now (a .new)) (a .r) k)) in (
       omega arith,
       ⊎-elim
-          (λ w. w .2 ∙ w .1 .ensures ∙ ap (λ (x : ℕ). added width x d) (at-loop .loop .inv .1) ∙ setOf-more width d p (omega arith) (rw (ne-eqb was is (w .0 .taken)) refl))
+          (λ w. w .2
+          ∙ w .1 .ensures
+          ∙ ap (λ (x : ℕ). added width x d) (at-loop .loop .inv .1)
+          ∙ setOf-more width d p (omega arith) (rw (ne-eqb was is (w .0 .taken)) refl))
           (λ w. w .1 ∙ at-loop .loop .inv .1 ∙ setOf-skip d p (rw (eq-eqb was is (w .0 .left)) refl))
           (c .if1 .came),
     )

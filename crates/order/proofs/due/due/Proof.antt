@@ -12,7 +12,8 @@ use Rattle.order.proofs.due.due.Statement.{statement}
 use Rattle.order.proofs.due.due.Tie as tie
 
 abbrev Inv-loop : tie.InvT-loop
-Inv-loop n old new out₀ r₀ out r = (r ≤ n) × Filled width r (λ k. setOf n (λ d. not (eqb (cell width old k d) (cell width new k d)))) out
+Inv-loop n old new out₀ r₀ out r =
+    (r ≤ n) × Filled width r (λ k. setOf n (λ d. not (eqb (cell width old k d) (cell width new k d)))) out
 
 abbrev μ-loop : tie.MeasureT-loop
 μ-loop n old new out₀ r₀ out r = n - r
@@ -36,7 +37,10 @@ loop-less : tie.Need-loop-less Inv-loop μ-loop
 loop-less c = omega arith
 
 loop-again : tie.Need-loop-again Inv-loop μ-loop
-loop-again c = let at-loop = c .before .before .loop in (omega arith, filled-more width (at-loop .r) _ (at-loop .out) _ (at-loop .inv .1) (omega arith) (c .changed .ensures))
+loop-again c =
+    let at-loop = c .before .before .loop in
+    let is = c .changed .ensures in
+    (omega arith, filled-more width (at-loop .r) _ (at-loop .out) _ (at-loop .inv .1) (omega arith) is)
 
 returns : tie.Need-returns Inv-loop μ-loop
 returns c =

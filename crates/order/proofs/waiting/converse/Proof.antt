@@ -34,7 +34,10 @@ loop-less : tie.Need-loop-less Inv-loop μ-loop
 loop-less c = omega arith
 
 loop-again : tie.Need-loop-again Inv-loop μ-loop
-loop-again c = let at-loop = c .before .before .loop in (omega arith, filled-more width (at-loop .r) _ (at-loop .out) _ (at-loop .inv .1) (omega arith) (c .holders .ensures))
+loop-again c =
+    let at-loop = c .before .before .loop in
+    let is = c .holders .ensures in
+    (omega arith, filled-more width (at-loop .r) _ (at-loop .out) _ (at-loop .inv .1) (omega arith) is)
 
 returns : tie.Need-returns Inv-loop μ-loop
 returns c =

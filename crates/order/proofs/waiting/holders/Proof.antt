@@ -47,7 +47,10 @@ loop-again c =
     let is : c .before .member .result ≡ p s = c .before .member .ensures in (
       omega arith,
       ⊎-elim
-          (λ w. w .2 ∙ w .1 .ensures ∙ ap (λ (x : ℕ). added width x s) (at-loop .loop .inv .1) ∙ setOf-more width s p (omega arith) (sym is ∙ w .0 .taken))
+          (λ w. w .2
+          ∙ w .1 .ensures
+          ∙ ap (λ (x : ℕ). added width x s) (at-loop .loop .inv .1)
+          ∙ setOf-more width s p (omega arith) (sym is ∙ w .0 .taken))
           (λ w. w .1 ∙ at-loop .loop .inv .1 ∙ setOf-skip s p (sym is ∙ w .0 .left))
           (c .if1 .came),
     )

@@ -42,7 +42,9 @@ loop-less : tie.Need-loop-less Inv-loop μ-loop
 loop-less c = omega arith
 
 loop-again : tie.Need-loop-again Inv-loop μ-loop
-loop-again c = let at-loop = c .before .before .loop in (omega arith, filled-more width (at-loop .r) _ (at-loop .out) _ (at-loop .inv .1) (omega arith) refl)
+loop-again c =
+    let at-loop = c .before .before .loop in
+    (omega arith, filled-more width (at-loop .r) _ (at-loop .out) _ (at-loop .inv .1) (omega arith) refl)
 
 returns : tie.Need-returns Inv-loop μ-loop
 returns c =

@@ -1,5 +1,6 @@
 -- A rise takes the converse of the next hops to the root, a fall the next hops themselves.
 use mathlib.Core.Path.{_∙_}
+use Prim.Native.Nat.{ℕ}
 use native.Mathlib.Omega.{arith}
 use borrow.Author.Needs.{needs}
 use denote.Ref.{now}
@@ -21,8 +22,10 @@ toward-requires-2 c κs = search needs
 returns : tie.Need-returns
 returns c =
     let a = c .before .before .before .before .before .args in
+    let hops = c .before .toward in
+    let to-root : ℕ → ℕ = λ r. cell width (now (a .old)) r (a .root) in
     rw (c .before .before .if1 .taken)
-    (c .converse .ensures ∙ converse-of width (a .n) (λ r. cell width (now (a .old)) r (a .root)) (c .before .toward .result) (omega arith) (c .before .toward .ensures))
+    (c .converse .ensures ∙ converse-of width (a .n) to-root (hops .result) (omega arith) (hops .ensures))
 
 returns-2 : tie.Need-returns-2
 returns-2 c = rw (c .before .if1 .left) (c .toward2 .ensures)

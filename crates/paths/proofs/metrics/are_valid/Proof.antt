@@ -1,25 +1,19 @@
--- The routers below i have valid links.
+-- The loop has found the links from the routers below i valid. It returns early at a router that has a bad one, where
+-- the test of all routers fails too; else all n pass.
 use mathlib.Core.Path.{_≡_, sym, _∙_}
-use mathlib.Core.Bool.{Bool, true, _||_}
-use mathlib.Core.List.{List}
+use mathlib.Core.Bool.{true}
 use Prim.Native.Nat.{ℕ, _-_, _<_, _≤_}
 use native.Mathlib.Omega.{arith}
 use borrow.Author.Count.{below-none, below-more}
 use borrow.Author.Tests.{not-true, not-false}
-use lib.Dec.{eqb}
 use denote.Ref.{now}
-use Rattle.area.specs.Tests.{all}
 use Rattle.area.specs.TestLaws.{all-true, all-false}
-use Rattle.topology.specs.Paths.{isMetric, areMetrics}
+use Rattle.paths.specs.Paths.{areMetricsFrom, areMetrics}
 use Rattle.paths.proofs.metrics.are_valid.Statement.{statement}
 use Rattle.paths.proofs.metrics.are_valid.Tie as tie
 
--- the links from router i are valid
-abbrev Row : ℕ → List ℕ → ℕ → Bool
-Row n m i = all n (λ j. eqb j i || isMetric m i j)
-
 abbrev Inv-loop : tie.InvT-loop
-Inv-loop n metric i₀ i = (i ≤ n) × ((k : ℕ) → k < i → Row n metric k ≡ true)
+Inv-loop n metric i₀ i = (i ≤ n) × ((k : ℕ) → k < i → areMetricsFrom n metric k ≡ true)
 
 abbrev μ-loop : tie.MeasureT-loop
 μ-loop n metric i₀ i = n - i
@@ -35,7 +29,8 @@ unfolding areMetrics
 returns c =
     let at-loop = c .before .before .before in
     let a = at-loop .before .before .args in
-    sym (all-false (a .n) (Row (a .n) (now (a .metric))) (at-loop .loop .i) (omega arith) (sym (c .before .is-valid-row .ensures) ∙ not-true _ (c .if1 .taken)))
+    let bad = sym (c .before .is-valid-row .ensures) ∙ not-true _ (c .if1 .taken) in
+    sym (all-false (a .n) (areMetricsFrom (a .n) (now (a .metric))) (at-loop .loop .i) (omega arith) bad)
 
 add-i : tie.Need-add-i Inv-loop μ-loop
 add-i c = omega arith
@@ -46,7 +41,8 @@ loop-less c = omega arith
 loop-again : tie.Need-loop-again Inv-loop μ-loop
 loop-again c =
     let at-loop = c .before .before .before in
-    (omega arith, below-more _ _ (at-loop .loop .inv .1) (sym (c .before .is-valid-row .ensures) ∙ not-false _ (c .if1 .left)))
+    let good = sym (c .before .is-valid-row .ensures) ∙ not-false _ (c .if1 .left) in
+    (omega arith, below-more _ _ (at-loop .loop .inv .1) good)
 
 returns-2 : tie.Need-returns-2 Inv-loop μ-loop
 unfolding areMetrics

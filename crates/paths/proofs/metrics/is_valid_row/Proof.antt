@@ -1,4 +1,5 @@
--- The links from router i are gone through: those below j are valid.
+-- The loop has found the links from router i to those below j valid: the pair of i with itself is passed over
+-- (`metric-own`), and a bad metric returns early, too low (`metric-low`) or too high (`metric-high`).
 use mathlib.Core.Path.{_≡_, sym}
 use mathlib.Core.Logic.{⊎-elim}
 use mathlib.Core.Bool.{true, _||_}
@@ -8,8 +9,8 @@ use borrow.Author.Count.{below-none, below-more}
 use lib.Dec.{eqb}
 use denote.Ref.{now}
 use Rattle.area.specs.TestLaws.{all-true, all-false}
-use Rattle.topology.specs.Paths.{isMetric}
-use Rattle.topology.specs.PathsLaws.{metric-own, metric-good, metric-low, metric-high}
+use Rattle.paths.specs.Paths.{isMetric}
+use Rattle.paths.specs.PathsLaws.{metric-own, metric-good, metric-low, metric-high}
 use Rattle.paths.proofs.metrics.is_valid_row.Statement.{statement}
 use Rattle.paths.proofs.metrics.is_valid_row.Tie as tie
 
@@ -39,14 +40,16 @@ returns c =
     let at-loop = c .before .before .before .before in
     let a = at-loop .before .args in
     let j = at-loop .loop .j in
-    sym (all-false (a .n) (λ k. eqb k (a .i) || isMetric (now (a .metric)) (a .i) k) j (omega arith) (metric-low (now (a .metric)) (a .i) j (c .before .before .if1 .taken) (omega arith)))
+    let bad = metric-low (now (a .metric)) (a .i) j (c .before .before .if1 .taken) (omega arith) in
+    sym (all-false (a .n) (λ k. eqb k (a .i) || isMetric (now (a .metric)) (a .i) k) j (omega arith) bad)
 
 returns-2 : tie.Need-returns-2 Inv-loop μ-loop
 returns-2 c =
     let at-loop = c .before .before .before .before .before in
     let a = at-loop .before .args in
     let j = at-loop .loop .j in
-    sym (all-false (a .n) (λ k. eqb k (a .i) || isMetric (now (a .metric)) (a .i) k) j (omega arith) (metric-high (now (a .metric)) (a .i) j (c .before .before .before .if1 .taken) (omega arith)))
+    let bad = metric-high (now (a .metric)) (a .i) j (c .before .before .before .if1 .taken) (omega arith) in
+    sym (all-false (a .n) (λ k. eqb k (a .i) || isMetric (now (a .metric)) (a .i) k) j (omega arith) bad)
 
 add-j : tie.Need-add-j Inv-loop μ-loop
 add-j c = omega arith
@@ -60,7 +63,10 @@ loop-again c =
     let a = at-loop .before .args in
     let j = at-loop .loop .j in (
       omega arith,
-      below-more _ j (at-loop .loop .inv .1) (⊎-elim (λ w. metric-good (now (a .metric)) (a .i) j (omega arith) (omega arith)) (λ w. metric-own (now (a .metric)) (a .i) j (w .left)) (c .if1 .came)),
+      below-more _ j (at-loop .loop .inv .1) (⊎-elim
+          (λ w. metric-good (now (a .metric)) (a .i) j (omega arith) (omega arith))
+          (λ w. metric-own (now (a .metric)) (a .i) j (w .left))
+          (c .if1 .came)),
     )
 
 returns-3 : tie.Need-returns-3 Inv-loop μ-loop

@@ -3,14 +3,14 @@ use mathlib.Core.Path.{_≡_, sym, _∙_}
 use Prim.Native.Nat.{_-_, _≤_}
 use native.Mathlib.Omega.{arith}
 use denote.Ref.{now}
-use Rattle.entries.specs.Entries.{count}
+use Rattle.entries.specs.Entries.{entryCount}
 use Rattle.entries.specs.EntryLaws.{read-from, read-to}
 use Rattle.plan.proofs.Applying.{Applied, applied-none, applied-more, applied-all}
 use Rattle.plan.proofs.metrics.apply.Statement.{statement}
 use Rattle.plan.proofs.metrics.apply.Tie as tie
 
 abbrev Inv-loop : tie.InvT-loop
-Inv-loop n old list new₀ e₀ e-end new e = (e-end ≡ count list) × (e ≤ e-end) × Applied n old list e new
+Inv-loop n old list new₀ e₀ e-end new e = (e-end ≡ entryCount list) × (e ≤ e-end) × Applied n old list e new
 
 abbrev μ-loop : tie.MeasureT-loop
 μ-loop n old list new₀ e₀ e-end new e = e-end - e
@@ -30,26 +30,34 @@ decode-requires c κs = omega arith
 mul-new : tie.Need-mul-new Inv-loop μ-loop
 mul-new c =
     let at-loop = c .before .before .loop in
-    let change = c .before .before .before .before .before .before .before .before .before .before .before .pre .1 (at-loop .e) (omega arith) in
-    omega (arith, change .from-in, change .to-in, read-from (c .decode .ensures), read-to (c .decode .ensures), at-loop .inv .2 .size)
+    let start = c .before .before .before .before .before .before .before .before .before .before .before in
+    let change = start .pre .1 (at-loop .e) (omega arith) in
+    let is = c .decode .ensures in
+    omega (arith, change .from-in, change .to-in, read-from is, read-to is, at-loop .inv .2 .size)
 
 add-new : tie.Need-add-new Inv-loop μ-loop
 add-new c =
     let at-loop = c .before .before .loop in
-    let change = c .before .before .before .before .before .before .before .before .before .before .before .pre .1 (at-loop .e) (omega arith) in
-    omega (arith, change .from-in, change .to-in, read-from (c .decode .ensures), read-to (c .decode .ensures), at-loop .inv .2 .size)
+    let start = c .before .before .before .before .before .before .before .before .before .before .before in
+    let change = start .pre .1 (at-loop .e) (omega arith) in
+    let is = c .decode .ensures in
+    omega (arith, change .from-in, change .to-in, read-from is, read-to is, at-loop .inv .2 .size)
 
 mul-new-2 : tie.Need-mul-new-2 Inv-loop μ-loop
 mul-new-2 c =
     let at-loop = c .before .before .loop in
-    let change = c .before .before .before .before .before .before .before .before .before .before .before .pre .1 (at-loop .e) (omega arith) in
-    omega (arith, change .from-in, change .to-in, read-from (c .decode .ensures), read-to (c .decode .ensures), at-loop .inv .2 .size)
+    let start = c .before .before .before .before .before .before .before .before .before .before .before in
+    let change = start .pre .1 (at-loop .e) (omega arith) in
+    let is = c .decode .ensures in
+    omega (arith, change .from-in, change .to-in, read-from is, read-to is, at-loop .inv .2 .size)
 
 slice-write-new : tie.Need-slice-write-new Inv-loop μ-loop
 slice-write-new c =
     let at-loop = c .before .before .loop in
-    let change = c .before .before .before .before .before .before .before .before .before .before .before .pre .1 (at-loop .e) (omega arith) in
-    omega (arith, change .from-in, change .to-in, read-from (c .decode .ensures), read-to (c .decode .ensures), at-loop .inv .2 .size)
+    let start = c .before .before .before .before .before .before .before .before .before .before .before in
+    let change = start .pre .1 (at-loop .e) (omega arith) in
+    let is = c .decode .ensures in
+    omega (arith, change .from-in, change .to-in, read-from is, read-to is, at-loop .inv .2 .size)
 
 add-e : tie.Need-add-e Inv-loop μ-loop
 add-e c = omega arith
@@ -60,18 +68,22 @@ loop-less c = omega arith
 loop-again : tie.Need-loop-again Inv-loop μ-loop
 loop-again c =
     let at-loop = c .before .before .loop in
-    let a = c .before .before .before .before .before .before .before .before .before .before .before in
-    let change = a .pre .1 (at-loop .e) (omega arith) in
-    (at-loop .inv .0, omega arith, applied-more (a .args .n) (now (a .args .old)) (now (a .args .list)) (at-loop .e) (omega arith) change (at-loop .new) (at-loop .inv .2) (c .decode .result) (c .decode .ensures))
+    let start = c .before .before .before .before .before .before .before .before .before .before .before in
+    let a = start .args in
+    let change = start .pre .1 (at-loop .e) (omega arith) in
+    let more = applied-more (a .n) (now (a .old)) (now (a .list)) (at-loop .e) (omega arith) change (at-loop .new) in
+    (at-loop .inv .0, omega arith, more (at-loop .inv .2) (c .decode .result) (c .decode .ensures))
 
 same-length : tie.Need-same-length Inv-loop μ-loop
-same-length c = c .before .loop .inv .2 .size ∙ sym (c .before .before .before .before .before .before .before .before .before .before .pre .0 .2)
+same-length c =
+    let start = c .before .before .before .before .before .before .before .before .before .before in
+    c .before .loop .inv .2 .size ∙ sym (start .pre .0 .2)
 
 returns : tie.Need-returns Inv-loop μ-loop
 returns c =
     let at-loop = c .before .loop in
     let a = c .before .before .before .before .before .before .before .before .before .before .args in
-    let e : at-loop .e ≡ count (now (a .list)) = omega (arith, at-loop .inv .0) in
+    let e : at-loop .e ≡ entryCount (now (a .list)) = omega (arith, at-loop .inv .0) in
     applied-all (a .n) (now (a .old)) (now (a .list)) (at-loop .new) (rw e at (at-loop .inv .2))
 
 pub apply-spec : {M : Type 1} → statement M

@@ -12,7 +12,10 @@ use Rattle.plan.proofs.metrics.copy.Statement.{statement}
 use Rattle.plan.proofs.metrics.copy.Tie as tie
 
 abbrev Inv-loop : tie.InvT-loop
-Inv-loop n old new₀ k₀ new k = (k ≤ width * width) × (length new ≡ width * width) × Front k (λ i. newCell n old [] 0 (i / width) (i % width)) new
+Inv-loop n old new₀ k₀ new k =
+    (k ≤ width * width)
+    × (length new ≡ width * width)
+    × Front k (λ i. newCell n old [] (i / width) (i % width)) new
 
 abbrev μ-loop : tie.MeasureT-loop
 μ-loop n old new₀ k₀ new k = width * width - k
@@ -38,7 +41,8 @@ loop-less c = omega arith
 loop-again : tie.Need-loop-again Inv-loop μ-loop
 loop-again c =
     let at-loop = c .before .before .loop in
-    (omega arith, simp length-set (at-loop .inv .1), front-more (at-loop .k) _ (at-loop .new) _ (at-loop .inv .2) (omega arith) (c .metric-at .ensures))
+    let more = front-more (at-loop .k) _ (at-loop .new) _ (at-loop .inv .2) (omega arith) (c .metric-at .ensures) in
+    (omega arith, simp length-set (at-loop .inv .1), more)
 
 same-length : tie.Need-same-length Inv-loop μ-loop
 same-length c = omega arith

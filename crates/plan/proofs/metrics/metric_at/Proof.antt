@@ -12,13 +12,19 @@ use Rattle.plan.proofs.metrics.metric_at.Statement.{statement}
 use Rattle.plan.proofs.metrics.metric_at.Tie as tie
 
 returns : tie.Need-returns
-returns c = let a = c .before .args in sym (cell-own (a .n) (now (a .old)) [] 0 (a .k / width) (a .k % width) (c .if1 .taken))
+returns c =
+    let a = c .before .args in
+    sym (cell-own (a .n) (now (a .old)) [] (a .k / width) (a .k % width) (c .if1 .taken))
 
 returns-2 : tie.Need-returns-2
-returns-2 c = let a = c .before .before .args in sym (cell-beyond (a .n) (now (a .old)) [] 0 (a .k / width) (a .k % width) (inl (c .if2 .taken)))
+returns-2 c =
+    let a = c .before .before .args in
+    sym (cell-beyond (a .n) (now (a .old)) [] (a .k / width) (a .k % width) (inl (c .if2 .taken)))
 
 returns-3 : tie.Need-returns-3
-returns-3 c = let a = c .before .before .before .args in sym (cell-beyond (a .n) (now (a .old)) [] 0 (a .k / width) (a .k % width) (inr (c .if3 .taken)))
+returns-3 c =
+    let a = c .before .before .before .args in
+    sym (cell-beyond (a .n) (now (a .old)) [] (a .k / width) (a .k % width) (inr (c .if3 .taken)))
 
 mul-result : tie.Need-mul-result
 mul-result c = search needs
@@ -27,7 +33,10 @@ shared-slice-read-result : tie.Need-shared-slice-read-result
 shared-slice-read-result c = search needs
 
 returns-4 : tie.Need-returns-4
-returns-4 c = let a = c .before .before .before .before .args in sym (cell-copied (a .n) (now (a .old)) (a .k) (omega arith) (omega arith) (c .before .before .before .if1 .left))
+returns-4 c =
+    let a = c .before .before .before .before .args in
+    let differ = c .before .before .before .if1 .left in
+    sym (cell-copied (a .n) (now (a .old)) (a .k) (omega arith) (omega arith) differ)
 
 pub metric-at-spec : {M : Type 1} → statement M
 metric-at-spec =

@@ -1,19 +1,17 @@
 -- What is printed is what the file gives.
 use borrow.Author.Needs.{needs}
-use denote.Ref.{now}
-use Rattle.plan.specs.Plan.{tables}
-use Rattle.report.specs.ReportLaws.{playable, rehearsal-printed}
+use Rattle.report.specs.ReportLaws.{bounded, rehearsal-printed}
 use Rattle.report.proofs.rehearsal.rehearse.Statement.{statement}
 use Rattle.report.proofs.rehearsal.rehearse.Tie as tie
 
 prepare-requires : tie.Need-prepare-requires
 prepare-requires c κs = search needs
 
-told-requires : tie.Need-told-requires
-told-requires c κs =
-    let a = c .before .before .before .before .before .before .before .before .before .before .before .before .before .before .before .before .before .before .before .before .before .before .before .before .before .before .before .before .args in
-    let start = c .before .before .before .before .before .before .before .before .before .before .before .before .before .prepare in
-    playable (now (a .file)) (now (a .old)) (tables (now (a .new)) (now (a .old-dist)) (now (a .new-dist)) (now (a .old-hops)) (now (a .new-hops))) (start .result .refusal) (start .ensures .0) (start .result .record) (start .ensures .1 .0) (start .result .steps) (start .ensures .1 .1 .0)
+printed-requires : tie.Need-printed-requires
+printed-requires c κs =
+    let at = c .before .before .before .before .before .before .before in
+    let is = at .before .before .before .before .before .before .prepare .ensures in
+    bounded _ _ _ _ (is .0) _ (is .1 .0) _ (is .1 .1 .0)
 
 same-length : tie.Need-same-length
 same-length c = search needs
@@ -37,17 +35,14 @@ same-length-7 : tie.Need-same-length-7
 same-length-7 c = search needs
 
 returns : tie.Need-returns
-returns c =
-    let a = c .before .before .before .before .before .before .before .before .before .before .before .before .before .before .before .before .before .before .before .before .before .before .before .before .before .before .before .before .before .before .before .args in
-    let start = c .before .before .before .before .before .before .before .before .before .before .before .before .before .before .before .before .prepare in
-    rehearsal-printed (now (a .file)) (now (a .old)) (tables (now (a .new)) (now (a .old-dist)) (now (a .new-dist)) (now (a .old-hops)) (now (a .new-hops))) (start .result .refusal) (start .ensures .0) (start .result .record) (start .ensures .1 .0) (start .result .steps) (start .ensures .1 .1 .0) (c .before .before .told .ensures)
+returns c = search rehearsal-printed
 
 pub rehearse-spec : {M : Type 1} → statement M
 rehearse-spec =
     tie.close
     (tie.spec
     prepare-requires
-    told-requires
+    printed-requires
     same-length
     same-length-2
     same-length-3

@@ -11,41 +11,17 @@ Inv-loop file₀ at₀ file at = at ≤ 17564
 abbrev μ-loop : tie.MeasureT-loop
 μ-loop file₀ at₀ file at = 17564 - at
 
-loop-holds : tie.Need-loop-holds Inv-loop μ-loop
-loop-holds c = search needs
-
-part-requires : tie.Need-part-requires Inv-loop μ-loop
-part-requires c κs = omega arith
-
-cast-file : tie.Need-cast-file Inv-loop μ-loop
-cast-file c = omega arith
-
-element-write-file : tie.Need-element-write-file Inv-loop μ-loop
-element-write-file c = omega arith
-
-add-at : tie.Need-add-at Inv-loop μ-loop
-add-at c = omega arith
-
-loop-less : tie.Need-loop-less Inv-loop μ-loop
-loop-less c = omega arith
-
-loop-again : tie.Need-loop-again Inv-loop μ-loop
-loop-again c = search needs
-
-returns : tie.Need-returns Inv-loop μ-loop
-returns c = search needs
-
 pub fill-spec : {M : Type 1} → statement M
 fill-spec =
     tie.close
     (tie.spec
     Inv-loop
     μ-loop
-    loop-holds
-    part-requires
-    cast-file
-    element-write-file
-    add-at
-    loop-less
-    loop-again
-    returns)
+    (λ c. search needs)
+    (λ c κs. omega arith)
+    (λ c κs. omega arith)
+    (λ c. omega arith)
+    (λ c. omega arith)
+    (λ c. omega arith)
+    (λ c. search needs)
+    (λ c. search needs))

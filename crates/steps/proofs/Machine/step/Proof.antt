@@ -1,3 +1,4 @@
+-- The contract of `lent::step`, at the record that the tables were taken out of.
 use borrow.Author.Needs.{needs}
 use Rattle.steps.proofs.Machine.step.Statement.{statement}
 use Rattle.steps.proofs.Machine.step.Tie as tie
@@ -6,7 +7,10 @@ step-requires : tie.Need-step-requires
 step-requires c κs = search needs
 
 returns : tie.Need-returns
-returns c = c .step .ensures (c .before .before .before .before .before .before .before .before .before .before .before .before .args .self .now)
+returns c =
+    let taken-out = c .before .before .before .before .before .before in
+    let self = taken-out .before .before .before .before .before .before .args .self in
+    c .step .ensures (self .now)
 
 pub step-spec : {M : Type 1} → statement M
 step-spec = tie.close (tie.spec step-requires returns)

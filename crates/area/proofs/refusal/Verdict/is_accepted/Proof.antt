@@ -1,3 +1,4 @@
+-- `is_accepted` compares the number with 0, as the contract does.
 use Prim.Native.Nat.{ℕ}
 use mathlib.Core.Path.{ap}
 use borrow.Author.Needs.{needs}

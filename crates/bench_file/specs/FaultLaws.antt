@@ -1,0 +1,245 @@
+-- Laws of the faults: those by which the code is proved, and what is known of a file that has none.
+--     read-changes, read-steps                 the counts that code has read
+--     link-cut, link-whole, link-sound         the refusals of a link
+--     rest-.., file-..                         the refusals of what follows the links, and of the file
+--     most-links-is, pairs-most                the limit of the links
+--     Accepted, accepted-of                    what is known of a file that is not refused
+-- The definitions are ladders of tests, so there is one law for each rung: the tests above it fail, this one holds, and
+-- so the refusal is that of the rung. A section has its law, and within it each test that failed has a name. A file
+-- that is not refused is on no rung of either ladder: that gives `Accepted`, field by field.
+use Prim.Native.Nat.{ℕ, _+_, _-_, _*_, _≤_, _<_}
+use mathlib.Core.Path.{_≡_, refl, sym, ap, _∙_}
+use mathlib.Core.Bool.{true, false}
+use mathlib.Core.Logic.{_≢_, _⊎_, inl, inr}
+use mathlib.Core.List.{List}
+use native.Mathlib.Nat.{mul-le-mul}
+use native.Mathlib.Decide.{decLt, ℕ-discrete}
+use native.Mathlib.Omega.{arith}
+use lib.Dec.{ltb}
+use lib.ListN.{length, getD}
+use borrow.Author.Tests.{lt-ltb, le-ltb}
+use Rattle.area.specs.Limits.{width, mostChanges, mostSteps}
+use Rattle.area.specs.Refusals.{incomplete, trailing, routerCount, tooMany}
+use Rattle.area.specs.TestLaws.{look, then-some, then-none, none-first}
+use Rattle.area.specs.Sizes.{isRouterCount}
+use Rattle.entries.specs.Entries.{entryCount, entryOf, from, to, isFree, listedRefusal}
+use Rattle.entries.specs.EntryLaws.{Faultless, listed-sound}
+use Rattle.bench_file.specs.Sections.{two, routers, linkCount, links}
+use Rattle.bench_file.specs.Sections.{changeCount, changesAt, stepCount, stepsAt, end}
+use Rattle.bench_file.specs.Faults.{mostLinks, linkRefusal, linksRefusal, restRefusal, fileRefusal}
+
+-- ---- the counts that code has read, one after another
+module _ (f : List ℕ) {k : ℕ} (is : k ≡ linkCount f) {x : ℕ} (told : x ≡ getD f (3 + 5 * k) 0) where
+  pub read-changes : x ≡ changeCount f
+  read-changes = told ∙ ap (λ (i : ℕ). getD f (3 + 5 * i) 0) is
+
+  pub read-steps : {y : ℕ} → y ≡ two f (3 + 5 * k + 1 + 5 * x) → y ≡ stepCount f
+  read-steps e = e ∙ ap (two f) (omega (arith, is, read-changes))
+
+-- ---- the links
+pub record Link (n : ℕ) (l : List ℕ) (e : ℕ) : Type 0 where
+  pub whole : e < entryCount l
+  pub entry : Faultless n (entryOf l e)
+  pub new : isFree l e (from l e) (to l e) ≡ true
+
+module _ (n : ℕ) (l : List ℕ) (e : ℕ) where
+  pub link-cut : entryCount l ≤ e → linkRefusal n l e ≡ incomplete
+  unfolding linkRefusal
+  link-cut a = rw (le-ltb e (entryCount l) a) refl
+
+  pub link-whole : e < entryCount l → linkRefusal n l e ≡ listedRefusal n l e
+  unfolding linkRefusal
+  link-whole a = rw (lt-ltb e (entryCount l) a) refl
+
+  pub link-sound : linkRefusal n l e ≡ 0 → Link n l e
+  link-sound z = by-length (decLt e (entryCount l))
+    where
+      by-length : Dec (e < entryCount l) → Link n l e
+      by-length (no a) = absurd (let cut = link-cut (omega arith) in let x : ⊥ = omega (arith, cut, z) in x)
+      by-length (yes a) =
+          let s = listed-sound n l e (sym (link-whole a) ∙ z) in
+          record { whole = a; entry = s .0; new = s .1 }
+
+-- ---- what follows the links
+module _ (f : List ℕ) where
+  pub rest-cut-count : length f < changesAt f → restRefusal f ≡ incomplete
+  unfolding restRefusal
+  rest-cut-count a = rw (lt-ltb (length f) (changesAt f) a) refl
+
+  module _ (a : changesAt f ≤ length f) where
+    count-there : ltb (length f) (changesAt f) ≡ false
+    count-there = le-ltb (length f) (changesAt f) a
+
+    pub rest-many-changes : mostChanges < changeCount f → restRefusal f ≡ tooMany
+    unfolding restRefusal
+    rest-many-changes b = rw (count-there, lt-ltb mostChanges (changeCount f) b) refl
+
+    module _ (b : changeCount f ≤ mostChanges) where
+      few-changes : ltb mostChanges (changeCount f) ≡ false
+      few-changes = le-ltb mostChanges (changeCount f) b
+
+      pub rest-cut-changes : length f < stepsAt f → restRefusal f ≡ incomplete
+      unfolding restRefusal
+      rest-cut-changes c = rw (count-there, few-changes, lt-ltb (length f) (stepsAt f) c) refl
+
+      module _ (c : stepsAt f ≤ length f) where
+        changes-there : ltb (length f) (stepsAt f) ≡ false
+        changes-there = le-ltb (length f) (stepsAt f) c
+
+        pub rest-many-steps : mostSteps < stepCount f → restRefusal f ≡ tooMany
+        unfolding restRefusal
+        rest-many-steps d = rw (count-there, few-changes, changes-there, lt-ltb mostSteps (stepCount f) d) refl
+
+        module _ (d : stepCount f ≤ mostSteps) where
+          few-steps : ltb mostSteps (stepCount f) ≡ false
+          few-steps = le-ltb mostSteps (stepCount f) d
+
+          pub rest-cut-steps : length f < end f → restRefusal f ≡ incomplete
+          unfolding restRefusal
+          rest-cut-steps e =
+              rw (count-there, few-changes, changes-there, few-steps, lt-ltb (length f) (end f) e) refl
+
+          module _ (e : end f ≤ length f) where
+            steps-there : ltb (length f) (end f) ≡ false
+            steps-there = le-ltb (length f) (end f) e
+
+            pub rest-more : end f < length f → restRefusal f ≡ trailing
+            unfolding restRefusal
+            rest-more g =
+                rw (count-there, few-changes, changes-there, few-steps, steps-there, lt-ltb (end f) (length f) g) refl
+
+            pub rest-passes : length f ≤ end f → restRefusal f ≡ 0
+            unfolding restRefusal
+            rest-passes g =
+                rw (count-there, few-changes, changes-there, few-steps, steps-there, le-ltb (end f) (length f) g) refl
+
+-- ---- the file
+pub most-links-is : (n : ℕ) → mostLinks n ≡ n * (n - 1)
+unfolding mostLinks
+most-links-is n = refl
+
+-- `width` routers have the most
+pub pairs-most : (n : ℕ) → n ≤ width → n * (n - 1) ≤ width * (width - 1)
+pairs-most n h = let less : n - 1 ≤ width - 1 = omega arith in mul-le-mul h less
+
+module _ (f : List ℕ) where
+  pub file-empty : length f < 1 → fileRefusal f ≡ incomplete
+  unfolding fileRefusal
+  file-empty a = rw (lt-ltb (length f) 1 a) refl
+
+  module _ (a : 1 ≤ length f) where
+    some-byte : ltb (length f) 1 ≡ false
+    some-byte = le-ltb (length f) 1 a
+
+    pub file-count : isRouterCount (routers f) ≡ false → fileRefusal f ≡ routerCount
+    unfolding fileRefusal
+    file-count b = rw (some-byte, b) refl
+
+    module _ (b : isRouterCount (routers f) ≡ true) where
+      pub file-cut : length f < 3 → fileRefusal f ≡ incomplete
+      unfolding fileRefusal
+      file-cut c = rw (some-byte, b, lt-ltb (length f) 3 c) refl
+
+      module _ (c : 3 ≤ length f) where
+        three-bytes : ltb (length f) 3 ≡ false
+        three-bytes = le-ltb (length f) 3 c
+
+        pub file-many : mostLinks (routers f) < linkCount f → fileRefusal f ≡ tooMany
+        unfolding fileRefusal
+        file-many d = rw (some-byte, b, three-bytes, lt-ltb (mostLinks (routers f)) (linkCount f) d) refl
+
+        module _ (d : linkCount f ≤ mostLinks (routers f)) where
+          few-links : ltb (mostLinks (routers f)) (linkCount f) ≡ false
+          few-links = le-ltb (mostLinks (routers f)) (linkCount f) d
+
+          pub file-link : linksRefusal f ≢ 0 → fileRefusal f ≡ linksRefusal f
+          unfolding fileRefusal
+          file-link e = rw (some-byte, b, three-bytes, few-links) (then-some _ (restRefusal f) e)
+
+          pub file-rest : linksRefusal f ≡ 0 → fileRefusal f ≡ restRefusal f
+          unfolding fileRefusal
+          file-rest e = rw (some-byte, b, three-bytes, few-links) (then-none _ (restRefusal f) e)
+
+-- ---- a file that is not refused
+pub record Accepted (f : List ℕ) : Type 0 where
+  pub routers-in : isRouterCount (routers f) ≡ true
+  pub most-links : linkCount f ≤ mostLinks (routers f)
+  pub each-link : (e : ℕ) → e < linkCount f → Link (routers f) (links f) e
+  pub most-changes : changeCount f ≤ mostChanges
+  pub most-steps : stepCount f ≤ mostSteps
+  pub size : length f ≡ end f
+
+-- what is known where the rest is not refused
+abbrev RestAccepted : (f : List ℕ) → Type 0
+RestAccepted f = (changeCount f ≤ mostChanges) × (stepCount f ≤ mostSteps) × (length f ≡ end f)
+
+rest-of : (f : List ℕ) → restRefusal f ≡ 0 → RestAccepted f
+rest-of f z =
+    by-tests
+    (decLt (length f) (changesAt f))
+    (decLt mostChanges (changeCount f))
+    (decLt (length f) (stepsAt f))
+    (decLt mostSteps (stepCount f))
+    (decLt (length f) (end f))
+    (decLt (end f) (length f))
+  where
+    never : {A : Type 0} (k : ℕ) → 1 ≤ k → restRefusal f ≡ k → A
+    never k p q = absurd (let x : ⊥ = omega arith in x)
+
+    by-tests :
+        Dec (length f < changesAt f)
+        → Dec (mostChanges < changeCount f)
+        → Dec (length f < stepsAt f)
+        → Dec (mostSteps < stepCount f)
+        → Dec (length f < end f)
+        → Dec (end f < length f)
+        → RestAccepted f
+    by-tests (yes a) b c d e g = never incomplete (omega arith) (rest-cut-count f a)
+    by-tests (no a) (yes b) c d e g = never tooMany (omega arith) (rest-many-changes f (omega arith) b)
+    by-tests (no a) (no b) (yes c) d e g =
+        never incomplete (omega arith) (rest-cut-changes f (omega arith) (omega arith) c)
+    by-tests (no a) (no b) (no c) (yes d) e g =
+        never tooMany (omega arith) (rest-many-steps f (omega arith) (omega arith) (omega arith) d)
+    by-tests (no a) (no b) (no c) (no d) (yes e) g =
+        never incomplete (omega arith) (rest-cut-steps f (omega arith) (omega arith) (omega arith) (omega arith) e)
+    by-tests (no a) (no b) (no c) (no d) (no e) (yes g) =
+        never trailing (omega arith)
+        (rest-more f (omega arith) (omega arith) (omega arith) (omega arith) (omega arith) g)
+    by-tests (no a) (no b) (no c) (no d) (no e) (no g) = (omega arith, omega arith, omega arith)
+
+pub accepted-of : (f : List ℕ) → fileRefusal f ≡ 0 → Accepted f
+accepted-of f z =
+    by-tests
+    (decLt (length f) 1)
+    (look (isRouterCount (routers f)))
+    (decLt (length f) 3)
+    (decLt (mostLinks (routers f)) (linkCount f))
+  where
+    never : {A : Type 0} (k : ℕ) → 1 ≤ k → fileRefusal f ≡ k → A
+    never k p q = absurd (let x : ⊥ = omega arith in x)
+
+    by-tests :
+        Dec (length f < 1)
+        → (isRouterCount (routers f) ≡ true) ⊎ (isRouterCount (routers f) ≡ false)
+        → Dec (length f < 3)
+        → Dec (mostLinks (routers f) < linkCount f)
+        → Accepted f
+    by-tests (yes a) b c d = never incomplete (omega arith) (file-empty f a)
+    by-tests (no a) (inr b) c d = never routerCount (omega arith) (file-count f (omega arith) b)
+    by-tests (no a) (inl b) (yes c) d = never incomplete (omega arith) (file-cut f (omega arith) b c)
+    by-tests (no a) (inl b) (no c) (yes d) = never tooMany (omega arith) (file-many f (omega arith) b (omega arith) d)
+    by-tests (no a) (inl b) (no c) (no d) = record {
+      routers-in = b;
+      most-links = omega arith;
+      each-link = λ e h. link-sound (routers f) (links f) e (none-first _ (linkCount f) (both .0) e h);
+      most-changes = rest-of f (both .1) .0;
+      most-steps = rest-of f (both .1) .1;
+      size = rest-of f (both .1) .2;
+    }
+      where
+        both : (linksRefusal f ≡ 0) × (restRefusal f ≡ 0)
+        both =
+            elim (ℕ-discrete (linksRefusal f) 0) [
+              | yes e ↦ (e, sym (file-rest f (omega arith) b (omega arith) (omega arith) e) ∙ z)
+              | no g ↦ absurd (g (sym (file-link f (omega arith) b (omega arith) (omega arith) g) ∙ z))
+            ]

@@ -1,2 +1,0 @@
--- What would make a function's proof too long.
-pub mod Pairs

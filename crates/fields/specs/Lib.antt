@@ -1,2 +1,0 @@
--- Records and answers as numbers.
-pub mod Fields

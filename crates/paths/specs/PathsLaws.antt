@@ -1,0 +1,261 @@
+-- Laws of what Paths answers and fills: those by which the code is proved, and those that callers use.
+--
+-- The answer is a ladder of three tests. A refusal is that of the first test that fails, and the answer is 0 where none
+-- does; read backwards, 0 is none of the refusals, so each test held (`accepted-tests`). The tables are chosen by that
+-- answer alone. Where it is 0, a cell of two routers is by definition their distance and their next-hop set, and crate
+-- topology has the laws that say what these are: the least sum of any walk, and each k by which that sum is met.
+--     metric-.., metrics-..                                        the test of the metrics, cell by cell
+--     Ready, area-..                                               n routers and a metric table, whatever is lent
+--     tables-true, other-..                                        the test of the sizes, table by table
+--     refused-count, refused-tables, refused-metrics, accepted     the answer, by the three tests
+--     distances-kept, hops-kept, distances-filled, hops-filled     the tables, by the answer
+--     accepted-ready, ready-accepted                               what an accepted input is
+--     distance-cell-is, hop-cell-is                                what its cells are
+--     distance-cell-beyond, hop-cell-beyond                        and those from n on
+use Prim.Native.Nat.{ℕ, _*_, _≤_, _<_}
+use mathlib.Core.Path.{_≡_, refl, _∙_}
+use mathlib.Core.Bool.{true, false, _&&_, _||_}
+use mathlib.Core.Logic.{_≢_, _↔_, _⊎_, inl, inr}
+use mathlib.Core.List.{List}
+use native.Mathlib.Omega.{arith}
+use lib.Dec.{leb, eqb}
+use lib.ListN.{length}
+use borrow.Author.Tests.{leb-true, le-leb, lt-leb, eq-eqb, ne-eqb}
+use Rattle.area.specs.Limits.{width, unused, unreached}
+use Rattle.area.specs.Refusals.{routerCount, badMetric, tableSize}
+use Rattle.area.specs.Tables.{cell, tabulate}
+use Rattle.area.specs.Sizes.{isRouterCount, isTable}
+use Rattle.area.specs.SizeLaws.{router-count-true, router-count-some, router-count-most}
+use Rattle.area.specs.SizeLaws.{table-true, table-false, table-size}
+use Rattle.area.specs.TestLaws.{look, both-true, and-false, or-right, all-at, all-true}
+use Rattle.area.specs.TableLaws.{cell-tabulate}
+use Rattle.sets.specs.Sets.{bit}
+use Rattle.topology.specs.Topology.{topology}
+use Rattle.topology.specs.Distance.{distance, IsDistance}
+use Rattle.topology.specs.NextHops.{nextHops, Next}
+use Rattle.topology.specs.DistanceLaws.{distance-is}
+use Rattle.topology.specs.NextHopLaws.{bit-next, next-set}
+use Rattle.topology.specs.TopologyLaws.{topology-graph}
+use Rattle.topology.specs.Cells.{distanceCell, hopCell}
+use Rattle.topology.specs.CellLaws.{distance-in, distance-out, hops-in, hops-out}
+use Rattle.paths.specs.Paths.{isMetric, areMetricsFrom, areMetrics, isArea}
+use Rattle.paths.specs.Paths.{haveTableSize, pathsRefusal, distancesOf, hopsOf}
+
+-- n routers and a metric table that are not refused, whatever tables of the right size are lent
+pub record Ready (n : ℕ) (m : List ℕ) : Type 0 where
+  pub some : 1 ≤ n
+  pub most : n ≤ width
+  pub size : length m ≡ width * width
+  pub metrics : areMetrics n m ≡ true
+
+-- ---- refusal 6: one cell
+module _ (m : List ℕ) (i j : ℕ) where
+  pub metric-own : j ≡ i → (eqb j i || isMetric m i j) ≡ true
+  metric-own e = rw (eq-eqb j i e) refl
+
+  pub metric-good : 1 ≤ cell width m i j → cell width m i j ≤ unused → (eqb j i || isMetric m i j) ≡ true
+  unfolding isMetric
+  metric-good a b =
+      rw (le-leb 1 (cell width m i j) a, le-leb (cell width m i j) unused b)
+      (or-right (eqb j i) true refl)
+
+  pub metric-low : j ≢ i → cell width m i j < 1 → (eqb j i || isMetric m i j) ≡ false
+  unfolding isMetric
+  metric-low f a = rw (ne-eqb j i f, lt-leb 1 (cell width m i j) a) refl
+
+  pub metric-high : j ≢ i → unused < cell width m i j → (eqb j i || isMetric m i j) ≡ false
+  unfolding isMetric
+  metric-high f a =
+      rw (ne-eqb j i f, lt-leb (cell width m i j) unused a, le-leb 1 (cell width m i j) (omega arith)) refl
+
+  pub metric-range :
+      (eqb j i || isMetric m i j) ≡ true
+      → j ≢ i
+      → (1 ≤ cell width m i j) × (cell width m i j ≤ unused)
+  unfolding isMetric
+  metric-range e f =
+      let b = both-true (leb 1 (cell width m i j)) (leb (cell width m i j) unused) (rw (ne-eqb j i f) at e) in
+      (leb-true 1 (cell width m i j) (b .0), leb-true (cell width m i j) unused (b .1))
+
+-- valid metrics, pair by pair
+pub metrics-at :
+    (n : ℕ) (m : List ℕ)
+    → areMetrics n m ≡ true
+    → (i j : ℕ)
+    → i < n
+    → j < n
+    → j ≢ i
+    → (1 ≤ cell width m i j) × (cell width m i j ≤ unused)
+unfolding areMetrics
+metrics-at n m e i j a b f =
+    let row = all-at n (areMetricsFrom n m) e i a in
+    metric-range m i j (all-at n (λ j. eqb j i || isMetric m i j) row j b) f
+
+pub metrics-true :
+    (n : ℕ) (m : List ℕ)
+    → ((i j : ℕ) → i < n → j < n → (eqb j i || isMetric m i j) ≡ true)
+    → areMetrics n m ≡ true
+unfolding areMetrics
+metrics-true n m f =
+    all-true n (areMetricsFrom n m) (λ i a. all-true n (λ j. eqb j i || isMetric m i j) (λ j b. f i j a b))
+
+-- ---- n routers and a metric table, before it is known which tables are lent
+module _ (n : ℕ) (m : List ℕ) where
+  pub area-uncounted : isRouterCount n ≡ false → isArea n m ≡ false
+  unfolding isArea
+  area-uncounted e = rw e refl
+
+  pub area-unsized : isTable m ≡ false → isArea n m ≡ false
+  unfolding isArea
+  area-unsized e = and-false (isRouterCount n) (isTable m && areMetrics n m) (rw e refl)
+
+  pub area-metrics : isRouterCount n ≡ true → isTable m ≡ true → isArea n m ≡ areMetrics n m
+  unfolding isArea
+  area-metrics a b = rw (a, b) refl
+
+  pub area-ready : isArea n m ≡ true → Ready n m
+  unfolding isArea
+  area-ready e =
+      let t = both-true (isRouterCount n) (isTable m && areMetrics n m) e in
+      let b = both-true (isTable m) (areMetrics n m) (t .1) in
+      record {
+        some = router-count-some n (t .0);
+        most = router-count-most n (t .0);
+        size = table-size m (b .0);
+        metrics = b .1;
+      }
+
+-- ---- all three tables have the right size, or one has not
+module _ (m d h : List ℕ) where
+  pub tables-true :
+      length m ≡ width * width
+      → length d ≡ width * width
+      → length h ≡ width * width
+      → haveTableSize m d h ≡ true
+  tables-true a b c = rw (table-true m a, table-true d b) (table-true h c)
+
+  pub other-metrics : length m ≢ width * width → haveTableSize m d h ≡ false
+  other-metrics f = rw (table-false m f) refl
+
+  pub other-distances : length d ≢ width * width → haveTableSize m d h ≡ false
+  other-distances f = and-false (isTable m) (isTable d && isTable h) (rw (table-false d f) refl)
+
+  pub other-hops : length h ≢ width * width → haveTableSize m d h ≡ false
+  other-hops f =
+      and-false (isTable m) (isTable d && isTable h) (and-false (isTable d) (isTable h) (table-false h f))
+
+module _ (n : ℕ) (m d h : List ℕ) where
+  -- ---- the refusals, each where it is given
+  pub refused-count : isRouterCount n ≡ false → pathsRefusal n m d h ≡ routerCount
+  unfolding pathsRefusal
+  refused-count a = rw a refl
+
+  pub refused-tables : isRouterCount n ≡ true → haveTableSize m d h ≡ false → pathsRefusal n m d h ≡ tableSize
+  unfolding pathsRefusal
+  refused-tables a b = rw (a, b) refl
+
+  pub refused-metrics :
+      isRouterCount n ≡ true
+      → haveTableSize m d h ≡ true
+      → areMetrics n m ≡ false
+      → pathsRefusal n m d h ≡ badMetric
+  unfolding pathsRefusal
+  refused-metrics a b c = rw (a, b, c) refl
+
+  pub accepted :
+      isRouterCount n ≡ true
+      → haveTableSize m d h ≡ true
+      → areMetrics n m ≡ true
+      → pathsRefusal n m d h ≡ 0
+  unfolding pathsRefusal
+  accepted a b c = rw (a, b, c) refl
+
+  -- ---- the tables at exit
+  pub distances-kept : pathsRefusal n m d h ≢ 0 → distancesOf n m d h ≡ d
+  unfolding distancesOf
+  distances-kept f = rw (ne-eqb (pathsRefusal n m d h) 0 f) refl
+
+  pub hops-kept : pathsRefusal n m d h ≢ 0 → hopsOf n m d h ≡ h
+  unfolding hopsOf
+  hops-kept f = rw (ne-eqb (pathsRefusal n m d h) 0 f) refl
+
+  pub distances-filled : pathsRefusal n m d h ≡ 0 → distancesOf n m d h ≡ tabulate width (distanceCell n m)
+  unfolding distancesOf
+  distances-filled e = rw (eq-eqb (pathsRefusal n m d h) 0 e) refl
+
+  pub hops-filled : pathsRefusal n m d h ≡ 0 → hopsOf n m d h ≡ tabulate width (hopCell n m)
+  unfolding hopsOf
+  hops-filled e = rw (eq-eqb (pathsRefusal n m d h) 0 e) refl
+
+  -- ---- what callers use: what is known of an input that is accepted, and the cells that it was answered with
+  -- the three tests hold
+  abbrev pub Passed : Type 0
+  Passed = (isRouterCount n ≡ true) × (haveTableSize m d h ≡ true) × (areMetrics n m ≡ true)
+
+  pub accepted-tests : pathsRefusal n m d h ≡ 0 → Passed
+  accepted-tests e = by-tests (look (isRouterCount n)) (look (haveTableSize m d h)) (look (areMetrics n m))
+    where
+      never : {A : Type 0} (k : ℕ) → 1 ≤ k → pathsRefusal n m d h ≡ k → A
+      never k l q = absurd (let x : ⊥ = omega arith in x)
+
+      by-tests :
+          (isRouterCount n ≡ true) ⊎ (isRouterCount n ≡ false)
+          → (haveTableSize m d h ≡ true) ⊎ (haveTableSize m d h ≡ false)
+          → (areMetrics n m ≡ true) ⊎ (areMetrics n m ≡ false)
+          → Passed
+      by-tests (inr a) b c = never routerCount (omega arith) (refused-count a)
+      by-tests (inl a) (inr b) c = never tableSize (omega arith) (refused-tables a b)
+      by-tests (inl a) (inl b) (inr c) = never badMetric (omega arith) (refused-metrics a b c)
+      by-tests (inl a) (inl b) (inl c) = (a, b, c)
+
+  pub accepted-ready : pathsRefusal n m d h ≡ 0 → Ready n m
+  accepted-ready e =
+      let t = accepted-tests e in
+      let size = both-true (isTable m) (isTable d && isTable h) (t .1) .0 in
+      area-ready n m (area-metrics n m (t .0) size ∙ t .2)
+
+  pub ready-accepted : Ready n m → length d ≡ width * width → length h ≡ width * width → pathsRefusal n m d h ≡ 0
+  ready-accepted r a b =
+      accepted (router-count-true n (r .some) (r .most)) (tables-true m d h (r .size) a b) (r .metrics)
+
+  module _ (e : pathsRefusal n m d h ≡ 0) {i j : ℕ} where
+    -- the cells of routers are their distances and next-hop sets
+    pub distance-cell : i < n → j < n → cell width (distancesOf n m d h) i j ≡ distance n (topology n m) i j
+    distance-cell a b =
+        let most = accepted-ready e .most in
+        let filled = cell-tabulate width (distanceCell n m) i j (omega arith) (omega arith) in
+        rw (distances-filled e) (filled ∙ distance-in n m i j a b)
+
+    pub hop-cell : i < n → j < n → cell width (hopsOf n m d h) i j ≡ nextHops width n (topology n m) i j
+    hop-cell a b =
+        let most = accepted-ready e .most in
+        let filled = cell-tabulate width (hopCell n m) i j (omega arith) (omega arith) in
+        rw (hops-filled e) (filled ∙ hops-in n m i j a b)
+
+    -- so the cell of (i, j) is the least sum of a walk of any length, and `unreached` exactly where there is none
+    pub distance-cell-is : i < n → j < n → IsDistance (topology n m) i j (cell width (distancesOf n m d h) i j)
+    distance-cell-is a b = rw (distance-cell a b) (distance-is (topology-graph n m (accepted-ready e .most)) i j)
+
+    -- and its next-hop set holds exactly the k whose link from i is used and whose distance to j is less by that
+    -- link's metric
+    pub hop-cell-is :
+        {k : ℕ}
+        → i < n
+        → j < n
+        → k < width
+        → (bit (cell width (hopsOf n m d h) i j) k ≡ true) ↔ Next n (topology n m) i j k
+    hop-cell-is {k} a b l =
+        rw (hop-cell a b) ((λ t. bit-next width n (topology n m) i j k t), (λ x. next-set width l x))
+
+    -- beyond n
+    pub distance-cell-beyond :
+        i < width
+        → j < width
+        → (n ≤ i) ⊎ (n ≤ j)
+        → cell width (distancesOf n m d h) i j ≡ unreached
+    distance-cell-beyond a b w =
+        rw (distances-filled e) (cell-tabulate width (distanceCell n m) i j a b ∙ distance-out n m i j w)
+
+    pub hop-cell-beyond : i < width → j < width → (n ≤ i) ⊎ (n ≤ j) → cell width (hopsOf n m d h) i j ≡ 0
+    hop-cell-beyond a b w =
+        rw (hops-filled e) (cell-tabulate width (hopCell n m) i j a b ∙ hops-out n m i j w)

@@ -1,0 +1,35 @@
+-- What the parts of Plan promise to each other; no other crate reads it.
+--     Judges       what is found of an input before it is planned (src/judging.rt)
+--     started      the record of a plan, by the order of its change (`fresh` of src/lib.rt)
+use Prim.Native.Nat.{ℕ}
+use mathlib.Core.Path.{_≡_}
+use mathlib.Core.Bool.{Bool}
+use mathlib.Core.List.{List}
+use Rattle.area.specs.Refusals.{verdictNumber}
+use Rattle.area.specs.Tests.{pick}
+use Rattle.order.specs.declared.Order.{Order}
+use Rattle.changes.specs.Changes.{isRise}
+use Rattle.changes.specs.Root.{root}
+use Rattle.plan.specs.declared.Record.{Record}
+use Rattle.plan.specs.declared.judging.Judged.{Judged}
+use Rattle.plan.specs.Plan.{planRefusal, zeros}
+
+-- r has the number of the input's first refusal, and where there is none its root and whether it rises
+abbrev pub Judges : (n : ℕ) (m l : List ℕ) (sized : Bool) (r : Judged) → Type 0
+Judges n m l sized r =
+    (verdictNumber (r .answer) ≡ planRefusal n m l sized)
+    × (planRefusal n m l sized ≡ 0 → (r .root ≡ root l) × (r .rising ≡ isRise m l))
+
+-- n routers with the root c and the direction and order of the change: every router idle, with nothing written
+abbrev pub started : (n c : ℕ) (rising : Bool) (order : Order) → Record
+started n c rising order = record {
+  n = n;
+  root = c;
+  direction = pick rising 1 2;
+  ranks = order .ranks;
+  waiting = order .waiting;
+  telling = order .telling;
+  due = order .due;
+  states = zeros;
+  written = zeros;
+}

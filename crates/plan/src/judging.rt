@@ -1,0 +1,113 @@
+// Whether an input is planned: Plan's refusals, in the order of 01.
+//     judge            3, 8 and 6, as Paths has them
+//     judge_list       1, 9 and 10, of the list's length
+//     judge_changes    that of the first faulty change, and then 12 and 13
+// Each ends with a call of the next, so that the first refusal is the answer. All three promise `Judges`
+// (specs/Parts.antt), by the ladder of specs/Plan.antt.
+use area::limits::ENTRY;
+use area::limits::MOST_CHANGES;
+use area::limits::WIDTH;
+use area::refusal::Refusal;
+use area::refusal::Verdict;
+use changes::checks::first_refusal;
+use changes::direction::is_fall;
+use changes::direction::is_rise;
+use changes::root;
+use entries::count;
+use paths::is_area;
+ghost use mathlib.Core.Path.{_≡_};
+ghost use mathlib.Core.Bool.{true, _||_};
+ghost use Prim.Native.Nat.{_*_};
+ghost use lib.ListN.{length};
+ghost use Rattle.area.specs.Limits.{width};
+ghost use Rattle.paths.specs.PathsLaws.{Ready};
+ghost use Rattle.changes.specs.Changes.{isFall};
+ghost use Rattle.plan.specs.PlanLaws.{Listed};
+ghost use Rattle.plan.specs.Parts.{Judges};
+
+// What is found of an input. Where it is refused, nothing is said of root and direction.
+pub struct Judged {
+    pub answer: Verdict,
+    pub root: usize,
+    pub rising: bool,
+}
+
+// The first refusal of n, the old metric table and the change list, and else the root and the direction. `sized` says
+// that every table has the right size.
+pub(crate) fn judge(n: usize, old: &[u32], list: &[u8], sized: bool) -> Judged
+    requires { ⌜ (sized ≡ true → length (now old) ≡ width * width) ⌝ }
+    ensures { λ r. ⌜ Judges n (now (old .entry)) (now (list .entry)) sized r ⌝ }
+{
+    if n < 1 {
+        return refused(Verdict::Refused(Refusal::RouterCount));
+    }
+    if WIDTH < n {
+        return refused(Verdict::Refused(Refusal::RouterCount));
+    }
+    if !sized {
+        return refused(Verdict::Refused(Refusal::TableSize));
+    }
+    if !is_area(n, old) {
+        return refused(Verdict::Refused(Refusal::Metric));
+    }
+    judge_list(n, old, list)
+}
+
+// The same, where n, metrics and tables are not refused.
+fn judge_list(n: usize, old: &[u32], list: &[u8]) -> Judged
+    requires { ⌜ Ready n (now old) ⌝ }
+    ensures { λ r. ⌜ Judges n (now (old .entry)) (now (list .entry)) true r ⌝ }
+{
+    if list.len() % ENTRY != 0 {
+        return refused(Verdict::Refused(Refusal::Incomplete));
+    }
+    let listed = count(list);
+    if MOST_CHANGES < listed {
+        return refused(Verdict::Refused(Refusal::TooMany));
+    }
+    if listed == 0 {
+        return refused(Verdict::Refused(Refusal::NoChange));
+    }
+    judge_changes(n, old, list)
+}
+
+// The same, where the list's length is not refused either.
+fn judge_changes(n: usize, old: &[u32], list: &[u8]) -> Judged
+    requires { ⌜ Listed n (now old) (now list) ⌝ }
+    ensures { λ r. ⌜ Judges n (now (old .entry)) (now (list .entry)) true r ⌝ }
+{
+    let answer = first_refusal(n, old, list);
+    if !answer.is_accepted() {
+        return refused(answer);
+    }
+    let rising = is_rise(old, list);
+    if !is_one_way(old, list, rising) {
+        return refused(Verdict::Refused(Refusal::Mixed));
+    }
+    let root = root::root(list);
+    if !root::is_common(list, root) {
+        return refused(Verdict::Refused(Refusal::NoCommonRouter));
+    }
+    Judged {
+        answer,
+        root,
+        rising,
+    }
+}
+
+// Is every change a fall, where `rising` does not say that every change is a rise?
+fn is_one_way(old: &[u32], list: &[u8], rising: bool) -> bool
+    ensures { λ r. ⌜ r ≡ (rising || isFall (now (old .entry)) (now (list .entry))) ⌝ }
+{
+    if rising { true } else { is_fall(old, list) }
+}
+
+fn refused(answer: Verdict) -> Judged
+    ensures { λ r. ⌜ r .answer ≡ answer ⌝ }
+{
+    Judged {
+        answer,
+        root: 0,
+        rising: false,
+    }
+}

@@ -1,0 +1,34 @@
+-- What is printed part by part is the whole.
+use borrow.Author.Needs.{needs}
+use Rattle.report.specs.ReportLaws.{lines-appended}
+use Rattle.report.proofs.rehearsal.rehearsal_lines.Statement.{statement}
+use Rattle.report.proofs.rehearsal.rehearsal_lines.Tie as tie
+
+router-lines-requires : tie.Need-router-lines-requires
+router-lines-requires c κs = search needs
+
+step-lines-requires : tie.Need-step-lines-requires
+step-lines-requires c κs = search needs
+
+slice-aggregate-append : tie.Need-slice-aggregate-append
+slice-aggregate-append c = search needs
+
+append-requires : tie.Need-append-requires
+append-requires c κs = search needs
+
+same-length : tie.Need-same-length
+same-length c = search needs
+
+returns : tie.Need-returns
+returns c = search lines-appended
+
+pub rehearsal-lines-spec : {M : Type 1} → statement M
+rehearsal-lines-spec =
+    tie.close
+    (tie.spec
+    router-lines-requires
+    step-lines-requires
+    slice-aggregate-append
+    append-requires
+    same-length
+    returns)

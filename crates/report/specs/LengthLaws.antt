@@ -1,0 +1,89 @@
+-- How many bytes the lines have at most. A word has its own length and a number at most ten digits (`field-most` and
+-- `line-most` of the crate text), so each line is bounded by the sum of its parts; all lines of a kind are bounded by
+-- that for each of them.
+--     refused-most, router-most, step-most, route-most    one line
+--     routers-most, steps-most, routes-most               all lines of a kind
+use Prim.Native.Nat.{ℕ, zero, suc, _+_, _*_, _≤_}
+use mathlib.Core.Logic.{⊎-elim}
+use mathlib.Core.List.{List, [], _∷_}
+use native.Mathlib.Omega.{arith}
+use lib.Dec.{eqb}
+use lib.ListN.{length, getD, length-append}
+use Rattle.area.specs.Limits.{width, unreached}
+use Rattle.area.specs.TestLaws.{look}
+use Rattle.plan.specs.declared.Record.{Record}
+use Rattle.machine.specs.Answers.{Reply, ok, ignored, refused}
+use Rattle.text.specs.Text.{word}
+use Rattle.text.specs.TextLaws.{field-most, line-most}
+use Rattle.report.specs.declared.lines.Path.{Path}
+use Rattle.report.specs.Lines.{refusedLine, routerLine, routerLines, answerText, stepLine, stepLines}
+use Rattle.report.specs.Lines.{pathText, routeLine, isPrinted, pairText, path, rowLines, routeLines}
+
+-- ---- one line
+refused-most : (k : ℕ) → length (refusedLine k) ≤ 19
+unfolding refusedLine
+refused-most k = line-most (word "refused ") k
+
+router-most : (i rank waits tells due : ℕ) → length (routerLine i rank waits tells due) ≤ 83
+unfolding routerLine
+router-most i rank waits tells due =
+    let named = field-most (word "router ") i in
+    let ranked = field-most (word " rank ") rank in
+    let waiting = field-most (word " waits ") waits in
+    let telling = field-most (word " tells ") tells in
+    simp length-append (omega (arith, line-most (word " due ") due))
+
+answer-most : (x : Reply) → length (answerText x) ≤ 20
+unfolding answerText
+answer-most ok = omega arith
+answer-most ignored = omega arith
+answer-most (refused k) = simp length-append (omega (arith, refused-most k))
+
+step-most : (k : ℕ) (x : Reply) → length (stepLine k x) ≤ 35
+unfolding stepLine
+step-most k x = simp length-append (omega (arith, field-most (word "step ") k, answer-most x))
+
+path-most : (p : Path) → length (pathText p) ≤ 26
+unfolding pathText
+path-most p =
+    let distance = field-most (word " ") (p .distance) in
+    let hops = field-most (word " via ") (p .hops) in
+    ⊎-elim (λ t. rw t (omega arith)) (λ f. rw f (simp length-append (omega arith)))
+    (look (eqb (p .distance) unreached))
+
+route-most : (i j : ℕ) (p q : Path) → length (routeLine i j p q) ≤ 88
+unfolding routeLine
+route-most i j p q =
+    let first = field-most (word "route ") i in
+    let second = field-most (word " ") j in
+    simp length-append (omega (arith, path-most p, path-most q))
+
+pair-most : (i j : ℕ) (p q : Path) → length (pairText i j p q) ≤ 88
+unfolding pairText
+pair-most i j p q = ⊎-elim (λ t. rw t (route-most i j p q)) (λ f. rw f (omega arith)) (look (isPrinted i j p q))
+
+-- ---- all lines of a kind
+pub routers-most : (r : Record) (k : ℕ) → length (routerLines r k) ≤ 83 * k
+unfolding routerLines
+routers-most r zero = omega arith
+routers-most r (suc k) =
+    let last =
+    router-most k (getD (r .ranks) k 0) (getD (r .waiting) k 0) (getD (r .telling) k 0) (getD (r .due) k 0)
+    in
+    simp length-append (omega (arith, routers-most r k))
+
+pub steps-most : (k : ℕ) (l : List Reply) → length (stepLines k l) ≤ 35 * length l
+unfolding stepLines
+steps-most k [] = omega arith
+steps-most k (x ∷ l) = simp length-append (omega (arith, step-most k x, steps-most (k + 1) l))
+
+module _ (d h e g : List ℕ) where
+  row-most : (i k : ℕ) → length (rowLines d h e g i k) ≤ 88 * k
+  unfolding rowLines
+  row-most i zero = omega arith
+  row-most i (suc k) = simp length-append (omega (arith, row-most i k, pair-most i k (path d h i k) (path e g i k)))
+
+  pub routes-most : (n k : ℕ) → n ≤ width → length (routeLines d h e g n k) ≤ 88 * width * k
+  unfolding routeLines
+  routes-most n zero b = omega arith
+  routes-most n (suc k) b = simp length-append (omega (arith, routes-most n k b, row-most k n))

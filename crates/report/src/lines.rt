@@ -1,0 +1,107 @@
+// The lines that the programs print, each appended to the text in a lent buffer. `at` is where the text ends, and what
+// is returned is where it ends then.
+use area::limits::UNREACHED;
+use machine::Answer;
+use text::append;
+use text::field;
+use text::line;
+ghost use mathlib.Core.List.{_++_};
+ghost use Rattle.machine.specs.Answers.{replyOf};
+ghost use Rattle.text.specs.Text.{Appended, word, field};
+ghost use Rattle.report.specs.Lines.{refusedLine, routerLine, answerText, stepLine, pathText, routeLine};
+
+// The distance between two routers, and the next-hop set by which it is reached.
+pub struct Path {
+    pub distance: u32,
+    pub hops: u32,
+}
+
+// The line of a refusal, by its number.
+pub(crate) fn refused_line(number: u8, out: &mut [u8], at: usize) -> usize
+    ensures line { λ r. ⌜ Appended (now (out .entry)) at (refusedLine number) (now (out .exit)) r ⌝ }
+{
+    line(out, at, b"refused ", number as u32)
+}
+
+// The line of router i.
+pub(crate) fn router_line(
+    i: u32,
+    rank: u8,
+    waits: u32,
+    tells: u32,
+    due: u32,
+    out: &mut [u8],
+    at: usize,
+) -> usize
+    ensures line { λ r. ⌜ Appended (now (out .entry)) at (routerLine i rank waits tells due) (now (out .exit)) r ⌝ }
+{
+    let at = field(out, at, b"router ", i);
+    let at = field(out, at, b" rank ", rank as u32);
+    let at = field(out, at, b" waits ", waits);
+    let at = field(out, at, b" tells ", tells);
+    line(out, at, b" due ", due)
+}
+
+// The line of step k.
+pub(crate) fn step_line(k: u32, answer: Answer, out: &mut [u8], at: usize) -> usize
+    ensures line { λ r. ⌜ Appended (now (out .entry)) at (stepLine k (replyOf answer)) (now (out .exit)) r ⌝ }
+{
+    let at = field(out, at, b"step ", k);
+    answer_text(answer, out, at)
+}
+
+// An answer, up to the end of its line.
+fn answer_text(answer: Answer, out: &mut [u8], at: usize) -> usize
+    ensures text { λ r. ⌜ Appended (now (out .entry)) at (answerText (replyOf answer)) (now (out .exit)) r ⌝ }
+{
+    match answer {
+        Answer::Ok => append(out, at, b" ok\n"),
+        Answer::Ignored => append(out, at, b" ignored\n"),
+        Answer::Refused(why) => line(out, at, b" refused ", why.number() as u32),
+    }
+}
+
+// The line of the pair (i, j): its path before the change, and after it.
+pub(crate) fn route_line(
+    i: u32,
+    j: u32,
+    before: Path,
+    after: Path,
+    out: &mut [u8],
+    at: usize,
+) -> usize
+    ensures line { λ r. ⌜ Appended (now (out .entry)) at (routeLine i j before after) (now (out .exit)) r ⌝ }
+{
+    let at = ends(i, j, out, at);
+    let at = side(b" old", before, out, at);
+    let at = side(b" new", after, out, at);
+    append(out, at, b"\n")
+}
+
+// The two routers of a pair.
+fn ends(i: u32, j: u32, out: &mut [u8], at: usize) -> usize
+    ensures text { λ r. ⌜
+        Appended (now (out .entry)) at (field (word "route ") i ++ field (word " ") j) (now (out .exit)) r ⌝ }
+{
+    let at = field(out, at, b"route ", i);
+    field(out, at, b" ", j)
+}
+
+// A topology's name, and the path in it.
+fn side(name: &[u8], p: Path, out: &mut [u8], at: usize) -> usize
+    ensures text { λ r. ⌜ Appended (now (out .entry)) at (now (name .entry) ++ pathText p) (now (out .exit)) r ⌝ }
+{
+    let at = append(out, at, name);
+    path_text(p, out, at)
+}
+
+// A distance and the next hops, or that there is no walk.
+fn path_text(p: Path, out: &mut [u8], at: usize) -> usize
+    ensures text { λ r. ⌜ Appended (now (out .entry)) at (pathText p) (now (out .exit)) r ⌝ }
+{
+    if p.distance == UNREACHED {
+        return append(out, at, b" none");
+    }
+    let at = field(out, at, b" ", p.distance);
+    field(out, at, b" via ", p.hops)
+}

@@ -1,0 +1,166 @@
+// Step over n and lent tables per router: all that a call reads of a record, and all that it changes.
+//     step                                     the refusals that come first, then the call
+//     is_record, are_known, is_kind, reads_b   what is tested first
+//     call_one, call_two                       the call of a kind that does not read b, and of one that does
+// What the calls promise is specs/Lent.antt.
+use crate::messages::deliver;
+use crate::moves::finish;
+use crate::moves::learn;
+use crate::moves::release;
+use crate::moves::write;
+use area::limits::WIDTH;
+use area::refusal::Refusal;
+use machine::Answer;
+use machine::DELIVER;
+use machine::DONE;
+use machine::LEARN;
+use machine::RELEASE;
+use machine::WRITE;
+ghost use mathlib.Core.Path.{_≡_};
+ghost use mathlib.Core.Bool.{true, false};
+ghost use Prim.Native.Nat.{_<_};
+ghost use lib.Dec.{leb};
+ghost use lib.ListN.{getD};
+ghost use Rattle.area.specs.Limits.{width};
+ghost use Rattle.area.specs.Tests.{all};
+ghost use Rattle.machine.specs.Answers.{replyOf};
+ghost use Rattle.machine.specs.Machine.{done, isSound, isKind, readsB};
+ghost use Rattle.steps.specs.Lent.{CallsOne, CallsTwo, Steps};
+
+// One step, by its kind: first the tests of the record, of the kind and of the routers, then the call.
+pub fn step(
+    n: u8,
+    waiting: &mut [u32; WIDTH],
+    telling: &[u32; WIDTH],
+    due: &[u32; WIDTH],
+    states: &mut [u8; WIDTH],
+    written: &mut [u32; WIDTH],
+    kind: u8,
+    a: u8,
+    b: u8,
+) -> Answer
+    ensures outcome { λ r. ⌜
+        Steps n (now (telling .entry)) (now (due .entry))
+        (now (waiting .entry)) (now (states .entry)) (now (written .entry))
+        (now (waiting .exit)) (now (states .exit)) (now (written .exit))
+        kind a b (replyOf r) ⌝ }
+{
+    if !is_record(n, states) {
+        return Answer::Refused(Refusal::Record);
+    }
+    if !is_kind(kind) {
+        return Answer::Refused(Refusal::Kind);
+    }
+    if a >= n {
+        return Answer::Refused(Refusal::UnknownRouter);
+    }
+    let i = a as usize;
+    if !reads_b(kind) {
+        return call_one(waiting, due, states, written, kind, i);
+    }
+    if b >= n {
+        return Answer::Refused(Refusal::UnknownRouter);
+    }
+    let j = b as usize;
+    call_two(waiting, telling, due, states, written, kind, i, j)
+}
+
+// The call of a kind that does not read b.
+fn call_one(
+    waiting: &[u32; WIDTH],
+    due: &[u32; WIDTH],
+    states: &mut [u8; WIDTH],
+    written: &[u32; WIDTH],
+    kind: u8,
+    i: usize,
+) -> Answer
+    requires { ⌜ (i < width) × (isKind kind ≡ true) × (readsB kind ≡ false) ⌝ }
+    ensures { λ r. ⌜
+        CallsOne (now (waiting .entry)) (now (due .entry)) (now (written .entry))
+        (now (states .entry)) (now (states .exit)) kind i (replyOf r) ⌝ }
+{
+    if kind == LEARN {
+        return learn(states, i);
+    }
+    if kind == RELEASE {
+        return release(states, i);
+    }
+    finish(waiting, due, states, written, i)
+}
+
+// The call of a kind that reads b.
+fn call_two(
+    waiting: &mut [u32; WIDTH],
+    telling: &[u32; WIDTH],
+    due: &[u32; WIDTH],
+    states: &[u8; WIDTH],
+    written: &mut [u32; WIDTH],
+    kind: u8,
+    i: usize,
+    j: usize,
+) -> Answer
+    requires { ⌜ (i < width) × (j < width) × (readsB kind ≡ true) ⌝ }
+    ensures { λ r. ⌜
+        CallsTwo (now (telling .entry)) (now (due .entry)) (now (states .entry))
+        (now (waiting .entry)) (now (written .entry))
+        (now (waiting .exit)) (now (written .exit)) kind i j (replyOf r) ⌝ }
+{
+    if kind == WRITE {
+        return write(waiting, due, states, written, i, j);
+    }
+    deliver(waiting, telling, states, i, j)
+}
+
+// Is this one of the five kinds?
+fn is_kind(kind: u8) -> bool
+    ensures { λ r. ⌜ r ≡ isKind kind ⌝ }
+{
+    if kind < LEARN {
+        return false;
+    }
+    if kind > DELIVER {
+        return false;
+    }
+    true
+}
+
+// Does a call of this kind read b?
+fn reads_b(kind: u8) -> bool
+    ensures { λ r. ⌜ r ≡ readsB kind ⌝ }
+{
+    if kind == WRITE {
+        return true;
+    }
+    if kind == DELIVER {
+        return true;
+    }
+    false
+}
+
+// Is n a number of routers, and is every state one of the four?
+fn is_record(n: u8, states: &[u8; WIDTH]) -> bool
+    ensures { λ r. ⌜ r ≡ isSound n (now (states .entry)) ⌝ }
+{
+    let routers = n as usize;
+    if routers == 0 {
+        return false;
+    }
+    if routers > WIDTH {
+        return false;
+    }
+    are_known(states)
+}
+
+// Is every state one of the four? All of them are where the largest is.
+fn are_known(states: &[u8; WIDTH]) -> bool
+    ensures { λ r. ⌜ r ≡ all width (λ i. leb (getD (now (states .entry)) i 0) done) ⌝ }
+{
+    let mut largest = 0u8;
+    for i in 0..WIDTH {
+        let state = states[i];
+        if state > largest {
+            largest = state;
+        }
+    }
+    largest <= DONE
+}

@@ -1,0 +1,102 @@
+// The moves of one router, over the tables per router that each reads and changes. Each is the call of its kind: first
+// the refusals in their order, then one entry is written. What they promise is specs/Lent.antt.
+use area::limits::WIDTH;
+use area::refusal::Refusal;
+use machine::Answer;
+use machine::DONE;
+use machine::HOLDING;
+use machine::IDLE;
+use machine::ONGOING;
+use sets::add;
+use sets::is_subset;
+use sets::member;
+ghost use Prim.Native.Nat.{_<_};
+ghost use Rattle.area.specs.Limits.{width};
+ghost use Rattle.machine.specs.Answers.{replyOf};
+ghost use Rattle.steps.specs.Lent.{Learns, Releases, Writes, Finishes};
+
+// A router learns of the change.
+pub(crate) fn learn(states: &mut [u8; WIDTH], i: usize) -> Answer
+    requires { ⌜ i < width ⌝ }
+    ensures { λ r. ⌜ Learns (now (states .entry)) (now (states .exit)) i (replyOf r) ⌝ }
+{
+    if states[i] != IDLE {
+        return Answer::Refused(Refusal::State);
+    }
+    states[i] = HOLDING;
+    Answer::Ok
+}
+
+// The hold-down of a router is over.
+pub(crate) fn release(states: &mut [u8; WIDTH], i: usize) -> Answer
+    requires { ⌜ i < width ⌝ }
+    ensures { λ r. ⌜ Releases (now (states .entry)) (now (states .exit)) i (replyOf r) ⌝ }
+{
+    if states[i] != HOLDING {
+        return Answer::Refused(Refusal::State);
+    }
+    states[i] = ONGOING;
+    Answer::Ok
+}
+
+// A router writes its new next hops to destination d.
+pub(crate) fn write(
+    waiting: &[u32; WIDTH],
+    due: &[u32; WIDTH],
+    states: &[u8; WIDTH],
+    written: &mut [u32; WIDTH],
+    i: usize,
+    d: usize,
+) -> Answer
+    requires { ⌜ i < width ⌝ }
+    ensures { λ r. ⌜
+        Writes (now (waiting .entry)) (now (due .entry)) (now (states .entry))
+        (now (written .entry)) (now (written .exit)) i d (replyOf r) ⌝ }
+{
+    let at = states[i];
+    if at != ONGOING {
+        return Answer::Refused(Refusal::State);
+    }
+    let waits_for = waiting[i];
+    if waits_for != 0 {
+        return Answer::Refused(Refusal::Waiting);
+    }
+    if !member(due[i], d) {
+        return Answer::Refused(Refusal::NotDue);
+    }
+    let so_far = written[i];
+    if member(so_far, d) {
+        return Answer::Refused(Refusal::NotDue);
+    }
+    written[i] = add(so_far, d);
+    Answer::Ok
+}
+
+// A router has written all that is due, and is done.
+pub(crate) fn finish(
+    waiting: &[u32; WIDTH],
+    due: &[u32; WIDTH],
+    states: &mut [u8; WIDTH],
+    written: &[u32; WIDTH],
+    i: usize,
+) -> Answer
+    requires { ⌜ i < width ⌝ }
+    ensures { λ r. ⌜
+        Finishes (now (waiting .entry)) (now (due .entry)) (now (written .entry))
+        (now (states .entry)) (now (states .exit)) i (replyOf r) ⌝ }
+{
+    let at = states[i];
+    if at != ONGOING {
+        return Answer::Refused(Refusal::State);
+    }
+    let unheard = waiting[i];
+    if unheard != 0 {
+        return Answer::Refused(Refusal::Waiting);
+    }
+    let all_written = is_subset(due[i], written[i]);
+    if !all_written {
+        return Answer::Refused(Refusal::Unwritten);
+    }
+    states[i] = DONE;
+    Answer::Ok
+}
