@@ -103,7 +103,7 @@ BEGIN {
 }
 
 END {
-    print "<svg xmlns=\"http://www.w3.org/2000/svg\" viewBox=\"0 0 1450 1500\" font-family=\"sans-serif\">"
+    print "<svg xmlns=\"http://www.w3.org/2000/svg\" viewBox=\"0 0 1450 1610\" font-family=\"sans-serif\">"
     print "<style>"
     print "text { text-anchor: middle; fill: #1c2733 } .name { font-size: 16px; font-weight: bold }"
     print ".about { font-size: 13px } .where { font-size: 13px; font-style: italic }"
@@ -113,7 +113,7 @@ END {
     print "</style>"
     print "<defs><marker id=\"tip\" markerWidth=\"8\" markerHeight=\"8\" refX=\"6\" refY=\"3\" orient=\"auto\">" \
         "<path d=\"M 0 0 L 7 3 L 0 6 z\" style=\"fill: #5b6f84; stroke: none; marker-end: none\"/></marker></defs>"
-    print "<rect width=\"1450\" height=\"1500\" fill=\"white\"/>"
+    print "<rect width=\"1450\" height=\"1610\" fill=\"white\"/>"
     for (b = 1; b <= bands; b++) {
         printf "<rect x=\"10\" y=\"%d\" width=\"1430\" height=\"108\" fill=\"%s\"/>\n", y(b - 1) - 2,
             b == 4 ? "#f7f0e2" : b % 2 ? "#eef2f7" : "#e2eaf3"
@@ -144,33 +144,35 @@ END {
 function proof() {
     text(22, 950, "note", "The proof of demand 3. An arrow leads from a fact to what it proves;" \
         " in italics its crate and file.")
-    fact("distance-is, next-nearer", 30, 970, 430, "A distance is the least sum over all walks./" \
-        "A next hop is nearer to the destination./topology: DistanceLaws, NextHopLaws")
-    fact("same-next, toward-root", 510, 970, 430, "A router with no shortest path through the root keeps/" \
+    fact("next-nearer", 990, 970, 430, "A next hop is nearer to the destination./topology: NextHopLaws")
+    fact("distance-walk, distance-le", 30, 1080, 430, "Some walk has the distance as its sum,/" \
+        "and no walk has a smaller one./topology: DistanceLaws")
+    fact("same-next, toward-root", 510, 1080, 430, "A router with no shortest path through the root keeps/" \
         "its next hops; a next hop with one leads to the root./convergence: ThroughRoot")
-    fact("separation", 990, 970, 430, "Pointers never lead from the smaller metrics alone/" \
+    fact("separation", 990, 1080, 430, "Pointers never lead from the smaller metrics alone/" \
         "to the larger ones alone./convergence: Separation")
-    fact("no-router-twice", 990, 1120, 430, "Round a loop the distance to the destination/" \
+    fact("no-router-twice", 990, 1230, 430, "Round a loop the distance to the destination/" \
         "would fall all the way./convergence: NoLoop")
-    fact("arrival", 510, 1120, 430, "A walk can go on to the destination,/" \
+    fact("arrival", 510, 1230, 430, "A walk can go on to the destination,/" \
         "with at most n − 1 links in all./convergence: Arrival")
-    fact("rise, fall", 30, 1120, 430, "Both hold while routers write in order/of waiting./convergence: Convergence")
-    fact("plan-elsewhere, waits-rise, waits-fall", 510, 1270, 430, "Metrics differ at links of the root only;/" \
+    fact("rise, fall", 30, 1230, 430, "Both hold while routers write in order/of waiting./convergence: Convergence")
+    fact("plan-elsewhere, waits-rise, waits-fall", 510, 1380, 430, "Metrics differ at links of the root only;/" \
         "waiting follows the next hops to it./plan: FreshLaws, WaitingLaws")
-    fact("run-kept", 990, 1270, 430, "Whom a router no longer waits for is done; who has written/" \
+    fact("run-kept", 990, 1380, 430, "Whom a router no longer waits for is done; who has written/" \
         "waits for none; who is done wrote all that is due./machine: MoveLaws, RunLaws")
-    fact("loop-free", 30, 1400, 910, "For every input that Plan accepts and every list of calls:" \
+    fact("loop-free", 30, 1510, 910, "For every input that Plan accepts and every list of calls:" \
         " no walk along the pointers meets a router twice,/and every walk from a router that reaches d" \
         " before and after the change can be prolonged to d./" \
         "loop_free: LoopFreeLaws")
-    line("M 460 1012 L 506 1012")
-    line("M 940 1012 L 986 1012")
-    line("M 1205 1055 L 1205 1116")
-    line("M 1050 1055 C 1050 1095 880 1080 880 1116")
-    line("M 990 1162 L 944 1162")
-    line("M 1205 1205 C 1205 1250 290 1225 290 1209")
-    line("M 510 1162 L 464 1162")
-    line("M 245 1205 L 245 1396")
-    line("M 725 1355 L 725 1396")
-    line("M 1205 1355 C 1205 1440 1000 1440 944 1440")
+    line("M 1205 1038 L 1205 1076")
+    line("M 460 1122 L 506 1122")
+    line("M 940 1122 L 986 1122")
+    line("M 1205 1165 L 1205 1226")
+    line("M 1050 1165 C 1050 1205 880 1190 880 1226")
+    line("M 990 1272 L 944 1272")
+    line("M 1205 1315 C 1205 1360 290 1335 290 1319")
+    line("M 510 1272 L 464 1272")
+    line("M 245 1315 L 245 1506")
+    line("M 725 1465 L 725 1506")
+    line("M 1205 1465 C 1205 1550 1000 1550 944 1550")
 }
