@@ -22,7 +22,7 @@ use Rattle.area.specs.Limits.{width, mostChanges, mostSteps}
 use Rattle.area.specs.Refusals.{incomplete, trailing, routerCount, tooMany}
 use Rattle.area.specs.TestLaws.{look, then-some, then-none, none-first}
 use Rattle.area.specs.Sizes.{isRouterCount}
-use Rattle.entries.specs.Entries.{entryCount, entryOf, from, to, isFree, listedRefusal}
+use Rattle.entries.specs.Entries.{entryCount, entryOf, isFirst, listedRefusal}
 use Rattle.entries.specs.EntryLaws.{Faultless, listed-sound}
 use Rattle.bench_file.specs.Sections.{two, routers, linkCount, links}
 use Rattle.bench_file.specs.Sections.{changeCount, changesAt, stepCount, stepsAt, end}
@@ -40,7 +40,7 @@ module _ (f : List ℕ) {k : ℕ} (is : k ≡ linkCount f) {x : ℕ} (told : x �
 pub record Link (n : ℕ) (l : List ℕ) (e : ℕ) : Type 0 where
   pub whole : e < entryCount l
   pub entry : Faultless n (entryOf l e)
-  pub new : isFree l e (from l e) (to l e) ≡ true
+  pub new : isFirst l e ≡ true
 
 module _ (n : ℕ) (l : List ℕ) (e : ℕ) where
   pub link-cut : entryCount l ≤ e → linkRefusal n l e ≡ incomplete

@@ -286,12 +286,16 @@ module _
             by-links (no e) =
                 file-link f (omega arith) b (omega arith) few-f e
                 ∙ same-first most
-                ∙ sym (file-link g (omega arith) (same-range ∙ b) (omega arith) few-g (λ z. e (same-first most ∙ z)))
+                ∙ sym
+                (file-link g (omega arith) (same-range ∙ b) (omega arith) few-g (λ z. e (same-first most ∙ z)))
 
     same-read : (t : List ℕ) → Alike f g t
     same-read t = by-size (ℕ-discrete (length t) (width * width))
       where
-        same-contents : readRefusal f t ≢ 0 → readRefusal f t ≡ readRefusal g t → contentsOf f t ≡ contentsOf g t
+        same-contents :
+            readRefusal f t ≢ 0
+            → readRefusal f t ≡ readRefusal g t
+            → contentsOf f t ≡ contentsOf g t
         same-contents bad r = contents-refused f t bad ∙ sym (contents-refused g t (λ z. bad (r ∙ z)))
 
         by-size : Dec (length t ≡ width * width) → Alike f g t

@@ -19,7 +19,7 @@ use borrow.Author.Tests.{ltb-true, lt-ltb, le-ltb, eq-eqb, ne-eqb}
 use Rattle.area.specs.Refusals.{sameMetric}
 use Rattle.area.specs.Tests.{pick, orThen, first}
 use Rattle.area.specs.TestLaws.{look, and-false, then-some, then-none, then-both, all-at, first-none, none-first}
-use Rattle.entries.specs.Entries.{entryCount, entryOf, from, to, metric, isFree, entryRefusal, listedRefusal}
+use Rattle.entries.specs.Entries.{entryCount, entryOf, from, to, metric, isFirst, entryRefusal, listedRefusal}
 use Rattle.entries.specs.EntryLaws.{faulty-from, faulty-to, faulty-self, faulty-metric, faultless}
 use Rattle.entries.specs.EntryLaws.{listed-faulty, listed-repeated, listed-passes, listed-sound}
 use Rattle.changes.specs.Changes.{oldMetric, changeRefusal, rises, falls, isRise, isFall}
@@ -40,7 +40,7 @@ module _ (n : ℕ) (m l : List ℕ) (e : ℕ) where
   unfolding changeRefusal
   change-listed =
       by-tests (decLt (from l e) n) (decLt (to l e) n) (ℕ-discrete (from l e) (to l e)) (ℕ-discrete (metric l e) 0)
-      (look (isFree l e (from l e) (to l e)))
+      (look (isFirst l e))
     where
       faulty : (k : ℕ) → changeRefusal n m l e ≡ suc k → entryRefusal n (entryOf l e) ≡ suc k → Agrees
       faulty k a b =
@@ -52,7 +52,7 @@ module _ (n : ℕ) (m l : List ℕ) (e : ℕ) where
           → Dec (to l e < n)
           → Dec (from l e ≡ to l e)
           → Dec (metric l e ≡ 0)
-          → (isFree l e (from l e) (to l e) ≡ true) ⊎ (isFree l e (from l e) (to l e) ≡ false)
+          → (isFirst l e ≡ true) ⊎ (isFirst l e ≡ false)
           → Agrees
       by-tests (no i) j a b f =
           let out : n ≤ from l e = omega arith in
@@ -94,7 +94,7 @@ pub record Change (n : ℕ) (m l : List ℕ) (e : ℕ) : Type 0 where
   pub to-in : to l e < n
   pub apart : from l e ≢ to l e
   pub some : metric l e ≢ 0
-  pub new : isFree l e (from l e) (to l e) ≡ true
+  pub new : isFirst l e ≡ true
   pub differs : metric l e ≢ oldMetric m l e
 
 -- no change of the list has a fault

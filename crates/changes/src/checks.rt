@@ -8,7 +8,7 @@ use entries::decode;
 ghost use mathlib.Core.Path.{_≡_};
 ghost use Rattle.area.specs.Refusals.{verdictNumber};
 ghost use Rattle.area.specs.Tests.{first};
-ghost use Rattle.entries.specs.Entries.{entryCount, from, to, isFree};
+ghost use Rattle.entries.specs.Entries.{entryCount, isFirst};
 ghost use Rattle.changes.specs.Changes.{changeRefusal};
 
 // The refusal of the first faulty change.
@@ -46,8 +46,7 @@ fn refusal(n: usize, old: &[u32], list: &[u8], e: usize) -> Verdict
 
 // Has no change before e the same pair?
 fn is_new(list: &[u8], e: usize) -> bool
-    ensures { λ r. ⌜
-        r ≡ isFree (now (list .entry)) e (from (now (list .entry)) e) (to (now (list .entry)) e) ⌝ }
+    ensures { λ r. ⌜ r ≡ isFirst (now (list .entry)) e ⌝ }
 {
     let change = decode(list, e);
     for d in 0..e {

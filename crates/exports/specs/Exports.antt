@@ -5,4 +5,6 @@ use Rattle.bench_file.specs.declared.Contents.{Contents}
 
 -- what a file says of itself: n, links, changes and where they begin, steps and where they begin
 abbrev pub numbers : Contents → List ℕ
-numbers c = (c .n) ∷ (c .links) ∷ (c .changes .count) ∷ (c .changes .at) ∷ (c .steps .count) ∷ (c .steps .at) ∷ []
+numbers c =
+    (c .n) ∷ (c .links) ∷
+    (c .changes .count) ∷ (c .changes .at) ∷ (c .steps .count) ∷ (c .steps .at) ∷ []

@@ -89,18 +89,21 @@ pub extern "C" fn ofib_plan(
 ) -> u8
     ensures answer { λ r.
         let lent = asTables (now (new .entry))
-        (now («old_dist» .entry)) (now («new_dist» .entry)) (now («old_hops» .entry)) (now («new_hops» .entry)) in
+        (now («old_dist» .entry)) (now («new_dist» .entry))
+        (now («old_hops» .entry)) (now («new_hops» .entry)) in
         ⌜ r ≡ planRefusal n (now (old .entry)) (now (list .entry)) (areTables (now (old .entry)) lent) ⌝ }
     ensures record { λ _.
         let lent = asTables (now (new .entry))
-        (now («old_dist» .entry)) (now («new_dist» .entry)) (now («old_hops» .entry)) (now («new_hops» .entry)) in
+        (now («old_dist» .entry)) (now («new_dist» .entry))
+        (now («old_hops» .entry)) (now («new_hops» .entry)) in
         ⌜ recordFrom (now (routers .exit)) (now (root .exit)) (now (direction .exit))
         (now (ranks .exit)) (now (waiting .exit)) (now (telling .exit)) (now (due .exit))
         (now (states .exit)) (now (written .exit))
         ≡ recordOf n (now (old .entry)) (now (list .entry)) lent ⌝ }
     ensures tables { λ _.
         let lent = asTables (now (new .entry))
-        (now («old_dist» .entry)) (now («new_dist» .entry)) (now («old_hops» .entry)) (now («new_hops» .entry)) in
+        (now («old_dist» .entry)) (now («new_dist» .entry))
+        (now («old_hops» .entry)) (now («new_hops» .entry)) in
         ⌜ asTables (now (new .exit)) (now («old_dist» .exit)) (now («new_dist» .exit))
         (now («old_hops» .exit)) (now («new_hops» .exit))
         ≡ tablesOf n (now (old .entry)) (now (list .entry)) lent ⌝ }
@@ -214,8 +217,10 @@ pub extern "C" fn ofib_rehearse(
 ) -> usize
     ensures text { λ r.
         let lent = asTables (now (new .entry))
-        (now («old_dist» .entry)) (now («new_dist» .entry)) (now («old_hops» .entry)) (now («new_hops» .entry)) in
-        ⌜ Appended (now (out .entry)) 0 (rehearsal (now (file .entry)) (now (old .entry)) lent) (now (out .exit)) r ⌝ }
+        (now («old_dist» .entry)) (now («new_dist» .entry))
+        (now («old_hops» .entry)) (now («new_hops» .entry)) in
+        ⌜ Appended (now (out .entry)) 0
+        (rehearsal (now (file .entry)) (now (old .entry)) lent) (now (out .exit)) r ⌝ }
 {
     report::rehearse(file, old, new, old_dist, new_dist, old_hops, new_hops, out)
 }
@@ -234,7 +239,8 @@ pub extern "C" fn ofib_routes(
 ) -> usize
     ensures text { λ r.
         let lent = asTables (now (new .entry))
-        (now («old_dist» .entry)) (now («new_dist» .entry)) (now («old_hops» .entry)) (now («new_hops» .entry)) in
+        (now («old_dist» .entry)) (now («new_dist» .entry))
+        (now («old_hops» .entry)) (now («new_hops» .entry)) in
         ⌜ Appended (now (out .entry)) 0 (routes (now (file .entry)) (now (old .entry)) lent) (now (out .exit)) r ⌝ }
 {
     report::routes(file, old, new, old_dist, new_dist, old_hops, new_hops, out)

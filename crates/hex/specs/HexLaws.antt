@@ -90,7 +90,10 @@ line-fits : (name : List ℕ) (at : ℕ) → length name ≡ 13 → length (line
 line-fits name at e = omega (arith, line-most name at)
 
 module _ (n : ℕ) (room : 24 ≤ n) where
-  unless-fits : (at : ℕ) (r : Reading) (rest : List ℕ) → length rest ≤ n → length (unlessFault at r rest) ≤ n
+  unless-fits :
+      (at : ℕ) (r : Reading) (rest : List ℕ)
+      → length rest ≤ n
+      → length (unlessFault at r rest) ≤ n
   unfolding unlessFault
   unless-fits at Between rest h = h
   unless-fits at Comment rest h = h
@@ -165,9 +168,14 @@ decode-hexed (x ∷ l) small done at s f =
     let high = first-glyph (x / 16) (omega arith) in
     let byte = second-glyph (x / 16) (x % 16) (omega arith) in
     rw (f (glyph (x / 16)), high, byte, whole, append-nil done)
-    (decode-hexed l (λ k. small (suc k)) (done ++ (x ∷ [])) (at + 1 + 1) (Byte x) (λ b. refl) ∙ append-snoc done x l)
+    (decode-hexed l (λ k. small (suc k)) (done ++ (x ∷ [])) (at + 1 + 1) (Byte x) (λ b. refl)
+    ∙ append-snoc done x l)
 
-pub unhexed-hexed : (l : List ℕ) → length l ≤ 65536 → ((k : ℕ) → getD l k 0 < 256) → unhexed (hexed l) ≡ l
+pub unhexed-hexed :
+    (l : List ℕ)
+    → length l ≤ 65536
+    → ((k : ℕ) → getD l k 0 < 256)
+    → unhexed (hexed l) ≡ l
 unfolding decoded next
 unhexed-hexed l h small =
     unhexed-decoded (hexed l) (omega (arith, length-hexed l))
@@ -175,7 +183,9 @@ unhexed-hexed l h small =
 
 -- ---- texts
 -- `0a fF#g` and a newline, `20`
-two-lines : unhexed (48 ∷ 97 ∷ 32 ∷ 102 ∷ 70 ∷ 35 ∷ 103 ∷ 10 ∷ 50 ∷ 48 ∷ []) ≡ 10 ∷ 255 ∷ 32 ∷ []
+two-lines :
+    unhexed (48 ∷ 97 ∷ 32 ∷ 102 ∷ 70 ∷ 35 ∷ 103 ∷ 10 ∷ 50 ∷ 48 ∷ [])
+    ≡ 10 ∷ 255 ∷ 32 ∷ []
 unfolding unhexed decoded decode unlessFault next first second digit isSpace byteOf
 two-lines = refl
 

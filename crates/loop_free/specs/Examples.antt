@@ -1,6 +1,6 @@
 -- Demand 3 on three routers: two changes that Plan accepts, calls in order, and the loops that the order rules out. All
--- of it is computed from the definitions. C1 is a rise, 1–2 goes down; C2 is a fall, 1–2 comes up at 1. Every link goes
--- both ways, and the root is 2 in both.
+-- of it is computed from the definitions. C1 is a rise, 1–2 goes down; C2 is a fall, 1–2 comes up at 1. Every link
+-- goes both ways, and the root is 2 in both.
 --
 --         0               0
 --      1 / \ 3         1 / \ 3
@@ -128,12 +128,16 @@ fallCalls =
 
 -- the answers to the calls, and that one of the routers 0 and 1 has written 2 and the other has not
 record RiseAnswers (r : Record) : Type 0 where
-  all-ten : replies r (riseCalls ++ riseRest) ≡ ok ∷ ok ∷ refused 24 ∷ ok ∷ ok ∷ ok ∷ ok ∷ ok ∷ ignored ∷ ok ∷ []
+  all-ten :
+      replies r (riseCalls ++ riseRest)
+      ≡ ok ∷ ok ∷ refused 24 ∷ ok ∷ ok ∷ ok ∷ ok ∷ ok ∷ ignored ∷ ok ∷ []
   has-written : hasWritten r riseCalls 0 2 ≡ true
   has-not : hasWritten r riseCalls 1 2 ≡ false
 
 record FallAnswers (r : Record) : Type 0 where
-  all-twelve : replies r fallCalls ≡ ok ∷ ok ∷ refused 24 ∷ ok ∷ ok ∷ ok ∷ ok ∷ ok ∷ ok ∷ ok ∷ ok ∷ ok ∷ []
+  all-twelve :
+      replies r fallCalls
+      ≡ ok ∷ ok ∷ refused 24 ∷ ok ∷ ok ∷ ok ∷ ok ∷ ok ∷ ok ∷ ok ∷ ok ∷ ok ∷ []
   has-written : hasWritten r fallCalls 1 2 ≡ true
   has-not : hasWritten r fallCalls 0 2 ≡ false
 

@@ -74,7 +74,11 @@ pub data Move (r : Record) (kind a b : ℕ) (o : Outcome) : Type 0 where
   -- refused or ignored
   stays : o .next ≡ r → isOk (o .reply) ≡ false → Move r kind a b o
   learned : kind ≡ learnKind → Router r a idle → o ≡ gives (withState r a holding) ok → Move r kind a b o
-  released : kind ≡ releaseKind → Router r a holding → o ≡ gives (withState r a ongoing) ok → Move r kind a b o
+  released :
+      kind ≡ releaseKind
+      → Router r a holding
+      → o ≡ gives (withState r a ongoing) ok
+      → Move r kind a b o
   wrote : kind ≡ writeKind → Router r a ongoing → MayWrite r a b
       → o ≡ gives (withWritten r a (added width (writtenOf r a) b)) ok → Move r kind a b o
   finished : kind ≡ finishKind → Router r a ongoing → MayFinish r a

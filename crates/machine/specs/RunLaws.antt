@@ -81,7 +81,9 @@ module _ {first r : Record} (kept : Kept first r) where
         (kept .waits x w h e);
     wrote-free = kept .wrote-free;
     done-free = λ x e.
-        ⊎-elim (λ p. ap (waitingOf r) (p .0) ∙ ends (sym (p .1) ∙ e) .free) (λ q. kept .done-free x (sym q ∙ e))
+        ⊎-elim
+        (λ p. ap (waitingOf r) (p .0) ∙ ends (sym (p .1) ∙ e) .free)
+        (λ q. kept .done-free x (sym q ∙ e))
         (entry (r .states) a s x);
     done-wrote = λ x d h e.
         ⊎-elim (λ p. whole x d h (p .0) (ends (sym (p .1) ∙ e))) (λ q. kept .done-wrote x d h (sym q ∙ e))
@@ -89,18 +91,31 @@ module _ {first r : Record} (kept : Kept first r) where
     below = kept .below;
   }
     where
-      whole : (x d : ℕ) → d < width → x ≡ a → MayFinish r a → bit (dueOf r x) d ≡ true → bit (writtenOf r x) d ≡ true
+      whole :
+          (x d : ℕ)
+          → d < width
+          → x ≡ a
+          → MayFinish r a
+          → bit (dueOf r x) d ≡ true
+          → bit (writtenOf r x) d ≡ true
       whole x d h e t = rw e (subset-at width (dueOf r a) (writtenOf r a) (t .whole) d h)
 
   -- the written set of a, which waits for none and is not done, becomes s
-  written-kept : (a s : ℕ) → waitingOf r a ≡ 0 → stateOf r a ≢ done → s < 2 ^ first .n → Kept first (withWritten r a s)
+  written-kept :
+      (a s : ℕ)
+      → waitingOf r a ≡ 0
+      → stateOf r a ≢ done
+      → s < 2 ^ first .n
+      → Kept first (withWritten r a s)
   written-kept a s z f l = record {
     count = kept .count;
     due = kept .due;
     written-size = length-set (r .written) a s ∙ kept .written-size;
     waits = kept .waits;
     wrote-free = λ x d e.
-        ⊎-elim (λ p. ap (waitingOf r) (p .0) ∙ z) (λ q. kept .wrote-free x d (ap (λ (t : ℕ). bit t d) (sym q) ∙ e))
+        ⊎-elim
+        (λ p. ap (waitingOf r) (p .0) ∙ z)
+        (λ q. kept .wrote-free x d (ap (λ (t : ℕ). bit t d) (sym q) ∙ e))
         (entry (r .written) a s x);
     done-free = kept .done-free;
     done-wrote = λ x d h e u.
@@ -108,7 +123,8 @@ module _ {first r : Record} (kept : Kept first r) where
         (λ p. absurd (f (ap (stateOf r) (sym (p .0)) ∙ e)))
         (λ q. ap (λ (t : ℕ). bit t d) q ∙ kept .done-wrote x d h e u)
         (entry (r .written) a s x);
-    below = λ x. ⊎-elim (λ p. omega (arith, p .1)) (λ q. omega (arith, q, kept .below x)) (entry (r .written) a s x);
+    below = λ x.
+        ⊎-elim (λ p. omega (arith, p .1)) (λ q. omega (arith, q, kept .below x)) (entry (r .written) a s x);
   }
 
   -- the waiting set of b, which has a member, becomes s, and those of its members that are not in s are done
@@ -128,7 +144,9 @@ module _ {first r : Record} (kept : Kept first r) where
   }
     where
       free : (x : ℕ) → waitingOf r x ≡ 0 → getD (set (r .waiting) b s) x 0 ≡ 0
-      free x z = ⊎-elim (λ p. absurd (f (ap (waitingOf r) (sym (p .0)) ∙ z))) (λ q. q ∙ z) (entry (r .waiting) b s x)
+      free x z =
+          ⊎-elim (λ p. absurd (f (ap (waitingOf r) (sym (p .0)) ∙ z))) (λ q. q ∙ z)
+          (entry (r .waiting) b s x)
 
       still : (x w : ℕ) → w < width → Entry (r .waiting) b s x → bit (waitingOf r x) w ≡ true
           → (bit (getD (set (r .waiting) b s) x 0) w ≡ true) ⊎ (stateOf r w ≡ done)
@@ -144,7 +162,11 @@ removed-cases w s a k h e = elim (ℕ-discrete k a) [
   | no f ↦ inl (bit-removed w s a k h ∙ rw (e, ne-eqb k a f))
 ]
 
-move-kept : {first r : Record} {kind a b : ℕ} {o : Outcome} → Kept first r → Move r kind a b o → Kept first (o .next)
+move-kept :
+    {first r : Record} {kind a b : ℕ} {o : Outcome}
+    → Kept first r
+    → Move r kind a b o
+    → Kept first (o .next)
 move-kept {first} kept (stays e f) = subst (Kept first) (sym e) kept
 move-kept {a} kept (learned k at e) =
     rw e (state-kept kept a holding (λ q. omega (arith, at .state)) (λ q. absurd (omega arith)))
@@ -176,31 +198,34 @@ eqb-swap x y =
     (λ e. eq-eqb y x (sym (eqb-true x y e)))
     (λ e. eq-eqb x y (sym (eqb-true y x e)))
 
-module _ {r : Record} {kind a b : ℕ} {o : Outcome} (size : length (r .written) ≡ width) (x d : ℕ) (h : d < width) where
-  -- such a write adds d to the written set of x, and no other call does
-  move-written : Move r kind a b o
-      → bit (writtenOf (o .next) x) d ≡ (bit (writtenOf r x) d || isWrite (call kind a b) o x d)
-  move-written (stays e f) =
-      rw (e, f, and-false (eqb kind writeKind && (eqb a x && eqb b d)) false refl)
-      (sym (or-none (bit (writtenOf r x) d)))
-  move-written (learned k at e) = rw (k, e) (sym (or-none (bit (writtenOf r x) d)))
-  move-written (released k at e) = rw (k, e) (sym (or-none (bit (writtenOf r x) d)))
-  move-written (wrote k at t e) = rw (k, e) (by-writer (ℕ-discrete x a))
-    where
-      by-writer : Dec (x ≡ a)
-          → bit (getD (set (r .written) a (added width (writtenOf r a) b)) x 0) d
-          ≡ (bit (writtenOf r x) d || ((eqb a x && eqb b d) && true))
-      by-writer (yes q) =
-          let new = added width (writtenOf r a) b in
-          let inside : a < length (r .written) = omega (arith, at .most, at .inside) in
-          rw q
-          (ap (λ (s : ℕ). bit s d) (getD-set-same (r .written) a new 0 inside)
-          ∙ bit-added width (writtenOf r a) b d h ∙ rw (eq-eqb a a refl, eqb-swap d b, and-one))
-      by-writer (no f) =
-          ap (λ (s : ℕ). bit s d) (getD-set-other (r .written) a x (added width (writtenOf r a) b) 0 f)
-          ∙ rw (ne-eqb a x (λ q. f (sym q))) (sym (or-none (bit (writtenOf r x) d)))
-  move-written (finished k at t e) = rw (k, e) (sym (or-none (bit (writtenOf r x) d)))
-  move-written (delivered k at t e) = rw (k, e) (sym (or-none (bit (writtenOf r x) d)))
+module _
+    {r : Record} {kind a b : ℕ} {o : Outcome}
+    (size : length (r .written) ≡ width) (x d : ℕ) (h : d < width)
+  where
+    -- such a write adds d to the written set of x, and no other call does
+    move-written : Move r kind a b o
+        → bit (writtenOf (o .next) x) d ≡ (bit (writtenOf r x) d || isWrite (call kind a b) o x d)
+    move-written (stays e f) =
+        rw (e, f, and-false (eqb kind writeKind && (eqb a x && eqb b d)) false refl)
+        (sym (or-none (bit (writtenOf r x) d)))
+    move-written (learned k at e) = rw (k, e) (sym (or-none (bit (writtenOf r x) d)))
+    move-written (released k at e) = rw (k, e) (sym (or-none (bit (writtenOf r x) d)))
+    move-written (wrote k at t e) = rw (k, e) (by-writer (ℕ-discrete x a))
+      where
+        by-writer : Dec (x ≡ a)
+            → bit (getD (set (r .written) a (added width (writtenOf r a) b)) x 0) d
+            ≡ (bit (writtenOf r x) d || ((eqb a x && eqb b d) && true))
+        by-writer (yes q) =
+            let new = added width (writtenOf r a) b in
+            let inside : a < length (r .written) = omega (arith, at .most, at .inside) in
+            rw q
+            (ap (λ (s : ℕ). bit s d) (getD-set-same (r .written) a new 0 inside)
+            ∙ bit-added width (writtenOf r a) b d h ∙ rw (eq-eqb a a refl, eqb-swap d b, and-one))
+        by-writer (no f) =
+            ap (λ (s : ℕ). bit s d) (getD-set-other (r .written) a x (added width (writtenOf r a) b) 0 f)
+            ∙ rw (ne-eqb a x (λ q. f (sym q))) (sym (or-none (bit (writtenOf r x) d)))
+    move-written (finished k at t e) = rw (k, e) (sym (or-none (bit (writtenOf r x) d)))
+    move-written (delivered k at t e) = rw (k, e) (sym (or-none (bit (writtenOf r x) d)))
 
 module _ {first : Record} (size : length (first .written) ≡ width) (x d : ℕ) (h : d < width) where
   calls-written : {r : Record} (calls : List Call)
@@ -211,7 +236,8 @@ module _ {first : Record} (size : length (first .written) ≡ width) (x d : ℕ)
   calls-written {r} (c ∷ cs) kept =
       let m = moves r (c .kind) (c .a) (c .b) in
       calls-written cs (move-kept kept m)
-      ∙ ap (λ (t : Bool). t || hasWritten (step r c .next) cs x d) (move-written (kept .written-size ∙ size) x d h m)
+      ∙ ap (λ (t : Bool). t || hasWritten (step r c .next) cs x d)
+      (move-written (kept .written-size ∙ size) x d h m)
       ∙ or-assoc (bit (writtenOf r x) d) (isWrite c (step r c) x d) (hasWritten (step r c .next) cs x d)
 
 module _ (first : Record) (calls : List Call) (s : Start first) where

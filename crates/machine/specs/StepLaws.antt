@@ -81,7 +81,11 @@ pub sound-high : (n : ℕ) (s : List ℕ) → width < n → isSound n s ≡ fals
 unfolding isSound
 sound-high n s h = rw (router-count-high n h) refl
 
-pub sound-states : (n : ℕ) (s : List ℕ) → n ≢ 0 → n ≤ width → isSound n s ≡ all width (λ i. leb (getD s i 0) done)
+pub sound-states :
+    (n : ℕ) (s : List ℕ)
+    → n ≢ 0
+    → n ≤ width
+    → isSound n s ≡ all width (λ i. leb (getD s i 0) done)
 unfolding isSound
 sound-states n s p h = rw (router-count-true n (omega arith) h) refl
 
@@ -192,7 +196,9 @@ module _ (r : Record) (a : ℕ) where
     finish-waiting f = rw (eq-eqb (stateOf r a) ongoing e, ne-eqb (waitingOf r a) 0 f) refl
 
     module _ (w : waitingOf r a ≡ 0) where
-      pub finish-unwritten : subset width (dueOf r a) (writtenOf r a) ≡ false → finish r a ≡ gives r (refused unwritten)
+      pub finish-unwritten :
+          subset width (dueOf r a) (writtenOf r a) ≡ false
+          → finish r a ≡ gives r (refused unwritten)
       unfolding finish ready
       finish-unwritten f = rw (eq-eqb (stateOf r a) ongoing e, eq-eqb (waitingOf r a) 0 w, f) refl
 

@@ -12,7 +12,8 @@ ghost use Rattle.order.specs.Order.{dueBy};
 // The destinations that are due at each router.
 pub(crate) fn due(n: usize, old: &[u32], new: &[u32]) -> [u32; WIDTH]
     requires { ⌜ (n ≤ width) × (length (now old) ≡ width * width) × (length (now new) ≡ width * width) ⌝ }
-    ensures { λ t. ⌜ t ≡ perRouter width n (dueBy n (cell width (now (old .entry))) (cell width (now (new .entry)))) ⌝ }
+    ensures { λ t. ⌜
+        t ≡ perRouter width n (dueBy n (cell width (now (old .entry))) (cell width (now (new .entry)))) ⌝ }
 {
     let mut out = [0u32; WIDTH];
     for r in 0..n {

@@ -214,7 +214,11 @@ module _ (n : ℕ) (m d h : List ℕ) where
       let size = both-true (isTable m) (isTable d && isTable h) (t .1) .0 in
       area-ready n m (area-metrics n m (t .0) size ∙ t .2)
 
-  pub ready-accepted : Ready n m → length d ≡ width * width → length h ≡ width * width → pathsRefusal n m d h ≡ 0
+  pub ready-accepted :
+      Ready n m
+      → length d ≡ width * width
+      → length h ≡ width * width
+      → pathsRefusal n m d h ≡ 0
   ready-accepted r a b =
       accepted (router-count-true n (r .some) (r .most)) (tables-true m d h (r .size) a b) (r .metrics)
 

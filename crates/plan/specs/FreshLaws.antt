@@ -60,7 +60,11 @@ module _ (n : ℕ) (m l : List ℕ) (p : Plan n m l) where
     plan-smaller r = differs-fall n m l (p .ready .most) (plan-fall r) i j a b f d
 
   -- ---- the topologies
-  pub plan-elsewhere : (i j : ℕ) → i ≢ root l → j ≢ root l → topology n (newMetrics n m l) i j ≡ topology n m i j
+  pub plan-elsewhere :
+      (i j : ℕ)
+      → i ≢ root l
+      → j ≢ root l
+      → topology n (newMetrics n m l) i j ≡ topology n m i j
   plan-elsewhere = topology-elsewhere n m l (p .ready .most) (root l) (p .common)
 
   pub plan-rises : isRise m l ≡ true → (i j : ℕ) → topology n m i j ≤ topology n (newMetrics n m l) i j

@@ -34,7 +34,11 @@ use Rattle.plan.specs.NewMetrics.{newCell, newMetrics}
 
 -- ---- the cells of the new table
 module _ (n : ℕ) (m l : List ℕ) (i j : ℕ) where
-  pub cell-pair : i < n → j < n → i ≢ j → newCell n m l i j ≡ listedMetric l (entryCount l) i j (cell width m i j)
+  pub cell-pair :
+      i < n
+      → j < n
+      → i ≢ j
+      → newCell n m l i j ≡ listedMetric l (entryCount l) i j (cell width m i j)
   unfolding newCell
   cell-pair a b f = rw (lt-ltb i n a, lt-ltb j n b, ne-eqb i j f) refl
 
@@ -128,7 +132,8 @@ module _ (n : ℕ) (m l : List ℕ) (most : n ≤ width) where
         → (i ≡ c) ⊎ (j ≡ c)
     differs-common i j a b f d =
         ⊎-elim
-        (λ h. ⊎-elim (λ e. inl (sym (h .2) ∙ e)) (λ e. inr (sym (h .3) ∙ e)) (common-at l c common (h .0) (h .1)))
+        (λ h.
+        ⊎-elim (λ e. inl (sym (h .2) ∙ e)) (λ e. inr (sym (h .3) ∙ e)) (common-at l c common (h .0) (h .1)))
         (λ e. absurd (d e))
         (pair-cases n m l most a b f)
 

@@ -7,7 +7,8 @@ use mathlib.Core.List.{List}
 use lib.Dec.{ltb, eqb}
 use lib.ListN.{length, replicate}
 use Rattle.area.specs.Limits.{width, mostChanges}
-use Rattle.area.specs.Refusals.{routerCount, tableSize, badMetric, incomplete, tooMany, noChange, mixed, noCommonRouter}
+use Rattle.area.specs.Refusals.{routerCount, tableSize, badMetric, incomplete, tooMany}
+use Rattle.area.specs.Refusals.{noChange, mixed, noCommonRouter}
 use Rattle.area.specs.Tests.{pick, orThen, first}
 use Rattle.area.specs.Tables.{tabulate, perRouter}
 use Rattle.area.specs.Sizes.{isRouterCount, isTable}

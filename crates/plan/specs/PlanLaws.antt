@@ -17,7 +17,8 @@ use native.Mathlib.Omega.{arith}
 use lib.ListN.{length}
 use borrow.Author.Tests.{eqb-true, lt-ltb, le-ltb, eq-eqb, ne-eqb}
 use Rattle.area.specs.Limits.{width, mostChanges}
-use Rattle.area.specs.Refusals.{routerCount, tableSize, badMetric, incomplete, tooMany, noChange, mixed, noCommonRouter}
+use Rattle.area.specs.Refusals.{routerCount, tableSize, badMetric, incomplete, tooMany}
+use Rattle.area.specs.Refusals.{noChange, mixed, noCommonRouter}
 use Rattle.area.specs.Tests.{pick, orThen, first}
 use Rattle.area.specs.TableLaws.{length-tabulate}
 use Rattle.area.specs.TestLaws.{look, both-true, or-cases, or-left, or-right, then-some, then-none}
@@ -170,7 +171,11 @@ module _ (n : ℕ) (m l : List ℕ) where
       never : {A : Type 0} (k : ℕ) → planRefusal n m l true ≡ suc k → A
       never k q = absurd (let x : ⊥ = omega arith in x)
 
-      by-tests : Dec (length l % 5 ≡ 0) → Dec (mostChanges < entryCount l) → Dec (entryCount l ≡ 0) → Listed n m l
+      by-tests :
+          Dec (length l % 5 ≡ 0)
+          → Dec (mostChanges < entryCount l)
+          → Dec (entryCount l ≡ 0)
+          → Listed n m l
       by-tests (no a) b c = never 0 (plan-cut n m l ready a)
       by-tests (yes a) (yes b) c = never 8 (plan-many n m l ready a b)
       by-tests (yes a) (no b) (yes c) = never 9 (plan-none n m l ready a (omega arith) c)

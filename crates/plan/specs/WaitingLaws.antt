@@ -35,7 +35,10 @@ use Rattle.plan.specs.NewMetrics.{newMetrics}
 use Rattle.plan.specs.Waiting.{oldHops, newHops, waiting, telling, due}
 
 -- the members of a set, where the test holds of none beyond its width
-set-is : (w : ℕ) (p : ℕ → Bool) (k : ℕ) → (p k ≡ true → k < w) → (bit (setOf w p) k ≡ true) ↔ (p k ≡ true)
+set-is :
+    (w : ℕ) (p : ℕ → Bool) (k : ℕ)
+    → (p k ≡ true → k < w)
+    → (bit (setOf w p) k ≡ true) ↔ (p k ≡ true)
 set-is w p k inside = (
   (λ e. sym (bit-setOf w p k (bit-lt w (setOf w p) k (setOf-lt w p) e)) ∙ e),
   (λ e. bit-setOf w p k (inside e) ∙ e),
@@ -117,7 +120,10 @@ module _ (n : ℕ) (m l : List ℕ) (most : n ≤ width) where
   pub waiting-rank : (r : ℕ) → IsRank (waiting n m l) r (rank n (waiting n m l) r)
   waiting-rank = rank-is n (waiting n m l) waits-inside measure waits-down
 
-  pub waiting-less : (r s : ℕ) → bit (waiting n m l r) s ≡ true → rank n (waiting n m l) s < rank n (waiting n m l) r
+  pub waiting-less :
+      (r s : ℕ)
+      → bit (waiting n m l r) s ≡ true
+      → rank n (waiting n m l) s < rank n (waiting n m l) r
   waiting-less = rank-less n (waiting n m l) waits-inside measure waits-down
 
   -- ---- what is due, destination by destination

@@ -71,7 +71,9 @@ module _ (f m : List ℕ) where
   module _ (t : Tables) where
     -- ---- where nothing is refused
     module _ (z : refusal f m t ≡ 0) where
-      both : (readRefusal f m ≡ 0) × (planRefusal (routers f) (metrics f) (changes f) (areTables (metrics f) t) ≡ 0)
+      both :
+          (readRefusal f m ≡ 0)
+          × (planRefusal (routers f) (metrics f) (changes f) (areTables (metrics f) t) ≡ 0)
       unfolding refusal
       both = then-both (readRefusal f m) _ z
 
@@ -110,7 +112,9 @@ module _ (f m : List ℕ) where
     abbrev then : ℕ
     then = planRefusal n (metricsOf f m) list (areTables (metricsOf f m) t)
 
-    then-is : readRefusal f m ≡ 0 → then ≡ planRefusal (routers f) (metrics f) (changes f) (areTables (metrics f) t)
+    then-is :
+        readRefusal f m ≡ 0
+        → then ≡ planRefusal (routers f) (metrics f) (changes f) (areTables (metrics f) t)
     then-is z = rw (n-is z, old-is z, list-is z) refl
 
     then-refused : readRefusal f m ≢ 0 → then ≢ 0

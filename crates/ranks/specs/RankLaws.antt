@@ -32,7 +32,8 @@ use Rattle.area.specs.Tables.{perRouter}
 use Rattle.sets.specs.Sets.{bit}
 use Rattle.area.specs.Lists.{_∈_, Distinct, Below}
 use Rattle.area.specs.PigeonholeLaws.{pigeonhole}
-use Rattle.ranks.specs.Rank.{Chain, alone, waits, links, routers, greatest, above, longest, rank, IsRank, ranksOf}
+use Rattle.ranks.specs.Rank.{Chain, alone, waits, links, routers, IsRank}
+use Rattle.ranks.specs.Rank.{greatest, above, longest, rank, ranksOf}
 
 -- ---- the greatest of f 0 .. f (n - 1)
 pub greatest-le : (n : ℕ) (f : ℕ → ℕ) (k : ℕ) → k < n → f k ≤ greatest n f
@@ -41,22 +42,32 @@ greatest-le zero f k h = absurd (not-suc-le-zero h)
 greatest-le (suc n) f k h =
     ⊎-elim (λ e. rw e (omega arith)) (λ l. omega (arith, greatest-le n f k l)) (eq-or-lt-of-le (le-of-suc-le-suc h))
 
-pub greatest-least : (n : ℕ) (f : ℕ → ℕ) (b : ℕ) → ((k : ℕ) → k < n → f k ≤ b) → greatest n f ≤ b
+pub greatest-least :
+    (n : ℕ) (f : ℕ → ℕ) (b : ℕ)
+    → ((k : ℕ) → k < n → f k ≤ b)
+    → greatest n f ≤ b
 unfolding greatest
 greatest-least zero f b l = omega arith
 greatest-least (suc n) f b l = omega (arith, l n (omega arith), greatest-least n f b (λ k h. l k (omega arith)))
 
 -- it is 0, or one of them
-pub greatest-at : (n : ℕ) (f : ℕ → ℕ) → (greatest n f ≡ 0) ⊎ ((k : ℕ) × (k < n) × (greatest n f ≡ f k))
+pub greatest-at :
+    (n : ℕ) (f : ℕ → ℕ)
+    → (greatest n f ≡ 0) ⊎ ((k : ℕ) × (k < n) × (greatest n f ≡ f k))
 unfolding greatest
 greatest-at zero f = inl refl
 greatest-at (suc n) f = elim (decLe (greatest n f) (f n)) [
   | yes p ↦ inr (n, omega arith, omega arith)
-  | no q ↦ ⊎-elim (λ e. inl (omega arith)) (λ t. inr (t .0, omega (arith, t .1), omega (arith, t .2))) (greatest-at n f)
+  | no q ↦
+      ⊎-elim (λ e. inl (omega arith)) (λ t. inr (t .0, omega (arith, t .1), omega (arith, t .2)))
+      (greatest-at n f)
 ]
 
 -- they decide it
-pub greatest-same : (n : ℕ) (f g : ℕ → ℕ) → ((k : ℕ) → k < n → f k ≡ g k) → greatest n f ≡ greatest n g
+pub greatest-same :
+    (n : ℕ) (f g : ℕ → ℕ)
+    → ((k : ℕ) → k < n → f k ≡ g k)
+    → greatest n f ≡ greatest n g
 unfolding greatest
 greatest-same zero f g e = refl
 greatest-same (suc n) f g e = ap₂ max (greatest-same n f g (λ k h. e k (omega arith))) (e n (omega arith))
@@ -66,7 +77,10 @@ pub above-le : (n s : ℕ) (f : ℕ → ℕ) (k : ℕ) → k < n → bit s k ≡
 unfolding above
 above-le n s f k h e = rw e at (greatest-le n (λ i. pick (bit s i) (suc (f i)) 0) k h)
 
-pub above-least : (n s : ℕ) (f : ℕ → ℕ) (b : ℕ) → ((k : ℕ) → k < n → bit s k ≡ true → f k < b) → above n s f ≤ b
+pub above-least :
+    (n s : ℕ) (f : ℕ → ℕ) (b : ℕ)
+    → ((k : ℕ) → k < n → bit s k ≡ true → f k < b)
+    → above n s f ≤ b
 unfolding above
 above-least n s f b l = greatest-least n (λ i. pick (bit s i) (suc (f i)) 0) b (λ k h. least (bit s k) (f k) (l k h))
   where
@@ -75,14 +89,19 @@ above-least n s f b l = greatest-least n (λ i. pick (bit s i) (suc (f i)) 0) b 
     least false x h = omega arith
 
 -- it is 0, or one more than the f of a member
-pub above-at : (n s : ℕ) (f : ℕ → ℕ) → (above n s f ≡ 0) ⊎ ((k : ℕ) × (bit s k ≡ true) × (above n s f ≡ suc (f k)))
+pub above-at :
+    (n s : ℕ) (f : ℕ → ℕ)
+    → (above n s f ≡ 0) ⊎ ((k : ℕ) × (bit s k ≡ true) × (above n s f ≡ suc (f k)))
 unfolding above
 above-at n s f =
     ⊎-elim inl
     (λ t. ⊎-elim (λ e. inr (t .0, e, rw e at (t .2))) (λ e. inl (rw e at (t .2))) (look (bit s (t .0))))
     (greatest-at n (λ i. pick (bit s i) (suc (f i)) 0))
 
-pub above-same : (n s : ℕ) (f g : ℕ → ℕ) → ((k : ℕ) → k < n → f k ≡ g k) → above n s f ≡ above n s g
+pub above-same :
+    (n s : ℕ) (f g : ℕ → ℕ)
+    → ((k : ℕ) → k < n → f k ≡ g k)
+    → above n s f ≡ above n s g
 unfolding above
 above-same n s f g e =
     greatest-same n (λ i. pick (bit s i) (suc (f i)) 0) (λ i. pick (bit s i) (suc (g i)) 0)

@@ -206,7 +206,8 @@ module _ (d h e g : List ℕ) where
 -- ---- the steps
 -- Between two steps: `printed` was appended, and with the lines of the calls that are left, numbered from k + 1 on, it
 -- makes all lines. r is the record, and the calls that are left begin at `place`; the text ends at b in p.
-pub record Left (o : List ℕ) (a : ℕ) (all : List ℕ) (r : Record) (bytes : List ℕ) (place k : ℕ) (p : List ℕ) (b : ℕ)
+pub record Left
+    (o : List ℕ) (a : ℕ) (all : List ℕ) (r : Record) (bytes : List ℕ) (place k : ℕ) (p : List ℕ) (b : ℕ)
     : Type 0 where
   pub printed : List ℕ
   pub appended : Appended o a printed p b
@@ -241,5 +242,6 @@ module _ (o : List ℕ) (a : ℕ) (first : Record) (bytes : List ℕ) where
     pub left-all : length bytes ≤ place + 2 → Appended o a AllSteps p b
     unfolding stepLines
     left-all h =
-        let is-all = sym (append-nil (left .printed)) ∙ ap With (sym (replies-none bytes place r h)) ∙ left .whole in
+        let none = replies-none bytes place r h in
+        let is-all = sym (append-nil (left .printed)) ∙ ap With (sym none) ∙ left .whole in
         subst (λ (l : List ℕ). Appended o a l p b) is-all (left .appended)

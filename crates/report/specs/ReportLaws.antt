@@ -91,7 +91,8 @@ module _ (f m : List ℕ) (t : Tables) where
   module _ (z : refusal f m t ≡ 0) where
     pub rehearsal-whole :
         rehearsal f m t
-        ≡ routerLines (planned f) (routers f) ++ (stepLines 1 (replies (planned f) (callsOf (steps f))) ++ word "end\n")
+        ≡ routerLines (planned f) (routers f)
+        ++ (stepLines 1 (replies (planned f) (callsOf (steps f))) ++ word "end\n")
     unfolding rehearsal
     rehearsal-whole = rw (eq-eqb (refusal f m t) 0 z) refl
 

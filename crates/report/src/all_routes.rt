@@ -29,7 +29,8 @@ pub fn routes(
 ) -> usize
     ensures text { λ r.
         let lent = asTables (now (new .entry))
-        (now («old_dist» .entry)) (now («new_dist» .entry)) (now («old_hops» .entry)) (now («new_hops» .entry)) in
+        (now («old_dist» .entry)) (now («new_dist» .entry))
+        (now («old_hops» .entry)) (now («new_hops» .entry)) in
         ⌜ Appended (now (out .entry)) 0 (routes (now (file .entry)) (now (old .entry)) lent) (now (out .exit)) r ⌝ }
 {
     let start = prepare(file, old, new, old_dist, new_dist, old_hops, new_hops);
@@ -55,10 +56,12 @@ fn printed(
     out: &mut [u8],
 ) -> usize
     requires { ⌜
-        (number ≡ 0 → (n ≤ width) × Full (now «old_dist») (now «old_hops») (now «new_dist») (now «new_hops»)) ⌝ }
+        (number ≡ 0
+        → (n ≤ width) × Full (now «old_dist») (now «old_hops») (now «new_dist») (now «new_hops»)) ⌝ }
     ensures text { λ r.
         let lines = routeLines
-        (now («old_dist» .entry)) (now («old_hops» .entry)) (now («new_dist» .entry)) (now («new_hops» .entry)) n n in
+        (now («old_dist» .entry)) (now («old_hops» .entry))
+        (now («new_dist» .entry)) (now («new_hops» .entry)) n n in
         ⌜ Appended (now (out .entry)) 0 (unlessRefused number lines) (now (out .exit)) r ⌝ }
 {
     if number != 0 {
@@ -80,7 +83,8 @@ fn route_lines(
     requires { ⌜ Full (now «old_dist») (now «old_hops») (now «new_dist») (now «new_hops») ⌝ }
     ensures lines { λ r.
         let lines = routeLines
-        (now («old_dist» .entry)) (now («old_hops» .entry)) (now («new_dist» .entry)) (now («new_hops» .entry)) n n in
+        (now («old_dist» .entry)) (now («old_hops» .entry))
+        (now («new_dist» .entry)) (now («new_hops» .entry)) n n in
         ⌜ Appended (now (out .entry)) 0 lines (now (out .exit)) r ⌝ }
 {
     let mut at = 0;
@@ -105,7 +109,8 @@ fn row_lines(
     requires { ⌜ Full (now «old_dist») (now «old_hops») (now «new_dist») (now «new_hops») ⌝ }
     ensures lines { λ r.
         let lines = rowLines
-        (now («old_dist» .entry)) (now («old_hops» .entry)) (now («new_dist» .entry)) (now («new_hops» .entry)) i n in
+        (now («old_dist» .entry)) (now («old_hops» .entry))
+        (now («new_dist» .entry)) (now («new_hops» .entry)) i n in
         ⌜ Appended (now (out .entry)) start lines (now (out .exit)) r ⌝ }
 {
     let mut at = start;

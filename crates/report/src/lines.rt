@@ -33,7 +33,8 @@ pub(crate) fn router_line(
     out: &mut [u8],
     at: usize,
 ) -> usize
-    ensures line { λ r. ⌜ Appended (now (out .entry)) at (routerLine i rank waits tells due) (now (out .exit)) r ⌝ }
+    ensures line { λ r. ⌜
+        Appended (now (out .entry)) at (routerLine i rank waits tells due) (now (out .exit)) r ⌝ }
 {
     let at = field(out, at, b"router ", i);
     let at = field(out, at, b" rank ", rank as u32);

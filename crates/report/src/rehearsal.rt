@@ -34,8 +34,10 @@ pub fn rehearse(
 ) -> usize
     ensures text { λ r.
         let lent = asTables (now (new .entry))
-        (now («old_dist» .entry)) (now («new_dist» .entry)) (now («old_hops» .entry)) (now («new_hops» .entry)) in
-        ⌜ Appended (now (out .entry)) 0 (rehearsal (now (file .entry)) (now (old .entry)) lent) (now (out .exit)) r ⌝ }
+        (now («old_dist» .entry)) (now («new_dist» .entry))
+        (now («old_hops» .entry)) (now («new_hops» .entry)) in
+        ⌜ Appended (now (out .entry)) 0
+        (rehearsal (now (file .entry)) (now (old .entry)) lent) (now (out .exit)) r ⌝ }
 {
     let start = prepare(file, old, new, old_dist, new_dist, old_hops, new_hops);
     printed(file, start, out)

@@ -12,4 +12,9 @@ use Rattle.sets.specs.Sets.{bit}
 pub record Nearest (n : ℕ) (d : List ℕ) (σ r : ℕ) : Type 0 where
   pub within : r ≤ n
   pub found : r < n → (bit σ r ≡ false) × (getD d r 0 < unreached)
-  pub first : (j : ℕ) → j < n → bit σ j ≡ false → getD d j 0 < unreached → (r < n) × (getD d r 0 ≤ getD d j 0)
+  pub first :
+      (j : ℕ)
+      → j < n
+      → bit σ j ≡ false
+      → getD d j 0 < unreached
+      → (r < n) × (getD d r 0 ≤ getD d j 0)

@@ -38,7 +38,12 @@ module _ (n cells d h : ℕ) where
         row-h = eqb-true h width (c .1);
       }
 
-  pub sizes-true : n ≤ width → cells ≡ width * width → d ≡ width → h ≡ width → areSizes n cells d h ≡ true
+  pub sizes-true :
+      n ≤ width
+      → cells ≡ width * width
+      → d ≡ width
+      → h ≡ width
+      → areSizes n cells d h ≡ true
   unfolding areSizes
   sizes-true a b c e = rw (le-leb n width a, eq-eqb cells (width * width) b, eq-eqb d width c, eq-eqb h width e) refl
 

@@ -226,7 +226,8 @@ stepLines =
 
 -- all ten replies, and all that is printed
 abbrev replied : Case
-replied = case rehearsal (allSteps is (ok ∷ ok ∷ refused 24 ∷ ok ∷ ok ∷ ok ∷ ok ∷ ok ∷ ignored ∷ ok ∷ []) ∷ [])
+replied =
+    case rehearsal (allSteps is (ok ∷ ok ∷ refused 24 ∷ ok ∷ ok ∷ ok ∷ ok ∷ ok ∷ ignored ∷ ok ∷ []) ∷ [])
 
 abbrev wholeText : Case
 wholeText = case rehearsal (printed is (routerLines ++ stepLines) ∷ [])

@@ -62,7 +62,8 @@ CallsTwo telling due states waiting written waiting′ written′ kind i j reply
 
 -- ---- Step over n and the five tables, of which it changes three
 abbrev pub Steps :
-    (n : ℕ) (telling due waiting states written waiting′ states′ written′ : List ℕ) (kind a b : ℕ) (reply : Reply)
+    (n : ℕ) (telling due waiting states written waiting′ states′ written′ : List ℕ)
+    (kind a b : ℕ) (reply : Reply)
     → Type 0
 Steps n telling due waiting states written waiting′ states′ written′ kind a b reply =
     (x : Record)

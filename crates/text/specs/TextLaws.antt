@@ -76,7 +76,11 @@ unfolding line field
 line-after v w x = simp append-assoc
 
 -- a buffer of the same length has the same room for a text that starts anew
-pub appended-anew : {o p w q : List ℕ} {r : ℕ} → length p ≡ length o → Appended p 0 w q r → Appended o 0 w q r
+pub appended-anew :
+    {o p w q : List ℕ} {r : ℕ}
+    → length p ≡ length o
+    → Appended p 0 w q r
+    → Appended o 0 w q r
 appended-anew {o} {p} {w} e x = record {
   size = x .size ∙ e;
   within = x .within;
@@ -165,7 +169,8 @@ digits-ascii (suc k) x i h = elim (decLt x 10) [
       let e : i ≡ 0 = omega (arith, ap length one) in
       rw (lt-ltb x 10 s, e) (omega arith, omega arith)
   | no f ↦
-      let more : digits (suc k) x ≡ digits k (x / 10) ++ ((48 + x % 10) ∷ []) = rw (le-ltb x 10 (omega arith)) refl in
+      let more : digits (suc k) x ≡ digits k (x / 10) ++ ((48 + x % 10) ∷ []) =
+      rw (le-ltb x 10 (omega arith)) refl in
       let size = length-append (digits k (x / 10)) ((48 + x % 10) ∷ []) in
       rw (le-ltb x 10 (omega arith))
       (all-more (digits k (x / 10)) (48 + x % 10) i (λ j l. digits-ascii k (x / 10) j l) (omega arith, omega arith)
@@ -209,7 +214,10 @@ pub decimal-value : (x : ℕ) → x < 10 ^ 10 → value (decimal x) ≡ x
 unfolding decimal value
 decimal-value x h = digits-value 10 x h
 
-pub decimal-ascii : (x i : ℕ) → i < length (decimal x) → (48 ≤ getD (decimal x) i 0) × (getD (decimal x) i 0 ≤ 57)
+pub decimal-ascii :
+    (x i : ℕ)
+    → i < length (decimal x)
+    → (48 ≤ getD (decimal x) i 0) × (getD (decimal x) i 0 ≤ 57)
 unfolding decimal
 decimal-ascii x i h = digits-ascii 10 x i h
 

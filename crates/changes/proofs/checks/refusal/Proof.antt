@@ -14,7 +14,7 @@ use Rattle.area.specs.Limits.{width}
 use Rattle.area.specs.Refusals.{verdictNumber, repeated, sameMetric}
 use Rattle.area.specs.Tables.{cell}
 use Rattle.entries.specs.declared.Entry.{Entry}
-use Rattle.entries.specs.Entries.{entryOf, from, to, isFree, entryRefusal, listedRefusal}
+use Rattle.entries.specs.Entries.{entryOf, isFirst, entryRefusal, listedRefusal}
 use Rattle.entries.specs.EntryLaws.{read-metric, read-cell, listed-faulty, listed-repeated, listed-passes}
 use Rattle.changes.specs.Changes.{changeRefusal}
 use Rattle.changes.specs.ChangeLaws.{refused-entry, refused-same, passes}
@@ -36,7 +36,7 @@ module _
       some : entryRefusal n (entryOf l e) ≢ 0
       some z = eqb-false (verdictNumber v) 0 (sym good ∙ not-true ok h) (by-entry ∙ z)
 
-  module _ (h : not ok ≡ false) (new : Bool) (free : new ≡ isFree l e (from l e) (to l e)) where
+  module _ (h : not ok ≡ false) (new : Bool) (free : new ≡ isFirst l e) where
     none : entryRefusal n (entryOf l e) ≡ 0
     none = sym by-entry ∙ eqb-true (verdictNumber v) 0 (sym good ∙ not-false ok h)
 
