@@ -2,7 +2,7 @@
 -- without it the numbers are below n - 1.
 --     without          a distinct list of numbers below n + 1, without n: it is at most one number shorter
 --     pigeonhole       a distinct list of numbers below n has at most n of them
-use Prim.Native.Nat.{ℕ, zero, suc, _≤_, _<_}
+use Prim.Native.Nat.{ℕ, zero, suc, _≤_}
 use mathlib.Core.Path.{_≡_, refl, sym, _∙_, subst}
 use mathlib.Core.Logic.{_≢_, inl, inr, ⊎-elim}
 use mathlib.Core.List.{List, [], _∷_}

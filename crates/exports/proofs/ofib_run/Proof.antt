@@ -1,7 +1,6 @@
 -- The fields make the first record, the run gives the last one, and that is handed back.
 use mathlib.Core.Path.{_∙_}
 use borrow.Author.Needs.{needs}
-use denote.Ref.{now}
 use Rattle.exports.proofs.Handing.{last-record}
 use Rattle.exports.proofs.ofib_run.Statement.{statement}
 use Rattle.exports.proofs.ofib_run.Tie as tie
