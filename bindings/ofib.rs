@@ -1,6 +1,6 @@
 //! The proved library `libexports.a`, as safe Rust. No exported function asks anything of its caller, so nothing has to
 //! be tested before a call: a slice goes over as its pointer and its length, an array as its pointer. The declarations
-//! are those of `crates/exports/src/lib.rt`; no tool compares the two, and `tests/model` would see a difference.
+//! are those of `crates/exports/src/lib.rt`: `.ci/bindings` compares the names and types of all places and results.
 
 pub const WIDTH: usize = 32;
 pub const CELLS: usize = WIDTH * WIDTH;
@@ -116,8 +116,8 @@ mod c {
             due: *mut [u32; WIDTH],
             states: *mut [u8; WIDTH],
             written: *mut [u32; WIDTH],
-            steps: *const u8,
-            steps_len: usize,
+            bytes: *const u8,
+            bytes_len: usize,
         );
         pub fn ofib_rehearse(
             file: *const u8,

@@ -103,7 +103,7 @@ BEGIN {
 }
 
 END {
-    print "<svg xmlns=\"http://www.w3.org/2000/svg\" viewBox=\"0 0 1450 1610\" font-family=\"sans-serif\">"
+    print "<svg xmlns=\"http://www.w3.org/2000/svg\" viewBox=\"0 0 1450 1740\" font-family=\"sans-serif\">"
     print "<style>"
     print "text { text-anchor: middle; fill: #1c2733 } .name { font-size: 16px; font-weight: bold }"
     print ".about { font-size: 13px } .where { font-size: 13px; font-style: italic }"
@@ -113,7 +113,7 @@ END {
     print "</style>"
     print "<defs><marker id=\"tip\" markerWidth=\"8\" markerHeight=\"8\" refX=\"6\" refY=\"3\" orient=\"auto\">" \
         "<path d=\"M 0 0 L 7 3 L 0 6 z\" style=\"fill: #5b6f84; stroke: none; marker-end: none\"/></marker></defs>"
-    print "<rect width=\"1450\" height=\"1610\" fill=\"white\"/>"
+    print "<rect width=\"1450\" height=\"1740\" fill=\"white\"/>"
     for (b = 1; b <= bands; b++) {
         printf "<rect x=\"10\" y=\"%d\" width=\"1430\" height=\"108\" fill=\"%s\"/>\n", y(b - 1) - 2,
             b == 4 ? "#f7f0e2" : b % 2 ? "#eef2f7" : "#e2eaf3"
@@ -164,6 +164,11 @@ function proof() {
         " no walk along the pointers meets a router twice,/and every walk from a router that reaches d" \
         " before and after the change can be prolonged to d./" \
         "loop_free: LoopFreeLaws")
+    fact("filled-old-hops, filled-new-hops, run-bit", 990, 1640, 430, "The tables that Plan leaves hold the" \
+        " next hops,/and a written set what was written./plan: FilledLaws; machine: RunLaws")
+    fact("handed-back-free", 30, 1640, 910, "The same, with pointers and distances read off the tables" \
+        " that Plan leaves,/of every record that comes after Plan's by calls of the code./" \
+        "loop_free: HandedBackLaws")
     line("M 1205 1038 L 1205 1076")
     line("M 460 1122 L 506 1122")
     line("M 940 1122 L 986 1122")
@@ -175,4 +180,6 @@ function proof() {
     line("M 245 1315 L 245 1506")
     line("M 725 1465 L 725 1506")
     line("M 1205 1465 C 1205 1550 1000 1550 944 1550")
+    line("M 485 1595 L 485 1636")
+    line("M 990 1682 L 944 1682")
 }

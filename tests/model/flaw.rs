@@ -31,9 +31,13 @@ pub enum Flaw {
     IgnoredAsOk,
     /// The routes leave out a pair that has a walk in only one of the two topologies.
     RouteNeedsBoth,
+    /// The rehearsal leaves the distances of the two topologies in each other's tables.
+    RehearsalExchanges,
+    /// The routes change a cell of the new metrics where the file is refused.
+    RoutesTouchRefused,
 }
 
-pub const FLAWS: [Flaw; 14] = [
+pub const FLAWS: [Flaw; 16] = [
     Flaw::ReadTwoForOne,
     Flaw::ReadKeepsLinks,
     Flaw::MaximumUsed,
@@ -48,4 +52,6 @@ pub const FLAWS: [Flaw; 14] = [
     Flaw::WriteTwice,
     Flaw::IgnoredAsOk,
     Flaw::RouteNeedsBoth,
+    Flaw::RehearsalExchanges,
+    Flaw::RoutesTouchRefused,
 ];

@@ -12,7 +12,12 @@ use crate::step::step;
 pub fn rehearsal(file: &[u8], t: &mut Tables, flaw: Flaw) -> String {
     match prepare(file, t, flaw) {
         Err(number) => format!("refused {number}\n"),
-        Ok((contents, record)) => router_lines(&record) + &step_lines(file, &contents, record, flaw) + "end\n",
+        Ok((contents, record)) => {
+            if flaw == Flaw::RehearsalExchanges {
+                t.old_dist.swap_with_slice(t.new_dist);
+            }
+            router_lines(&record) + &step_lines(file, &contents, record, flaw) + "end\n"
+        }
     }
 }
 
@@ -20,7 +25,12 @@ pub fn rehearsal(file: &[u8], t: &mut Tables, flaw: Flaw) -> String {
 /// set in the old topology and in the new one, or `none` where that topology has no walk.
 pub fn routes(file: &[u8], t: &mut Tables, flaw: Flaw) -> String {
     let contents = match prepare(file, t, flaw) {
-        Err(number) => return format!("refused {number}\n"),
+        Err(number) => {
+            if flaw == Flaw::RoutesTouchRefused {
+                t.new[0] ^= 1;
+            }
+            return format!("refused {number}\n");
+        }
         Ok((contents, _)) => contents,
     };
     let mut text = String::new();

@@ -3,7 +3,7 @@
 --     link-cut, link-whole, link-sound         the refusals of a link
 --     rest-.., file-..                         the refusals of what follows the links, and of the file
 --     most-links-is, pairs-most                the limit of the links
---     Accepted, accepted-of                    what is known of a file that is not refused
+--     Accepted, accepted-of, of-accepted       a file is not refused exactly where all of this is known of it
 -- The definitions are ladders of tests, so there is one law for each rung: the tests above it fail, this one holds, and
 -- so the refusal is that of the rung. A section has its law, and within it each test that failed has a name. A file
 -- that is not refused is on no rung of either ladder: that gives `Accepted`, field by field.
@@ -20,10 +20,10 @@ use lib.ListN.{length, getD}
 use borrow.Author.Tests.{lt-ltb, le-ltb}
 use Rattle.area.specs.Limits.{width, mostChanges, mostSteps}
 use Rattle.area.specs.Refusals.{incomplete, trailing, routerCount, tooMany}
-use Rattle.area.specs.TestLaws.{look, then-some, then-none, none-first}
+use Rattle.area.specs.TestLaws.{look, then-some, then-none, first-none, none-first}
 use Rattle.area.specs.Sizes.{isRouterCount}
 use Rattle.entries.specs.Entries.{entryCount, entryOf, isFirst, listedRefusal}
-use Rattle.entries.specs.EntryLaws.{Faultless, listed-sound}
+use Rattle.entries.specs.EntryLaws.{Faultless, faultless, listed-passes, listed-sound}
 use Rattle.bench_file.specs.Sections.{two, routers, linkCount, links}
 use Rattle.bench_file.specs.Sections.{changeCount, changesAt, stepCount, stepsAt, end}
 use Rattle.bench_file.specs.Faults.{mostLinks, linkRefusal, linksRefusal, restRefusal, fileRefusal}
@@ -243,3 +243,20 @@ accepted-of f z =
               | yes e ↦ (e, sym (file-rest f (omega arith) b (omega arith) (omega arith) e) ∙ z)
               | no g ↦ absurd (g (sym (file-link f (omega arith) b (omega arith) (omega arith) g) ∙ z))
             ]
+
+pub of-accepted : (f : List ℕ) → Accepted f → fileRefusal f ≡ 0
+of-accepted f good =
+    let size = good .size in
+    file-rest f (omega arith) (good .routers-in) (omega arith) (good .most-links) each-passes
+    ∙ rest-passes f (omega arith) (good .most-changes) (omega arith) (good .most-steps) (omega arith) (omega arith)
+  where
+    link-passes : (e : ℕ) → e < linkCount f → linkRefusal (routers f) (links f) e ≡ 0
+    link-passes e h =
+        let l = good .each-link e h in
+        let x = l .entry in
+        link-whole (routers f) (links f) e (l .whole)
+        ∙ listed-passes (routers f) (links f) e
+        (faultless (routers f) (entryOf (links f) e) (x .from-in) (x .to-in) (x .apart) (x .some)) (l .new)
+
+    each-passes : linksRefusal f ≡ 0
+    each-passes = first-none (linkRefusal (routers f) (links f)) (linkCount f) link-passes

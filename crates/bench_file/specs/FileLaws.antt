@@ -2,6 +2,7 @@
 --     table-sized, file-passed, file-accepted          what is known where Read refuses nothing
 --     link-cell, other-cell, cell-link                 then the table holds the listed links, and nothing else
 --     file-size, file-largest                          the length of the file, by its counts, and at most
+--     second-byte                                      its second byte is at most 3
 --     changes-length, steps-length, changes-count      the parts that Plan and Step get
 --     contents-n, contents-changes, contents-steps     what the file says of itself
 --     no-contents-n, no-contents-changes               and what is handed back with a refusal
@@ -126,6 +127,10 @@ module _ (f t : List ℕ) (z : readRefusal f t ≡ 0) where
 
   pub file-largest : length f ≤ largest
   file-largest = accepted-largest f file-accepted
+
+  -- the high byte of the link count, which is at most 992
+  pub second-byte : getD f 1 0 ≤ 3
+  second-byte = omega (arith, links-most f (file-accepted .routers-in) (file-accepted .most-links))
 
   -- The parts that Plan and Step get lie in the file: they are as long as their counts say.
   pub changes-length : length (changes f) ≡ 5 * changeCount f

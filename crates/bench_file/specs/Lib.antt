@@ -5,3 +5,4 @@ pub mod Read
 pub mod FaultLaws
 pub mod ReadLaws
 pub mod FileLaws
+pub mod LargestLaws

@@ -4,7 +4,8 @@
 --                          the fields of an entry that code has read, and the cell of its pair
 --     entry-count-is, entry-count-least
 --                          how many entries a list has
---     entry-same           an entry by its five bytes
+--     entry-bytes, entry-same
+--                          an entry by its five bytes
 --     metric-fits          a metric of three bytes is at most `unused`
 --     of-pair, pair-of     the pair of an entry
 --     free-none, free-true, free-false, free-taken, free-kept, free-other
@@ -60,6 +61,15 @@ entry-count-is l k e = omega arith
 pub entry-count-least : (l : List ℕ) (k : ℕ) → 5 * k ≤ length l → k ≤ entryCount l
 unfolding entryCount
 entry-count-least l k h = omega arith
+
+pub entry-bytes :
+    (l : List ℕ) (e : ℕ)
+    → e < entryCount l
+    → (from l e ≡ getD l (5 * e) 0)
+    × (to l e ≡ getD l (5 * e + 1) 0)
+    × (metric l e ≡ 65536 * getD l (5 * e + 2) 0 + 256 * getD l (5 * e + 3) 0 + getD l (5 * e + 4) 0)
+unfolding entryOf
+entry-bytes l e h = rw (from, to, metric, lt-ltb e (entryCount l) h) (refl, refl, refl)
 
 pub entry-same :
     (l m : List ℕ) (e : ℕ)

@@ -52,7 +52,8 @@ fn rehearse(fd: i32) {
     let mut file = [0u8; 17565];
     let mut out = [0u8; 147456];
     let size = io::read_full(fd, &mut hexadecimal);
-    let size = hex::unhex(&hexadecimal[..size], &mut file);
+    let unhexed = hex::unhex(&hexadecimal[..size], &mut file);
+    let size = unhexed.length;
     let length = rehearsal(&file[..size], &mut out);
     print::text(&out[..length]);
 }

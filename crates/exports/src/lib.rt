@@ -21,6 +21,7 @@ ghost use Rattle.machine.specs.Machine.{over, stepOf};
 ghost use Rattle.machine.specs.Run.{run, callsOf};
 ghost use Rattle.bench_file.specs.Read.{readRefusal, contentsOf, metricsOf};
 ghost use Rattle.text.specs.Text.{Appended};
+ghost use Rattle.prepare.specs.Bench.{tablesAt};
 ghost use Rattle.report.specs.Report.{rehearsal, routes};
 ghost use Rattle.exports.specs.Fields.{recordFrom, replyNumber};
 ghost use Rattle.exports.specs.Exports.{numbers};
@@ -221,6 +222,15 @@ pub extern "C" fn ofib_rehearse(
         (now («old_hops» .entry)) (now («new_hops» .entry)) in
         ⌜ Appended (now (out .entry)) 0
         (rehearsal (now (file .entry)) (now (old .entry)) lent) (now (out .exit)) r ⌝ }
+    ensures metrics { λ _. ⌜ now (old .exit) ≡ metricsOf (now (file .entry)) (now (old .entry)) ⌝ }
+    ensures tables { λ _.
+        let lent = asTables (now (new .entry))
+        (now («old_dist» .entry)) (now («new_dist» .entry))
+        (now («old_hops» .entry)) (now («new_hops» .entry)) in
+        let left = asTables (now (new .exit))
+        (now («old_dist» .exit)) (now («new_dist» .exit))
+        (now («old_hops» .exit)) (now («new_hops» .exit)) in
+        ⌜ left ≡ tablesAt (now (file .entry)) (now (old .entry)) lent ⌝ }
 {
     report::rehearse(file, old, new, old_dist, new_dist, old_hops, new_hops, out)
 }
@@ -242,6 +252,15 @@ pub extern "C" fn ofib_routes(
         (now («old_dist» .entry)) (now («new_dist» .entry))
         (now («old_hops» .entry)) (now («new_hops» .entry)) in
         ⌜ Appended (now (out .entry)) 0 (routes (now (file .entry)) (now (old .entry)) lent) (now (out .exit)) r ⌝ }
+    ensures metrics { λ _. ⌜ now (old .exit) ≡ metricsOf (now (file .entry)) (now (old .entry)) ⌝ }
+    ensures tables { λ _.
+        let lent = asTables (now (new .entry))
+        (now («old_dist» .entry)) (now («new_dist» .entry))
+        (now («old_hops» .entry)) (now («new_hops» .entry)) in
+        let left = asTables (now (new .exit))
+        (now («old_dist» .exit)) (now («new_dist» .exit))
+        (now («old_hops» .exit)) (now («new_hops» .exit)) in
+        ⌜ left ≡ tablesAt (now (file .entry)) (now (old .entry)) lent ⌝ }
 {
     report::routes(file, old, new, old_dist, new_dist, old_hops, new_hops, out)
 }

@@ -1,8 +1,8 @@
 -- A text in hexadecimal: pairs of digits, each pair a byte; white space between pairs; and comments, from `#` up to the
 -- end of the line. What a byte of the text is, by the bytes before it, is its reading: `Reading` is the enum of
--- src/lib.rt.
+-- src/lib.rt. At the end: how a text is told from a binary file.
 use Prim.Native.Nat.{ℕ, _+_, _*_, _-_}
-use mathlib.Core.Bool.{Bool, cond, _&&_, _||_}
+use mathlib.Core.Bool.{Bool, true, false, cond, not, _&&_, _||_}
 use mathlib.Core.List.{List, [], _∷_, _++_}
 use lib.Dec.{ltb, leb, eqb}
 use lib.ListN.{length}
@@ -98,3 +98,37 @@ decoded text = decode [] 0 Between text
 -- Everything that is written for a text.
 unfoldable pub unhexed : (text : List ℕ) → List ℕ
 unhexed text = cond (ltb most (length text)) tooLong (decoded text)
+
+-- ---- texts with a fault
+-- the readings that are faults
+unfoldable pub isFault : (r : Reading) → Bool
+isFault Between = false
+isFault Comment = false
+isFault (High h) = false
+isFault (Byte x) = false
+isFault Bad = true
+isFault Odd = true
+
+-- Is a byte read as a fault, or the end of the text? `before` is the reading of the byte before the given ones.
+unfoldable pub hasFault : (before : Reading) (l : List ℕ) → Bool
+hasFault before [] = isFault (next before 10)
+hasFault before (b ∷ l) = isFault (next before b) || hasFault (next before b) l
+
+-- A text that is too long, or has a fault: what is written for it is the line that says so.
+unfoldable pub isFaulty : (text : List ℕ) → Bool
+isFaulty text = ltb most (length text) || hasFault Between text
+
+-- the bytes that the pairs of a text stand for
+unfoldable pub bytesOf : (before : Reading) (l : List ℕ) → List ℕ
+bytesOf before [] = []
+bytesOf before (b ∷ l) = byteOf (next before b) ++ bytesOf (next before b) l
+
+-- ---- texts and binary files
+-- a control byte other than white space
+unfoldable pub isControl : (b : ℕ) → Bool
+isControl b = ltb b 32 && not (isSpace b)
+
+-- a text has none
+unfoldable pub isText : (l : List ℕ) → Bool
+isText [] = true
+isText (b ∷ l) = not (isControl b) && isText l

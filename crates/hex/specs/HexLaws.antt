@@ -138,18 +138,18 @@ digit-glyph d h = elim (decLt d 10) [
   | no f ↦ rw (le-ltb d 10 (omega arith)) (sym (digit-lower (87 + d) (omega arith) (omega arith)) ∙ omega arith)
 ]
 
-length-hexed : (l : List ℕ) → length (hexed l) ≡ 2 * length l
+pub length-hexed : (l : List ℕ) → length (hexed l) ≡ 2 * length l
 unfolding hexed
 length-hexed [] = refl
 length-hexed (x ∷ l) = omega (arith, length-hexed l)
 
-first-glyph : (d : ℕ) → d < 16 → first (glyph d) ≡ High d
+pub first-glyph : (d : ℕ) → d < 16 → first (glyph d) ≡ High d
 first-glyph d h = sym (first-digit (glyph d) d (sym (digit-glyph d h)) h)
 
-second-glyph : (h d : ℕ) → d < 16 → second h (glyph d) ≡ Byte (16 * h + d)
+pub second-glyph : (h d : ℕ) → d < 16 → second h (glyph d) ≡ Byte (16 * h + d)
 second-glyph h d l = sym (second-digit h (glyph d) d (sym (digit-glyph d l)) l)
 
-first-newline : first 10 ≡ Between
+pub first-newline : first 10 ≡ Between
 unfolding first digit isSpace
 first-newline = refl
 

@@ -2,3 +2,5 @@
 pub mod Hex
 pub mod ReadingLaws
 pub mod HexLaws
+pub mod FaultLaws
+pub mod BinaryLaws

@@ -9,20 +9,17 @@
 --     first-not-odd, high-small        where a pair may start no digit is lone, and half a byte is below 16
 use Prim.Native.Nat.{ℕ, _+_, _*_, _-_, _≤_, _<_}
 use mathlib.Core.Path.{_≡_, refl}
-use mathlib.Core.Bool.{Bool, true, false, cond, _&&_, _||_}
+use mathlib.Core.Bool.{Bool, true, false, cond, _||_}
 use native.Mathlib.Decide.{decLt}
 use native.Mathlib.Omega.{arith}
 use borrow.Author.Tests.{lt-ltb, le-ltb, le-leb, lt-leb, eq-eqb, ne-eqb}
 use lib.Dec.{ltb, leb, eqb}
+use Rattle.area.specs.TestLaws.{and-false}
 use Rattle.hex.specs.declared.Reading.{Reading}
 use Rattle.hex.specs.declared.Reading.the-variants.{Between, Comment, High, Byte, Bad, Odd}
 use Rattle.hex.specs.Hex.{within, digit, isSpace, first, second, next}
 
 -- ---- a byte between two others
-and-false : (a : Bool) → (a && false) ≡ false
-and-false true = refl
-and-false false = refl
-
 module _ (low high b : ℕ) where
   inside : low ≤ b → b ≤ high → within low high b ≡ true
   inside h k = rw (le-leb low b h, le-leb b high k) refl
@@ -31,7 +28,7 @@ module _ (low high b : ℕ) where
   below h = rw (lt-leb low b h) refl
 
   above : high < b → within low high b ≡ false
-  above h = rw (lt-leb b high h) (and-false (leb low b))
+  above h = rw (lt-leb b high h) (and-false (leb low b) false refl)
 
 -- ---- digits
 module _ (b : ℕ) where

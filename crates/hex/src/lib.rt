@@ -1,20 +1,25 @@
 // Text in hexadecimal to bytes.
 //     unhex                what a text is in bytes, or the line that says its first fault, or that it is too long
+//     is_text              is this a text, or a binary file?
 //     decode               the loop over the text: each byte gets its reading by that of the byte before it
 //     step                 the next reading: `first` where a pair may start, `second` after a first digit
-//     digit, is_space      what a byte is by itself
+//     digit, is_space, is_control      what a byte is by itself
 //     put, bad, odd        what is written
 // What comes of a text is specs/Hex.antt. The laws of single bytes are specs/ReadingLaws.antt; that every list of bytes
-// has a text, and that ROOM is enough, is specs/HexLaws.antt; the loop's argument is proofs/Decoding.antt.
+// has a text, and that ROOM is enough, is specs/HexLaws.antt; what is written where there is a fault, and where there
+// is none, is specs/FaultLaws.antt; that no bench file is taken for a text is specs/BinaryLaws.antt; the argument of
+// the loop over a text is proofs/Decoding.antt.
 use text::append;
 use text::line;
 ghost use mathlib.Core.Path.{_≡_};
+ghost use mathlib.Core.Bool.{true};
 ghost use mathlib.Core.List.{[], _∷_};
 ghost use Prim.Native.Nat.{_≤_, _<_};
 ghost use lib.ListN.{length};
 ghost use Rattle.text.specs.Text.{Appended, line};
-ghost use Rattle.hex.specs.Hex.{digit, isSpace, first, second, next};
-ghost use Rattle.hex.specs.Hex.{badDigit, oddDigit, most, decoded, unhexed};
+ghost use Rattle.hex.specs.declared.Reading.the-variants.{Between};
+ghost use Rattle.hex.specs.Hex.{digit, isSpace, first, second, next, isControl, isText};
+ghost use Rattle.hex.specs.Hex.{badDigit, oddDigit, most, decoded, unhexed, hasFault, isFaulty};
 ghost use Rattle.hex.specs.ReadingLaws.{highHalf};
 
 // A longer text is not decoded.
@@ -39,21 +44,33 @@ enum Reading {
     Odd,
 }
 
+// What was written for a text: how many bytes, and whether they are the line of a fault.
+pub struct Unhexed {
+    pub length: usize,
+    pub is_faulty: bool,
+}
+
 // Writes what `text` is in bytes, or the line that says its first fault, to the start of `out`, as far as that has
-// room, and gives the number of bytes written.
-pub fn unhex(text: &[u8], out: &mut [u8]) -> usize
-    ensures written { λ r. ⌜ Appended (now (out .entry)) 0 (unhexed (now (text .entry))) (now (out .exit)) r ⌝ }
+// room.
+pub fn unhex(text: &[u8], out: &mut [u8]) -> Unhexed
+    ensures written { λ r. ⌜
+        Appended (now (out .entry)) 0 (unhexed (now (text .entry))) (now (out .exit)) (r .length) ⌝ }
+    ensures fault { λ r. ⌜ r .«is_faulty» ≡ isFaulty (now (text .entry)) ⌝ }
 {
     if MOST < text.len() {
-        return append(out, 0, b"too long\n");
+        return Unhexed {
+            length: append(out, 0, b"too long\n"),
+            is_faulty: true,
+        };
     }
     decode(text, out)
 }
 
 // The same for a text that is not too long.
-fn decode(text: &[u8], out: &mut [u8]) -> usize
+fn decode(text: &[u8], out: &mut [u8]) -> Unhexed
     requires { ⌜ length (now text) ≤ most ⌝ }
-    ensures { λ r. ⌜ Appended (now (out .entry)) 0 (decoded (now (text .entry))) (now (out .exit)) r ⌝ }
+    ensures { λ r. ⌜ Appended (now (out .entry)) 0 (decoded (now (text .entry))) (now (out .exit)) (r .length) ⌝ }
+    ensures { λ r. ⌜ r .«is_faulty» ≡ hasFault Between (now (text .entry)) ⌝ }
 {
     let mut reading = Reading::Between;
     let mut n = 0;
@@ -69,7 +86,22 @@ fn decode(text: &[u8], out: &mut [u8]) -> usize
     if let Reading::High(_) = reading {
         return odd(out, text.len() - 1);
     }
-    n
+    Unhexed {
+        length: n,
+        is_faulty: false,
+    }
+}
+
+// Is this a text? It has no control byte other than white space.
+pub fn is_text(bytes: &[u8]) -> bool
+    ensures answer { λ r. ⌜ r ≡ isText (now (bytes .entry)) ⌝ }
+{
+    for at in 0..bytes.len() {
+        if is_control(bytes[at]) {
+            return false;
+        }
+    }
+    true
 }
 
 // What the byte b is after a byte that was read as `before`.
@@ -150,6 +182,16 @@ fn is_space(b: u8) -> bool
     }
 }
 
+// Is b a control byte other than white space?
+fn is_control(b: u8) -> bool
+    ensures { λ r. ⌜ r ≡ isControl b ⌝ }
+{
+    if is_space(b) {
+        return false;
+    }
+    b < 32
+}
+
 // Appends one byte.
 fn put(out: &mut [u8], at: usize, b: u8) -> usize
     ensures { λ r. ⌜ Appended (now (out .entry)) at (b ∷ []) (now (out .exit)) r ⌝ }
@@ -159,17 +201,25 @@ fn put(out: &mut [u8], at: usize, b: u8) -> usize
 }
 
 // Makes `out` the line of a byte at place `at` that may not stand there.
-fn bad(out: &mut [u8], at: usize) -> usize
+fn bad(out: &mut [u8], at: usize) -> Unhexed
     requires { ⌜ at < most ⌝ }
-    ensures { λ r. ⌜ Appended (now (out .entry)) 0 (line badDigit at) (now (out .exit)) r ⌝ }
+    ensures { λ r. ⌜ Appended (now (out .entry)) 0 (line badDigit at) (now (out .exit)) (r .length) ⌝ }
+    ensures { λ r. ⌜ r .«is_faulty» ≡ true ⌝ }
 {
-    line(out, 0, b"bad digit at ", at as u32)
+    Unhexed {
+        length: line(out, 0, b"bad digit at ", at as u32),
+        is_faulty: true,
+    }
 }
 
 // Makes `out` the line of a digit at place `at` that has no second digit.
-fn odd(out: &mut [u8], at: usize) -> usize
+fn odd(out: &mut [u8], at: usize) -> Unhexed
     requires { ⌜ at < most ⌝ }
-    ensures { λ r. ⌜ Appended (now (out .entry)) 0 (line oddDigit at) (now (out .exit)) r ⌝ }
+    ensures { λ r. ⌜ Appended (now (out .entry)) 0 (line oddDigit at) (now (out .exit)) (r .length) ⌝ }
+    ensures { λ r. ⌜ r .«is_faulty» ≡ true ⌝ }
 {
-    line(out, 0, b"odd digit at ", at as u32)
+    Unhexed {
+        length: line(out, 0, b"odd digit at ", at as u32),
+        is_faulty: true,
+    }
 }

@@ -32,14 +32,16 @@ use Rattle.changes.specs.Root.{isCommon, root}
 use Rattle.plan.specs.declared.Record.{Record}
 use Rattle.plan.specs.NewMetrics.{newCell, newMetrics}
 use Rattle.plan.specs.Waiting.{oldHops, newHops, waiting, telling, due}
-use Rattle.plan.specs.Plan.{Tables, asTables, areTables, planRefusal, isPlanned, fresh, recordOf}
+use Rattle.plan.specs.Plan.{Tables, asTables, areTables, planRefusal, isPlanned, fresh, recordOf, tablesOf}
 use Rattle.convergence.specs.Pointers.{pointers, Along}
-use Rattle.machine.specs.Answers.{ok, ignored, refused}
+use Rattle.machine.specs.Answers.{Reply, ok, ignored, refused, gives}
 use Rattle.machine.specs.Machine.{learn, release, ready, write, finish, listens, deliver, isSound, isKind, readsB}
 use Rattle.machine.specs.Machine.{areRouters, callOf, stepOf}
-use Rattle.machine.specs.Run.{Call, call, replies, hasWritten}
+use Rattle.machine.specs.Run.{Call, call, run, replies, hasWritten, callsOf}
 use Rattle.loop_free.specs.LoopFree.{LoopFree}
 use Rattle.loop_free.specs.LoopFreeLaws.{loop-free}
+use Rattle.loop_free.specs.HandedBack.{none, stepped, ran, LoopFreeBy}
+use Rattle.loop_free.specs.HandedBackLaws.{handed-back-free}
 
 -- ---- the two areas
 -- the metrics m with the link i–j at v, both ways
@@ -155,6 +157,17 @@ rise-free = loop-free 3 metricsUp goesDown lent (planned .0 .accepted) riseCalls
 
 fall-free : LoopFree 3 metricsDown comesUp (recordOf 3 metricsDown comesUp lent) fallCalls
 fall-free = loop-free 3 metricsDown comesUp lent (planned .1 .accepted) fallCalls
+
+-- and of what the code hands back, after a step by which 1 learns of the change and any steps more
+rise-handed-back :
+    {next last : Record} {reply : Reply} (bytes : List ℕ)
+    → gives next reply ≡ stepOf (recordOf 3 metricsUp goesDown lent) 1 1 0
+    → last ≡ run next (callsOf bytes)
+    → LoopFreeBy 3 (tablesOf 3 metricsUp goesDown lent) last
+rise-handed-back {last} bytes outcome ran-last =
+    handed-back-free 3 metricsUp goesDown lent (planned .0 .accepted)
+    (recordOf 3 metricsUp goesDown lent) last (tablesOf 3 metricsUp goesDown lent) refl refl
+    (ran bytes (stepped 1 1 0 none outcome) ran-last)
 
 -- ---- out of order
 -- packets for 2 go 0, 1, 0 if of all routers only x has written 2

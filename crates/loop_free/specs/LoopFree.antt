@@ -1,5 +1,6 @@
 -- Demand 3, as a statement about a whole list of calls (01, "The steps"): `LoopFree`. It is proved in LoopFreeLaws.antt
--- (`loop-free`) for every input that Plan accepts and every list of calls.
+-- (`loop-free`) for every input that Plan accepts and every list of calls. HandedBack.antt says it of the tables and
+-- records that the code hands back.
 -- There are n routers, the old metrics m and the change list l; `first` is the record that the first call gets.
 use Prim.Native.Nat.{ℕ, _-_, _<_}
 use mathlib.Core.Path.{_≡_}

@@ -1,8 +1,8 @@
 -- Laws of the order by two next-hop tables.
 --     telling-same, ranks-same         the sets of n routers decide who tells whom, and the ranks
 --     order-of, order-none     it is taken from the tables, or nothing, by `isOrderable`
---     order-waiting, order-telling, order-ranks, order-due     its parts, where n, the root and the tables are those of
---                                      an area
+--     order-waiting, order-telling, order-ranks, order-due     its parts, where n is at most the width, the root is
+--                                      below it, and the tables have their size
 --     orderable-many, orderable-root, orderable-old, orderable-last, orderable-sizes       the tests of `isOrderable`,
 --                                      one after another, and what is known where all hold
 use Prim.Native.Nat.{ℕ, _*_, _≤_, _<_}

@@ -24,8 +24,8 @@ pub struct Order {
     pub due: [u32; WIDTH],
 }
 
-// The order of a change: `old` and `new` are the next-hop tables of the two topologies. All is 0 where n, the root or a
-// table is not one of an area.
+// The order of a change: `old` and `new` are the next-hop tables of the two topologies. All is 0 where n is above
+// WIDTH, the root is not below WIDTH, or a table has not its size.
 pub fn order_of(n: usize, root: usize, rising: bool, old: &[u32], new: &[u32]) -> Order
     ensures order { λ r. ⌜ r ≡ orderOf n root rising (now (old .entry)) (now (new .entry)) ⌝ }
 {

@@ -6,4 +6,5 @@ pub mod MetricLaws
 pub mod WaitingLaws
 pub mod PlanLaws
 pub mod FreshLaws
+pub mod FilledLaws
 pub mod Parts

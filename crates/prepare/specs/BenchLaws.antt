@@ -3,10 +3,11 @@
 --     record-passed, tables-passed                     what is handed back and left then
 --     changes-within                                   the changes lie in the file, also where Read refuses
 --     refusal-given, record-given, tables-given        Read, and then Plan on what Read gives
+--     first-all, refusal-first                         the first bytes, one more than the largest file has, decide
 -- Plan gets what Read hands back, whether that refused or not. Where it did not, these are the file's own n, metrics
 -- and changes, and so Plan's answer is the definition's. Where it did, n is 0: Plan refuses too (then-refused), so that
 -- its record is blank and its tables are as they were, as the definition says.
-use Prim.Native.Nat.{ℕ, _+_, _*_, _≤_}
+use Prim.Native.Nat.{ℕ, _+_, _*_, _≤_, _<_}
 use mathlib.Core.Path.{_≡_, refl, sym, ap, ap₂, _∙_}
 use mathlib.Core.Bool.{true}
 use mathlib.Core.Logic.{_≢_}
@@ -14,7 +15,8 @@ use mathlib.Core.List.{List}
 use native.Mathlib.Decide.{ℕ-discrete}
 use native.Mathlib.Omega.{arith}
 use borrow.Author.Tests.{eq-eqb, ne-eqb}
-use lib.ListN.{length}
+use lib.ListN.{length, take}
+use lib.Seq.{take-all}
 use Rattle.area.specs.Tests.{orThen}
 use Rattle.area.specs.TestLaws.{then-some, then-none, then-both}
 use Rattle.area.specs.SizeLaws.{router-count-low}
@@ -22,13 +24,14 @@ use Rattle.plan.specs.declared.Record.{Record}
 use Rattle.plan.specs.Plan.{Tables, areTables, planRefusal, isPlanned, blank, recordOf, tablesOf as fills}
 use Rattle.plan.specs.PlanLaws.{plan-count, planned-true, planned-false}
 use Rattle.plan.specs.PlanLaws.{record-planned, record-refused, tables-planned, tables-refused}
-use Rattle.bench_file.specs.Sections.{routers, changeCount, changesAt, changes}
+use Rattle.bench_file.specs.Sections.{routers, changeCount, changesAt, changes, largest}
 use Rattle.bench_file.specs.FaultLaws.{Accepted}
 use Rattle.bench_file.specs.declared.Contents.{Contents}
 use Rattle.bench_file.specs.Read.{readRefusal, contents, contentsOf, metricsOf}
 use Rattle.bench_file.specs.ReadLaws.{contents-accepted, contents-refused, metrics-accepted}
 use Rattle.bench_file.specs.FileLaws.{table-sized, file-passed, file-accepted}
 use Rattle.bench_file.specs.FileLaws.{contents-n, contents-changes, no-contents-n, no-contents-changes}
+use Rattle.bench_file.specs.FileLaws.{file-largest, first-bytes}
 use Rattle.prepare.specs.Bench.{metrics, refusal, planned, filledTables, recordAt, tablesAt, listed}
 
 module _ (f m : List ℕ) where
@@ -181,3 +184,31 @@ module _ (f m : List ℕ) where
 
         pub tables-given : {u : Tables} → u ≡ fills (c .n) old l t → u ≡ tablesAt f m t
         tables-given u = (rw (part, filled, is) at u) ∙ tables-both
+
+-- ---- the first bytes of an input, more than the largest file has
+-- where Read refuses, its number is the refusal
+refusal-read : (f m : List ℕ) (t : Tables) → readRefusal f m ≢ 0 → refusal f m t ≡ readRefusal f m
+unfolding refusal
+refusal-read f m t g = then-some (readRefusal f m) _ g
+
+module _ (f m : List ℕ) (t : Tables) where
+  whole : readRefusal f m ≡ 0 → (k : ℕ) → largest < k → take k f ≡ f
+  whole z k more = take-all k f (omega (arith, file-largest f m z))
+
+  -- a file that is not refused has no byte beyond them
+  pub first-all : refusal f m t ≡ 0 → (k : ℕ) → largest < k → take k f ≡ f
+  first-all z = whole (read-passed f m t z)
+
+  -- and they are refused as all of it is
+  pub refusal-first : (k : ℕ) → largest < k → refusal (take k f) m t ≡ refusal f m t
+  refusal-first k more = by-read (ℕ-discrete (readRefusal f m) 0)
+    where
+      same : readRefusal (take k f) m ≡ readRefusal f m
+      same = first-bytes f m k more .0
+
+      by-read : Dec (readRefusal f m ≡ 0) → refusal (take k f) m t ≡ refusal f m t
+      by-read (yes z) = ap (λ (l : List ℕ). refusal l m t) (whole z k more)
+      by-read (no g) =
+          refusal-read (take k f) m t (λ z. g (sym same ∙ z))
+          ∙ same
+          ∙ sym (refusal-read f m t g)

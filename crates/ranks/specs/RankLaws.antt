@@ -3,14 +3,15 @@
 --                                          is the least such bound, it is 0 or one of them, and they decide it
 --     above-le, above-least, above-at, above-same      the same of one more than the greatest f of a member
 --     above-start, above-skip, above-more      found router by router
---     longest-chain, chain-longest         some chain has `longest` links, and none of at most h links has more
+--     longest-is, rank-longest             for every w: `longest` is the greatest number of links of a chain with at
+--                                          most h, among n routers, and `rank` that of one with at most n - 1
 --     longest-le, longest-same, rank-same      their bound; what the n routers wait for decides them
 --     longest-stays        where one link more makes no chain longer, more links do not either
---     chain-distinct, chain-few            where waiting comes down in some measure, a chain meets no router twice, and
---                                          takes fewer links than there are routers
---     rank-is, same-rank                   so the rank is over chains of any length; nothing else is
+--     rank-distinct                        where no chain meets a router twice, the rank is over chains of any length
+--     chain-distinct, rank-is              where waiting comes down in some measure this is so
+--     same-rank                            nothing else is the rank
 --     rank-less                            a router ranks above those it waits for
---     ranks-in, ranks-beyond               the table of ranks, for at most `width` routers and for more
+--     ranks-in, ranks-beyond, ranks-at     the table of ranks, for at most `width` routers and for more; its entries
 -- `longest` has the links of some chain, and of chains with at most h links none has more: both by induction on h.
 -- Where waiting comes down in a measure, the routers of a chain are different, so they are at most n (pigeonhole), and
 -- h = n - 1 leaves no chain out.
@@ -29,10 +30,11 @@ use Rattle.area.specs.Limits.{width}
 use Rattle.area.specs.Tests.{pick}
 use Rattle.area.specs.TestLaws.{look}
 use Rattle.area.specs.Tables.{perRouter}
+use Rattle.area.specs.PerRouterLaws.{per-at}
 use Rattle.sets.specs.Sets.{bit}
 use Rattle.area.specs.Lists.{_∈_, Distinct, Below}
 use Rattle.area.specs.PigeonholeLaws.{pigeonhole}
-use Rattle.ranks.specs.Rank.{Chain, alone, waits, links, routers, IsRank}
+use Rattle.ranks.specs.Rank.{Chain, alone, waits, links, routers, Inside, IsRank, IsLongest}
 use Rattle.ranks.specs.Rank.{greatest, above, longest, rank, ranksOf}
 
 -- ---- the greatest of f 0 .. f (n - 1)
@@ -88,14 +90,14 @@ above-least n s f b l = greatest-least n (λ i. pick (bit s i) (suc (f i)) 0) b 
     least true x h = h refl
     least false x h = omega arith
 
--- it is 0, or one more than the f of a member
+-- it is 0, or one more than the f of a member below n
 pub above-at :
     (n s : ℕ) (f : ℕ → ℕ)
-    → (above n s f ≡ 0) ⊎ ((k : ℕ) × (bit s k ≡ true) × (above n s f ≡ suc (f k)))
+    → (above n s f ≡ 0) ⊎ ((k : ℕ) × (k < n) × (bit s k ≡ true) × (above n s f ≡ suc (f k)))
 unfolding above
 above-at n s f =
     ⊎-elim inl
-    (λ t. ⊎-elim (λ e. inr (t .0, e, rw e at (t .2))) (λ e. inl (rw e at (t .2))) (look (bit s (t .0))))
+    (λ t. ⊎-elim (λ e. inr (t .0, t .1, e, rw e at (t .2))) (λ e. inl (rw e at (t .2))) (look (bit s (t .0))))
     (greatest-at n (λ i. pick (bit s i) (suc (f i)) 0))
 
 pub above-same :
@@ -153,25 +155,45 @@ longest-stays n w h e (suc k) b r l =
     (eq-or-lt-of-le b)
 
 -- a chain of as many links exists
-pub longest-chain : (n : ℕ) (w : ℕ → ℕ) (h r : ℕ) → (c : Chain w r) × (links c ≡ longest n w h r)
+longest-chain :
+    (n : ℕ) (w : ℕ → ℕ) (h r : ℕ)
+    → (c : Chain w r) × Inside n c × (links c ≡ longest n w h r)
 unfolding longest
-longest-chain n w zero r = (alone, refl)
+longest-chain n w zero r = (alone, tt, refl)
 longest-chain n w (suc h) r =
     ⊎-elim
-    (λ e. (alone, sym e))
-    (λ t. let c = longest-chain n w h (t .0) in (waits (t .1) (c .0), ap suc (c .1) ∙ sym (t .2)))
+    (λ e. (alone, tt, sym e))
+    (λ t.
+    let c = longest-chain n w h (t .0) in
+    (waits (t .2) (c .0), (t .1, c .1), ap suc (c .2) ∙ sym (t .3)))
     (above-at n (w r) (longest n w h))
 
--- no chain of at most h links has more, where all that is waited for is below n
-pub chain-longest :
-    (n : ℕ) (w : ℕ → ℕ)
-    → ((r s : ℕ) → bit (w r) s ≡ true → s < n)
-    → (h : ℕ) {r : ℕ} (c : Chain w r) → links c ≤ h → links c ≤ longest n w h r
+-- no chain of at most h links has more
+chain-longest :
+    (n : ℕ) (w : ℕ → ℕ) (h : ℕ) {r : ℕ} (c : Chain w r)
+    → Inside n c
+    → links c ≤ h
+    → links c ≤ longest n w h r
 unfolding longest
-chain-longest n w inside h alone b = omega arith
-chain-longest n w inside zero (waits e c) b = absurd (omega arith)
-chain-longest n w inside (suc h) (waits {r} {s} e c) b =
-    omega (arith, chain-longest n w inside h c (omega arith), above-le n (w r) (longest n w h) s (inside r s e) e)
+chain-longest n w h alone i b = omega arith
+chain-longest n w zero (waits e c) i b = absurd (omega arith)
+chain-longest n w (suc h) (waits {r} {s} e c) i b =
+    omega (arith, chain-longest n w h c (i .1) (omega arith), above-le n (w r) (longest n w h) s (i .0) e)
+
+pub longest-is : (n : ℕ) (w : ℕ → ℕ) (h r : ℕ) → IsLongest n w h r (longest n w h r)
+longest-is n w h r =
+    let c = longest-chain n w h r in
+    record {
+      chain = c .0;
+      inside = c .1;
+      short = omega (arith, c .2, longest-le n w h r);
+      exact = c .2;
+      most = chain-longest n w h;
+    }
+
+pub rank-longest : (n : ℕ) (w : ℕ → ℕ) (r : ℕ) → IsLongest n w (n - 1) r (rank n w r)
+unfolding rank
+rank-longest n w r = longest-is n w (n - 1) r
 
 pub rank-same :
     (n : ℕ) (w v : ℕ → ℕ)
@@ -185,16 +207,39 @@ routers-links : {w : ℕ → ℕ} {r : ℕ} (c : Chain w r) → length (routers 
 routers-links alone = refl
 routers-links (waits e c) = ap suc (routers-links c)
 
--- Where what one waits for comes down in some measure μ, waiting never goes round in a circle.
-module _
-    (n : ℕ) (w : ℕ → ℕ) (inside : (r s : ℕ) → bit (w r) s ≡ true → (r < n) × (s < n))
-    (μ : ℕ → ℕ) (down : (r s : ℕ) → bit (w r) s ≡ true → μ s < μ r) where
+-- Where no chain meets a router twice, the rank is over chains of any length.
+module _ (n : ℕ) (w : ℕ → ℕ) (inside : (r s : ℕ) → bit (w r) s ≡ true → (r < n) × (s < n)) where
   routers-below : {r : ℕ} (c : Chain w r) → r < n → Below n (routers c)
   routers-below alone h x (inl e) = omega arith
   routers-below alone h x (inr m) = absurd m
   routers-below (waits e c) h x (inl q) = omega arith
   routers-below (waits {r} {s} e c) h x (inr m) = routers-below c (inside r s e .1) x m
 
+  chain-inside : {r : ℕ} (c : Chain w r) → Inside n c
+  chain-inside alone = tt
+  chain-inside (waits {r} {s} e c) = (inside r s e .1, chain-inside c)
+
+  chain-few : {r : ℕ} (c : Chain w r) → Distinct (routers c) → links c ≤ n - 1
+  chain-few alone d = omega arith
+  chain-few (waits {r} {s} e c) d =
+      let few = pigeonhole n (routers (waits e c)) d (routers-below (waits e c) (inside r s e .0)) in
+      omega (arith, routers-links (waits e c), few)
+
+  pub rank-distinct :
+      ((r : ℕ) (c : Chain w r) → Distinct (routers c))
+      → (r : ℕ) → IsRank w r (rank n w r)
+  rank-distinct distinct r =
+      let a = rank-longest n w r in
+      record {
+        chain = a .chain;
+        exact = a .exact;
+        most = λ c. a .most c (chain-inside c) (chain-few c (distinct r c));
+      }
+
+-- Where what one waits for comes down in some measure μ, waiting never goes round in a circle.
+module _
+    (n : ℕ) (w : ℕ → ℕ) (inside : (r s : ℕ) → bit (w r) s ≡ true → (r < n) × (s < n))
+    (μ : ℕ → ℕ) (down : (r s : ℕ) → bit (w r) s ≡ true → μ s < μ r) where
   -- no router of a chain is higher than its first
   routers-down : {r : ℕ} (c : Chain w r) (x : ℕ) → x ∈ routers c → μ x ≤ μ r
   routers-down alone x (inl e) = rw e (omega arith)
@@ -206,20 +251,9 @@ module _
   chain-distinct alone = ((λ m. m), tt)
   chain-distinct (waits {r} {s} e c) = ((λ m. omega (arith, down r s e, routers-down c r m)), chain-distinct c)
 
-  pub chain-few : {r : ℕ} (c : Chain w r) → links c ≤ n - 1
-  chain-few alone = omega arith
-  chain-few (waits {r} {s} e c) =
-      let d = waits e c in
-      let few = pigeonhole n (routers d) (chain-distinct d) (routers-below d (inside r s e .0)) in
-      omega (arith, routers-links d, few)
-
   -- the rank is over chains of any length, though `rank` looks only for those of at most n - 1 links
   pub rank-is : (r : ℕ) → IsRank w r (rank n w r)
-  unfolding rank
-  rank-is r =
-      let c = longest-chain n w (n - 1) r in
-      let low : (i k : ℕ) → bit (w i) k ≡ true → k < n = λ i k e. inside i k e .1 in
-      record { chain = c .0; exact = c .1; most = λ d. chain-longest n w low (n - 1) d (chain-few d) }
+  rank-is = rank-distinct n w inside (λ r. chain-distinct)
 
   pub rank-less : (r s : ℕ) → bit (w r) s ≡ true → rank n w s < rank n w r
   rank-less r s e = let a = rank-is s in omega (arith, a .exact, rank-is r .most (waits e (a .chain)))
@@ -237,3 +271,10 @@ module _ (n : ℕ) (t : List ℕ) where
   pub ranks-beyond : width < n → ranksOf n t ≡ replicate width 0
   unfolding ranksOf
   ranks-beyond a = rw (lt-leb n width a) refl
+
+  -- the entry of a router, whatever waits for whom
+  pub ranks-at : n ≤ width → (r : ℕ) → r < n
+      → IsLongest n (λ s. getD t s 0) (n - 1) r (getD (ranksOf n t) r 0)
+  ranks-at a r l =
+      let w : ℕ → ℕ = λ s. getD t s 0 in
+      rw (ranks-in a, per-at width n (rank n w) r l a) (rank-longest n w r)

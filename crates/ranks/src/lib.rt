@@ -17,7 +17,8 @@ ghost use Rattle.area.specs.Tests.{all};
 ghost use Rattle.area.specs.Tables.{perRouter};
 ghost use Rattle.ranks.specs.Rank.{above, rank, ranksOf};
 
-// The ranks of n routers; all are 0 where n is above WIDTH.
+// For each of n routers the links of a longest chain of at most n - 1 links; members of a waiting set from n on are not
+// read. This is its rank where no chain meets a router twice. All is 0 where n is above WIDTH.
 pub fn ranks(n: usize, waiting: [u32; WIDTH]) -> [u8; WIDTH]
     ensures ranks { λ t. ⌜ t ≡ ranksOf n waiting ⌝ }
 {
@@ -27,8 +28,7 @@ pub fn ranks(n: usize, waiting: [u32; WIDTH]) -> [u8; WIDTH]
     by_rounds(n, waiting)
 }
 
-// Each round allows chains of one link more, and a chain has fewer links than there are routers. After a round that
-// changes nothing no round changes anything.
+// Each round allows chains of one link more, up to n - 1. After a round that changes nothing no round changes anything.
 fn by_rounds(n: usize, waiting: [u32; WIDTH]) -> [u8; WIDTH]
     requires { ⌜ n ≤ width ⌝ }
     ensures { λ t. ⌜ t ≡ perRouter width n (rank n (λ r. getD waiting r 0)) ⌝ }
@@ -44,7 +44,7 @@ fn by_rounds(n: usize, waiting: [u32; WIDTH]) -> [u8; WIDTH]
     ranks
 }
 
-// Have two tables the same rank for every router?
+// Have two tables the same rank for each of the n routers?
 fn agree(n: usize, a: [u8; WIDTH], b: [u8; WIDTH]) -> bool
     requires { ⌜ n ≤ width ⌝ }
     ensures { λ r. ⌜ r ≡ all n (λ s. eqb (getD a s 0) (getD b s 0)) ⌝ }
@@ -57,7 +57,7 @@ fn agree(n: usize, a: [u8; WIDTH], b: [u8; WIDTH]) -> bool
     true
 }
 
-// One round: for each router one more than the largest rank of those that it waits for.
+// One round: for each router one more than the largest rank of those below n that it waits for, 0 where there is none.
 fn longer(n: usize, waiting: [u32; WIDTH], ranks: [u8; WIDTH]) -> [u8; WIDTH]
     requires { ⌜ (n ≤ width) × ((s : ℕ) → s < n → getD ranks s 0 < 255) ⌝ }
     ensures { λ t. ⌜ t ≡ perRouter width n (λ r. above n (getD waiting r 0) (λ s. getD ranks s 0)) ⌝ }
@@ -69,7 +69,7 @@ fn longer(n: usize, waiting: [u32; WIDTH], ranks: [u8; WIDTH]) -> [u8; WIDTH]
     out
 }
 
-// One more than the largest rank in a set, 0 for the empty set.
+// One more than the largest rank of a set's members below n, 0 where it has none.
 fn after(n: usize, set: u32, ranks: [u8; WIDTH]) -> u8
     requires { ⌜ (n ≤ width) × ((s : ℕ) → s < n → getD ranks s 0 < 255) ⌝ }
     ensures { λ k. ⌜ k ≡ above n set (λ s. getD ranks s 0) ⌝ }

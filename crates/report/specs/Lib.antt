@@ -5,3 +5,4 @@ pub mod LineLaws
 pub mod LengthLaws
 pub mod ReportLaws
 pub mod RoomLaws
+pub mod FirstBytesLaws

@@ -10,13 +10,15 @@ ghost use Prim.Native.Nat.{_≤_, _<_};
 ghost use lib.ListN.{length};
 ghost use Rattle.area.specs.Limits.{width};
 ghost use Rattle.plan.specs.Plan.{asTables};
+ghost use Rattle.bench_file.specs.Read.{metricsOf};
 ghost use Rattle.text.specs.Text.{Appended};
+ghost use Rattle.prepare.specs.Bench.{tablesAt};
 ghost use Rattle.report.specs.Lines.{isPrinted, pairText, rowLines, routeLines};
 ghost use Rattle.report.specs.Report.{unlessRefused, routes};
 ghost use Rattle.report.specs.ReportLaws.{Full};
 
 // Puts all that is printed of a file's routes at the start of `out`, as far as that has room, and gives its length.
-// The tables are lent to be filled, whatever they hold.
+// The tables are lent to be filled, whatever they hold, and are left as `prepare` leaves them.
 pub fn routes(
     file: &[u8],
     old: &mut [u32],
@@ -32,6 +34,15 @@ pub fn routes(
         (now («old_dist» .entry)) (now («new_dist» .entry))
         (now («old_hops» .entry)) (now («new_hops» .entry)) in
         ⌜ Appended (now (out .entry)) 0 (routes (now (file .entry)) (now (old .entry)) lent) (now (out .exit)) r ⌝ }
+    ensures metrics { λ _. ⌜ now (old .exit) ≡ metricsOf (now (file .entry)) (now (old .entry)) ⌝ }
+    ensures tables { λ _.
+        let lent = asTables (now (new .entry))
+        (now («old_dist» .entry)) (now («new_dist» .entry))
+        (now («old_hops» .entry)) (now («new_hops» .entry)) in
+        let left = asTables (now (new .exit))
+        (now («old_dist» .exit)) (now («new_dist» .exit))
+        (now («old_hops» .exit)) (now («new_hops» .exit)) in
+        ⌜ left ≡ tablesAt (now (file .entry)) (now (old .entry)) lent ⌝ }
 {
     let start = prepare(file, old, new, old_dist, new_dist, old_hops, new_hops);
     printed(

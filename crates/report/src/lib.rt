@@ -7,7 +7,8 @@
 // tables of distances and next hops, and `routes` prints these; `rehearse` prints the ranks and sets of Plan's record.
 // What is printed is specs/Report.antt, made of the lines of specs/Lines.antt. Why it is right: specs/LineLaws.antt
 // joins the parts of a line, and a line to those before it; specs/ReportLaws.antt goes from what `prepare` gives to the
-// whole text; specs/RoomLaws.antt says that ROOM bytes are enough for it.
+// whole text; specs/RoomLaws.antt says that ROOM bytes are enough for it, and specs/FirstBytesLaws.antt that 17,565
+// bytes of an input are.
 mod all_routes;
 mod lines;
 mod rehearsal;

@@ -16,7 +16,8 @@ pub fn run(words: &[u8], hexadecimal: &[u8]) {
 
 fn written(words: &[u8], hexadecimal: &[u8]) {
     let mut file = [0u8; 8192];
-    let length = hex::unhex(hexadecimal, &mut file);
+    let unhexed = hex::unhex(hexadecimal, &mut file);
+    let length = unhexed.length;
     texts::print(words, &file[..length]);
 }
 

@@ -4,13 +4,13 @@ use machine::Answer;
 ghost use Prim.Native.Nat.{_<_, _≤_};
 
 // Is number k of the words the first of a step?
-pub fn is_step(words: &[u8], k: usize) -> bool {
+pub(crate) fn is_step(words: &[u8], k: usize) -> bool {
     let letter = read::mark(words, k);
     b'A' <= letter && letter <= b'Z'
 }
 
 // The kind of a step by its letter.
-pub fn kind(words: &[u8], k: usize) -> u8 {
+pub(crate) fn kind(words: &[u8], k: usize) -> u8 {
     match read::mark(words, k) {
         b'L' => 1,
         b'R' => 2,
@@ -24,12 +24,12 @@ pub fn kind(words: &[u8], k: usize) -> u8 {
 }
 
 // The first byte after the kind.
-pub fn a(words: &[u8], k: usize) -> u8 {
+pub(crate) fn a(words: &[u8], k: usize) -> u8 {
     (read::number(words, k) % 256) as u8
 }
 
 // The second one, or 0 where the step has one number.
-pub fn b(words: &[u8], k: usize) -> u8
+pub(crate) fn b(words: &[u8], k: usize) -> u8
     requires { ⌜ k < 200 ⌝ }
 {
     if read::mark(words, k + 1) != b'.' {
@@ -39,7 +39,7 @@ pub fn b(words: &[u8], k: usize) -> u8
 }
 
 // The number of an answer: 0 for ok, 255 for ignored, and the refusal's own.
-pub fn number(answer: Answer) -> u8 {
+pub(crate) fn number(answer: Answer) -> u8 {
     match answer {
         Answer::Ok => 0,
         Answer::Ignored => 255,
@@ -49,7 +49,7 @@ pub fn number(answer: Answer) -> u8 {
 
 // Puts the bytes of the step that begins with number k, if there is one, at a place of `bytes`, as far as there is room
 // for them and two bytes more. Gives the place after them.
-pub fn put(bytes: &mut [u8; 194], at: usize, words: &[u8], k: usize) -> usize
+pub(crate) fn put(bytes: &mut [u8; 194], at: usize, words: &[u8], k: usize) -> usize
     requires { ⌜ (at ≤ 192) × (k < 200) ⌝ }
     ensures { λ r. ⌜ r ≤ 192 ⌝ }
 {

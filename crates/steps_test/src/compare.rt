@@ -3,7 +3,7 @@ use plan::Record;
 ghost use Prim.Native.Nat.{_≤_, _<_};
 
 // In how many entries two records differ: of the tables, and n, root and direction.
-pub fn records(x: Record, y: Record) -> u64
+pub(crate) fn records(x: Record, y: Record) -> u64
     ensures { λ r. ⌜ r ≤ 195 ⌝ }
 {
     unlike(x.n, y.n) + unlike(x.root, y.root) + unlike(x.direction, y.direction) + routers(x, y)
@@ -31,7 +31,7 @@ fn router(x: Record, y: Record, k: usize) -> u64
 }
 
 // 1 where two bytes differ.
-pub fn unlike(x: u8, y: u8) -> u64
+pub(crate) fn unlike(x: u8, y: u8) -> u64
     ensures { λ r. ⌜ r ≤ 1 ⌝ }
 {
     if x == y { 0 } else { 1 }

@@ -9,7 +9,7 @@ ghost use Prim.Native.Nat.{_<_, _≤_};
 
 // In how many answers and entries the method and the call in place differ from the step that begins with number k, if
 // there is one.
-pub fn differing(now: Record, words: &[u8], k: usize) -> u64
+pub(crate) fn differing(now: Record, words: &[u8], k: usize) -> u64
     requires { ⌜ k < 200 ⌝ }
 {
     if !call::is_step(words, k) {

@@ -6,7 +6,7 @@ use plan::Record;
 ghost use Prim.Native.Nat.{_<_, _≤_};
 
 // The record with what the words say.
-pub fn with_words(left: Record, words: &[u8]) -> Record {
+pub(crate) fn with_words(left: Record, words: &[u8]) -> Record {
     let mut r = left;
     for k in 0..read::MOST {
         r = with_word(r, words, k);
@@ -30,7 +30,7 @@ fn with_word(r: Record, words: &[u8], k: usize) -> Record
 }
 
 // A record in which all else is 0.
-pub fn blank(n: u64, root: u64, direction: u64) -> Record {
+pub(crate) fn blank(n: u64, root: u64, direction: u64) -> Record {
     Record {
         n: byte(n),
         root: byte(root),

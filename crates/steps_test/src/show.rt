@@ -4,7 +4,7 @@ use cases::read;
 ghost use Prim.Native.Nat.{_<_};
 
 // The step that begins with number k.
-pub fn step(words: &[u8], k: usize)
+pub(crate) fn step(words: &[u8], k: usize)
     requires { ⌜ k < 200 ⌝ }
 {
     print::byte(b' ');
@@ -17,7 +17,7 @@ pub fn step(words: &[u8], k: usize)
 }
 
 // An answer by its number, and how many entries changed.
-pub fn answer(number: u8, changed: u64) {
+pub(crate) fn answer(number: u8, changed: u64) {
     print::byte(b'=');
     if number == 0 {
         print::text(b"ok");
@@ -31,7 +31,7 @@ pub fn answer(number: u8, changed: u64) {
 }
 
 // State, waiting, due and written set of each router of the area.
-pub fn routers<'a>(
+pub(crate) fn routers<'a>(
     n: u8,
     states: &'a [u8; 32],
     waiting: &'a [u32; 32],

@@ -10,7 +10,7 @@ use steps::Machine;
 ghost use Prim.Native.Nat.{_<_, _≤_};
 
 // Takes the steps one by one, and then all at once from their bytes. Gives the last record.
-pub fn steps(first: Record, words: &[u8]) -> Record {
+pub(crate) fn steps(first: Record, words: &[u8]) -> Record {
     let mut now = first;
     let mut differing = 0;
     let mut bytes = [1; 194];

@@ -12,6 +12,7 @@
 --     NextHopLaws      who has a next hop, and how next hops are handed on
 --     TopologyLaws     what a metric table's topology has of a graph
 --     CellLaws         the cells of two routers, and the others
+--     LargestLaws      an area that has the largest real distance
 pub mod Topology
 pub mod Walk
 pub mod Distance
@@ -23,3 +24,4 @@ pub mod DistanceLaws
 pub mod NextHopLaws
 pub mod TopologyLaws
 pub mod CellLaws
+pub mod LargestLaws

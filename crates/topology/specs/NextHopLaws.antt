@@ -6,11 +6,11 @@
 --     next-near        a router with a next hop reaches the destination
 --     next-nearer      and so does the next hop, from nearer
 --     some-next        a router that reaches another one has a next hop to it
---     no-next-self, no-next-unreached
---                      none to oneself, none to what is not reached
+--     no-next-self, no-next-unreached, no-next-beyond
+--                      none to oneself, none to what is not reached, none from what is no router of the area
 --     Over, over-next, next-over
 --                      next hops by the last link: how a search hands them on from router to router
-use Prim.Native.Nat.{ℕ, _+_, _^_, _<_}
+use Prim.Native.Nat.{ℕ, _+_, _^_, _≤_, _<_}
 use mathlib.Core.Path.{_≡_, refl, sym, _∙_, subst}
 use mathlib.Core.Bool.{true, false≢true}
 use mathlib.Core.Logic.{_≢_, ⊎-elim}
@@ -84,7 +84,7 @@ module _ {n : ℕ} {g : Topology} (G : Graph n g) where
   pub some-next : (i j : ℕ) → i ≢ j → distance n g i j < unreached → (k : ℕ) × (k < n) × Next n g i j k
   some-next i j f h = let w = distance-walk n g i j h in first-link f (w .0) (w .2)
 
-  -- j itself has none, and no router that does not reach j has one
+  -- j itself has none, and none has a router that does not reach j, or one beyond the area
   none-next : (w i j : ℕ) → ((k : ℕ) → Next n g i j k → ⊥) → nextHops w n g i j ≡ 0
   unfolding nextHops
   none-next w i j f =
@@ -96,6 +96,9 @@ module _ {n : ℕ} {g : Topology} (G : Graph n g) where
 
   pub no-next-unreached : (w i j : ℕ) → distance n g i j ≡ unreached → nextHops w n g i j ≡ 0
   no-next-unreached w i j e = none-next w i j (λ k x. omega (arith, next-near x))
+
+  pub no-next-beyond : (w i j : ℕ) → n ≤ i → nextHops w n g i j ≡ 0
+  no-next-beyond w i j h = none-next w i j (λ k x. omega (arith, G .inside i k (x .uses) .0))
 
 -- ---- the same of the set's bits
 pub bit-next :

@@ -1,4 +1,4 @@
--- What is printed is the refusal, or the lines of all pairs.
+-- What is printed is the refusal, or the lines of all pairs, and the tables are left as `prepare` leaves them.
 use borrow.Author.Needs.{needs}
 use Rattle.report.specs.ReportLaws.{full-tables, routes-printed}
 use Rattle.report.proofs.all_routes.routes.Statement.{statement}
@@ -35,7 +35,7 @@ same-length-7 : tie.Need-same-length-7
 same-length-7 c = search needs
 
 returns : tie.Need-returns
-returns c = search routes-printed
+returns c = (search routes-printed, (search needs, search needs))
 
 pub routes-spec : {M : Type 1} → statement M
 routes-spec =

@@ -1,4 +1,4 @@
--- What is printed is what the file gives.
+-- What is printed is what the file gives, and the tables are left as `prepare` leaves them.
 use borrow.Author.Needs.{needs}
 use Rattle.report.specs.ReportLaws.{bounded, rehearsal-printed}
 use Rattle.report.proofs.rehearsal.rehearse.Statement.{statement}
@@ -35,7 +35,7 @@ same-length-7 : tie.Need-same-length-7
 same-length-7 c = search needs
 
 returns : tie.Need-returns
-returns c = search rehearsal-printed
+returns c = (search rehearsal-printed, (search needs, search needs))
 
 pub rehearse-spec : {M : Type 1} → statement M
 rehearse-spec =

@@ -1,0 +1,277 @@
+// The ordered FIB bench for C and C++: the seven functions of the proved static library, x86-64 Linux.
+//
+//     rt staticlib exports                                     # makes target/staticlib/libexports.a
+//     cc -I bindings program.c target/staticlib/libexports.a   # it needs memcpy and memset, and nothing else
+//
+// The words are those of README.md. What each function gives is an equation with a definition, on every input: the
+// `ensures` of crates/exports/src/lib.rt. No function asks anything of the numbers that it is handed: a wrong size, a
+// wrong number or any bytes at all are answered, by a refusal where need be. But the library cannot see whether a
+// pointer is good. This is for the caller to see to:
+//
+// - A pointer is not null, and is aligned as its type is.
+// - A slice is two places, a pointer and its length, which counts elements and not bytes; at least so many elements are
+//   there. With the length 0 nothing is read or written there, whatever the pointer points to.
+// - An array, a place with brackets, has at least as many elements as they say.
+// - What is lent holds values before the call, also where the function only writes (`= {0}`, `static` or calloc).
+// - What two places of one call point to does not overlap, unless both are `const`. The proof takes a place that may
+//   be written for an exclusive one, so nothing is promised where, say, two tables share a cell.
+// - Nothing else writes the places until the function returns. It keeps no pointer, and the library has no variables
+//   of its own.
+//
+// .ci/bindings compares the declarations, and most of the numbers, with the library's; tests/c/ofib_test.c calls every
+// function.
+#ifndef OFIB_H
+#define OFIB_H
+
+#include <stddef.h>
+#include <stdint.h>
+
+// The two rules on overlapping and on arrays, as compilers of C know them, which may warn. C++ has no words for them.
+#ifdef __cplusplus
+#define OFIB_ALONE
+#define OFIB_WHOLE
+extern "C" {
+#else
+#define OFIB_ALONE restrict
+#define OFIB_WHOLE restrict static
+#endif
+
+// ---- Sizes and numbers.
+
+// Routers of an area, and so entries of a table per router and members of a set: bit k stands for router k.
+#define OFIB_WIDTH 32
+// Cells of a table; that of (i, j) is at OFIB_WIDTH * i + j.
+#define OFIB_CELLS (OFIB_WIDTH * OFIB_WIDTH)
+// The metric of a link that is not used. Used ones have 1 to 16,777,214.
+#define OFIB_UNUSED 16777215u
+// The distance where there is no walk.
+#define OFIB_UNREACHED 4294967295u
+// Bytes of a link or a change: from, to, and the metric in three bytes, the high one first.
+#define OFIB_ENTRY 5
+// Changes of a list, at most.
+#define OFIB_MOST_CHANGES (2 * (OFIB_WIDTH - 1))
+// Bytes of a step: kind, a, b.
+#define OFIB_STEP 3
+// Steps of a bench file, at most.
+#define OFIB_MOST_STEPS 4096
+// Bytes of a bench file, at most: 17,564. A program that reads one lends one byte more, to see that it is too long.
+#define OFIB_LARGEST \
+    (6 + OFIB_ENTRY * OFIB_WIDTH * (OFIB_WIDTH - 1) + OFIB_ENTRY * OFIB_MOST_CHANGES + OFIB_STEP * OFIB_MOST_STEPS)
+// As many bytes have room for the text of any file.
+#define OFIB_ROOM 147456
+
+// The places of the six numbers that ofib_read gives.
+enum {
+    OFIB_ROUTERS = 0,    // n
+    OFIB_LINKS = 1,      // the number of links
+    OFIB_CHANGES = 2,    // the number of changes, OFIB_ENTRY bytes each,
+    OFIB_CHANGES_AT = 3, // and where in the file they begin
+    OFIB_STEPS = 4,      // the number of steps, OFIB_STEP bytes each,
+    OFIB_STEPS_AT = 5    // and where they begin
+};
+
+// What the direction of a record can be; 0 with a refusal.
+enum { OFIB_RISE = 1, OFIB_FALL = 2 };
+
+// A router's states.
+enum { OFIB_IDLE = 0, OFIB_HOLDING = 1, OFIB_ONGOING = 2, OFIB_DONE = 3 };
+
+// The kinds of steps. The first, second and fourth do not read b.
+enum {
+    OFIB_LEARN = 1,   // router a learns of the change: idle, it holds from now on
+    OFIB_RELEASE = 2, // the hold-down of router a is over: it is ongoing
+    OFIB_WRITE = 3,   // router a writes its next hops to destination b
+    OFIB_FINISH = 4,  // router a has written all that is due, and is done
+    OFIB_DELIVER = 5  // the message that router a is done arrives at router b
+};
+
+// The answers: 0, the number of a refusal, or of a step 255.
+enum {
+    OFIB_OK = 0,        // nothing is refused
+    OFIB_IGNORED = 255, // of a step: a message that its receiver does not listen for
+    // Of ofib_read, ofib_paths and ofib_plan.
+    OFIB_INCOMPLETE = 1,     // the file ends too early, or the list's length is no multiple of OFIB_ENTRY
+    OFIB_TRAILING = 2,       // bytes follow the last step of the file
+    OFIB_ROUTER_COUNT = 3,   // n is not 1 to 32
+    OFIB_UNKNOWN_ROUTER = 4, // a router is not below n; of a step too
+    OFIB_SELF_LINK = 5,      // a link or a change goes from a router to itself
+    OFIB_BAD_METRIC = 6,     // a metric is 0, or above OFIB_UNUSED
+    OFIB_REPEATED = 7,       // the pair of a link or a change has been listed before
+    OFIB_TABLE_SIZE = 8,     // a table's length is not OFIB_CELLS
+    OFIB_TOO_MANY = 9,       // more than n * (n - 1) links, OFIB_MOST_CHANGES changes or OFIB_MOST_STEPS steps
+    // Of ofib_plan: the change.
+    OFIB_NO_CHANGE = 10,        // the list is empty
+    OFIB_SAME_METRIC = 11,      // the new metric of a link is its old one
+    OFIB_MIXED = 12,            // neither every metric rises nor every metric falls
+    OFIB_NO_COMMON_ROUTER = 13, // no router is an end of every change
+    // Of ofib_step.
+    OFIB_BAD_RECORD = 20,    // n is not 1 to 32, or one of the 32 states is above 3
+    OFIB_UNKNOWN_KIND = 21,  // the kind is not 1 to 5
+    OFIB_WRONG_STATE = 23,   // router a is not in the state from which the step moves it on
+    OFIB_STILL_WAITING = 24, // router a waits for another
+    OFIB_NOT_DUE = 25,       // destination b is not due at router a, or is written already
+    OFIB_UNWRITTEN = 26,     // something due at router a is not written
+    OFIB_NOT_DONE = 27,      // router a, which sends the message, is not done
+    OFIB_NOT_TOLD = 28       // router a does not tell router b
+};
+
+// ---- The functions.
+
+// Read: a bench file, as bytes. `table` gets the metrics of its links and OFIB_UNUSED elsewhere, and `contents` what
+// the file says of itself, each number at its name above.
+// Gives OFIB_OK, or OFIB_TABLE_SIZE, which leaves the table as it was, or the first fault of the file: 1, 2, 3, 4, 5,
+// 6, 7 or 9, where every cell becomes OFIB_UNUSED. With any refusal `contents` becomes all 0.
+uint8_t ofib_read(
+    const uint8_t *OFIB_ALONE file, size_t file_len,
+    uint32_t *OFIB_ALONE table, size_t table_len,
+    size_t contents[OFIB_WHOLE 6]);
+
+// Paths: of n routers and their metrics, every distance and every set of next hops. Cells with a row or a column from
+// n on become OFIB_UNREACHED and 0. Of the metrics, the diagonal and what lies beyond n is not looked at.
+// Gives OFIB_OK, or the first of 3, 8 and 6 that applies, and then writes no cell.
+uint8_t ofib_paths(
+    size_t n,
+    const uint32_t *OFIB_ALONE metric, size_t metric_len,
+    uint32_t *OFIB_ALONE dist, size_t dist_len,
+    uint32_t *OFIB_ALONE hops, size_t hops_len);
+
+// Plan: judges a change of n routers with the metrics `old`. `list` is the changes, OFIB_ENTRY bytes each. The tables
+// get the metrics after the change, and the distances and next hops before and after it. The last nine places get the
+// record: `routers` is n, `root` the root, `direction` OFIB_RISE or OFIB_FALL. In the tables per router, entry r
+// belongs to router r, and is 0 from n on: its rank; the sets of those that it waits for and that it tells; its due
+// destinations; its state, OFIB_IDLE; and what it has written, which is nothing yet.
+// Gives OFIB_OK, or the first that applies of 3, 8, 6, 1, 9, 10, then of the first faulty change 4, 5, 6, 7 or 11,
+// then 12, 13. With a refusal no table is written, and the record becomes all 0.
+uint8_t ofib_plan(
+    size_t n,
+    const uint32_t *OFIB_ALONE old, size_t old_len,
+    const uint8_t *OFIB_ALONE list, size_t list_len,
+    uint32_t *OFIB_ALONE new_, size_t new_len,
+    uint32_t *OFIB_ALONE old_dist, size_t old_dist_len,
+    uint32_t *OFIB_ALONE new_dist, size_t new_dist_len,
+    uint32_t *OFIB_ALONE old_hops, size_t old_hops_len,
+    uint32_t *OFIB_ALONE new_hops, size_t new_hops_len,
+    uint8_t *OFIB_ALONE routers,
+    uint8_t *OFIB_ALONE root,
+    uint8_t *OFIB_ALONE direction,
+    uint8_t ranks[OFIB_WHOLE OFIB_WIDTH],
+    uint32_t waiting[OFIB_WHOLE OFIB_WIDTH],
+    uint32_t telling[OFIB_WHOLE OFIB_WIDTH],
+    uint32_t due[OFIB_WHOLE OFIB_WIDTH],
+    uint8_t states[OFIB_WHOLE OFIB_WIDTH],
+    uint32_t written[OFIB_WHOLE OFIB_WIDTH]);
+
+// Step: one step of a record, of which it reads n and five tables, and changes three of them in place.
+// Gives OFIB_OK, OFIB_IGNORED, or the first that applies of 20, 21, 4 and then those of its kind: 23 of learn and
+// release; 23, 24, 25 of write; 23, 24, 26 of finish; 27, 28 of deliver. Ignored or refused, it leaves all as it was.
+uint8_t ofib_step(
+    uint8_t n,
+    uint32_t waiting[OFIB_WHOLE OFIB_WIDTH],
+    const uint32_t telling[OFIB_WHOLE OFIB_WIDTH],
+    const uint32_t due[OFIB_WHOLE OFIB_WIDTH],
+    uint8_t states[OFIB_WHOLE OFIB_WIDTH],
+    uint32_t written[OFIB_WHOLE OFIB_WIDTH],
+    uint8_t kind, uint8_t a, uint8_t b);
+
+// All the steps that the bytes stand for, OFIB_STEP bytes each, one after another; a refused one changes nothing, and
+// the next one follows. One or two bytes at the end are no step. The nine first places are the record, and get the
+// last one.
+void ofib_run(
+    uint8_t *OFIB_ALONE routers,
+    uint8_t *OFIB_ALONE root,
+    uint8_t *OFIB_ALONE direction,
+    uint8_t ranks[OFIB_WHOLE OFIB_WIDTH],
+    uint32_t waiting[OFIB_WHOLE OFIB_WIDTH],
+    uint32_t telling[OFIB_WHOLE OFIB_WIDTH],
+    uint32_t due[OFIB_WHOLE OFIB_WIDTH],
+    uint8_t states[OFIB_WHOLE OFIB_WIDTH],
+    uint32_t written[OFIB_WHOLE OFIB_WIDTH],
+    const uint8_t *OFIB_ALONE bytes, size_t bytes_len);
+
+// The text of the rehearsal of a file, as the program `rehearse` prints it: put at the start of `out`, as far as that
+// has room, with no 0 after it. Where the file, its change or the size of a table is refused, the text is one line,
+// `refused k`. Gives the number of bytes put there: `out_len` where the text was cut off or just fits. What the rest
+// of `out` holds then is not promised. `old` is left as ofib_read leaves its table; the other five are filled as by
+// ofib_plan, and are as they were where the line is a refusal.
+size_t ofib_rehearse(
+    const uint8_t *OFIB_ALONE file, size_t file_len,
+    uint32_t *OFIB_ALONE old, size_t old_len,
+    uint32_t *OFIB_ALONE new_, size_t new_len,
+    uint32_t *OFIB_ALONE old_dist, size_t old_dist_len,
+    uint32_t *OFIB_ALONE new_dist, size_t new_dist_len,
+    uint32_t *OFIB_ALONE old_hops, size_t old_hops_len,
+    uint32_t *OFIB_ALONE new_hops, size_t new_hops_len,
+    uint8_t *OFIB_ALONE out, size_t out_len);
+
+// The text of its routes, as the program `routes` prints it; the same in all else.
+size_t ofib_routes(
+    const uint8_t *OFIB_ALONE file, size_t file_len,
+    uint32_t *OFIB_ALONE old, size_t old_len,
+    uint32_t *OFIB_ALONE new_, size_t new_len,
+    uint32_t *OFIB_ALONE old_dist, size_t old_dist_len,
+    uint32_t *OFIB_ALONE new_dist, size_t new_dist_len,
+    uint32_t *OFIB_ALONE old_hops, size_t old_hops_len,
+    uint32_t *OFIB_ALONE new_hops, size_t new_hops_len,
+    uint8_t *OFIB_ALONE out, size_t out_len);
+
+// ---- The same with the record and the six tables as one place each. Their sizes are right, so 8 does not occur.
+
+typedef struct ofib_record {
+    uint8_t n;
+    uint8_t root;
+    uint8_t direction;
+    uint8_t ranks[OFIB_WIDTH];
+    uint32_t waiting[OFIB_WIDTH];
+    uint32_t telling[OFIB_WIDTH];
+    uint32_t due[OFIB_WIDTH];
+    uint8_t states[OFIB_WIDTH];
+    uint32_t written[OFIB_WIDTH];
+} ofib_record;
+
+typedef struct ofib_tables {
+    uint32_t old[OFIB_CELLS];  // metrics before the change
+    uint32_t new_[OFIB_CELLS]; // and after it; `new` is a word of C++
+    uint32_t old_dist[OFIB_CELLS];
+    uint32_t new_dist[OFIB_CELLS];
+    uint32_t old_hops[OFIB_CELLS];
+    uint32_t new_hops[OFIB_CELLS];
+} ofib_tables;
+
+// Plan over t->old: fills the other tables and the record.
+static inline uint8_t ofib_record_plan(ofib_record *r, size_t n, ofib_tables *t, const uint8_t *list, size_t list_len)
+{
+    return ofib_plan(n, t->old, OFIB_CELLS, list, list_len, t->new_, OFIB_CELLS, t->old_dist, OFIB_CELLS, t->new_dist,
+                     OFIB_CELLS, t->old_hops, OFIB_CELLS, t->new_hops, OFIB_CELLS, &r->n, &r->root, &r->direction,
+                     r->ranks, r->waiting, r->telling, r->due, r->states, r->written);
+}
+
+static inline uint8_t ofib_record_step(ofib_record *r, uint8_t kind, uint8_t a, uint8_t b)
+{
+    return ofib_step(r->n, r->waiting, r->telling, r->due, r->states, r->written, kind, a, b);
+}
+
+static inline void ofib_record_run(ofib_record *r, const uint8_t *bytes, size_t bytes_len)
+{
+    ofib_run(&r->n, &r->root, &r->direction, r->ranks, r->waiting, r->telling, r->due, r->states, r->written, bytes,
+             bytes_len);
+}
+
+static inline size_t ofib_tables_rehearse(ofib_tables *t, const uint8_t *file, size_t file_len, uint8_t *out,
+                                          size_t out_len)
+{
+    return ofib_rehearse(file, file_len, t->old, OFIB_CELLS, t->new_, OFIB_CELLS, t->old_dist, OFIB_CELLS,
+                         t->new_dist, OFIB_CELLS, t->old_hops, OFIB_CELLS, t->new_hops, OFIB_CELLS, out, out_len);
+}
+
+static inline size_t ofib_tables_routes(ofib_tables *t, const uint8_t *file, size_t file_len, uint8_t *out,
+                                        size_t out_len)
+{
+    return ofib_routes(file, file_len, t->old, OFIB_CELLS, t->new_, OFIB_CELLS, t->old_dist, OFIB_CELLS, t->new_dist,
+                       OFIB_CELLS, t->old_hops, OFIB_CELLS, t->new_hops, OFIB_CELLS, out, out_len);
+}
+
+#ifdef __cplusplus
+}
+#endif
+
+#endif

@@ -1,0 +1,126 @@
+-- Demand 3 holds of what the code hands back: `handed-back-free`, at the end of this file. From the code to it:
+--     `plan`, accepted         its line `answer` gives the first premise: the number of `Accepted` is 0
+--     `plan`                   its lines `record` and `tables` are the next two, as they stand: `first` is the record
+--                              that it hands back, `left` the tables as it leaves them
+--     every call after that    its line `outcome` or `last` makes a further step of `After`
+-- So a reader puts the contracts of the calls in, in the order of the calls, and has demand 3 of the record at hand.
+--
+-- The argument: calls of the code make a list of calls (`after-run`), of which `loop-free` speaks. The tables hold the
+-- next hops and the distances of the two topologies (FilledLaws.antt of crate plan), and a written set holds what was
+-- written (`run-bit` of crate machine). So both speak of the same pointers (`same-pointers`) and the same routers that
+-- reach d (`same-reach`).
+use Prim.Native.Nat.{ℕ, _≤_, _<_}
+use mathlib.Core.Path.{_≡_, refl, sym, ap, _∙_}
+use mathlib.Core.Bool.{Bool}
+use mathlib.Core.Logic.{_≢_}
+use mathlib.Core.List.{List, [], _∷_, _++_}
+use native.Mathlib.Omega.{arith}
+use Rattle.area.specs.Limits.{width, unreached}
+use Rattle.area.specs.Tests.{pick}
+use Rattle.area.specs.Tables.{cell}
+use Rattle.sets.specs.Sets.{bit}
+use Rattle.plan.specs.declared.Record.{Record}
+use Rattle.plan.specs.NewMetrics.{newMetrics}
+use Rattle.plan.specs.Plan.{Tables, areTables, planRefusal, fresh, recordOf, tablesOf}
+use Rattle.plan.specs.PlanLaws.{plan-of, planned-true, record-planned, tables-planned}
+use Rattle.plan.specs.FilledLaws.{filled-old-hops, filled-new-hops, filled-old-distance, filled-new-distance}
+use Rattle.convergence.specs.Pointers.{Pointers, Along, Prolonged}
+use Rattle.machine.specs.Answers.{Outcome}
+use Rattle.machine.specs.Run.{Call, call, run, callsOf}
+use Rattle.machine.specs.RunLaws.{run-bit, fresh-start}
+use Rattle.machine.specs.CallLaws.{run-empty, run-one, run-joined}
+use Rattle.loop_free.specs.LoopFree.{pointsTo, Reaches}
+use Rattle.loop_free.specs.LoopFreeLaws.{loop-free}
+use Rattle.loop_free.specs.HandedBack.{After, none, stepped, ran, pointsBy, LoopFreeBy}
+
+-- ---- calls of the code make a list of calls
+pub after-run : {first last : Record} → After first last → (calls : List Call) × (last ≡ run first calls)
+after-run {first} none = ([], sym (run-empty first))
+after-run {first} (stepped {now} kind a b after e) =
+    let before = after-run after in
+    let one = call kind a b ∷ [] in
+    let joined =
+    ap (λ (o : Outcome). o .next) e
+    ∙ sym (run-one now kind a b)
+    ∙ ap (λ (r : Record). run r one) (before .1)
+    ∙ sym (run-joined first (before .0) one) in
+    (before .0 ++ one, joined)
+after-run {first} (ran bytes after e) =
+    let before = after-run after in
+    let joined =
+    e
+    ∙ ap (λ (r : Record). run r (callsOf bytes)) (before .1)
+    ∙ sym (run-joined first (before .0) (callsOf bytes)) in
+    (before .0 ++ callsOf bytes, joined)
+
+-- ---- walks along pointers that are the same
+module _ {p q : Pointers} (same : (r : ℕ) → p r ≡ q r) where
+  same-along : (x : ℕ) (walk : List ℕ) → Along p x walk → Along q x walk
+  same-along x [] a = tt
+  same-along x (y ∷ walk) a = (ap (λ (s : ℕ). bit s y) (sym (same x)) ∙ a .0, same-along y walk (a .1))
+
+  same-prolonged : {most d x : ℕ} {walk : List ℕ} → Prolonged p most d x walk → Prolonged q most d x walk
+  same-prolonged {x} {walk} w = record {
+    rest = w .rest;
+    along = same-along x (walk ++ w .rest) (w .along);
+    ends = w .ends;
+    short = w .short;
+  }
+
+-- ---- the tables and the last record
+same-pick : {s t : Bool} {a b x y : ℕ} → s ≡ t → a ≡ b → x ≡ y → pick s a x ≡ pick t b y
+same-pick p q r = rw (p, q, r) refl
+
+module _ (n : ℕ) (m l : List ℕ) (lent : Tables) (z : planRefusal n m l (areTables m lent) ≡ 0) where
+  most : n ≤ width
+  most = plan-of n m l lent z .ready .most
+
+  -- what the tables and the written sets say is what next hops and answers say, of any router r
+  pub same-pointers : (calls : List Call) (d r : ℕ)
+      → d < n
+      → pointsBy (tablesOf n m l lent) (run (recordOf n m l lent) calls) d r
+      ≡ pointsTo n m l (recordOf n m l lent) calls d r
+  same-pointers calls d r h =
+      let planned = planned-true n m l lent z in
+      rw (record-planned n m l lent planned, tables-planned n m l lent planned)
+      (same-pick (run-bit (fresh n m l) calls (fresh-start n m l) r d (omega (arith, most)))
+      (filled-new-hops n m l most r d h) (filled-old-hops n m l most r d h))
+
+  -- and what the distance tables say of reaching d is what distances say
+  pub same-reach : (x d : ℕ)
+      → x < n
+      → d < n
+      → (cell width (tablesOf n m l lent .oldDistances) x d ≢ unreached → Reaches n m x d)
+      × (cell width (tablesOf n m l lent .newDistances) x d ≢ unreached → Reaches n (newMetrics n m l) x d)
+  same-reach x d a b =
+      rw (tables-planned n m l lent (planned-true n m l lent z))
+      (rw (filled-old-distance n m l most x d a b, filled-new-distance n m l most x d a b)
+      ((λ f. f), (λ f. f)))
+
+  free-by : (calls : List Call) → LoopFreeBy n (tablesOf n m l lent) (run (recordOf n m l lent) calls)
+  free-by calls =
+      let free = loop-free n m l lent z calls in
+      record {
+        no-router-twice = λ d x walk h a.
+            free .no-router-twice d x walk h (same-along (λ r. same-pointers calls d r h) x walk a);
+        arrives = λ d x walk h inside old new a.
+            let reach = same-reach x d inside h in
+            same-prolonged (λ r. sym (same-pointers calls d r h))
+            (free .arrives d x walk h (reach .0 old) (reach .1 new)
+            (same-along (λ r. same-pointers calls d r h) x walk a));
+      }
+
+-- Demand 3: for every input that Plan accepts, the record that it hands back, the tables that it leaves, and every
+-- record that comes after the first one.
+pub handed-back-free :
+    (n : ℕ) (metrics changes : List ℕ) (lent : Tables)
+    → planRefusal n metrics changes (areTables metrics lent) ≡ 0
+    → (first last : Record) (left : Tables)
+    → first ≡ recordOf n metrics changes lent
+    → left ≡ tablesOf n metrics changes lent
+    → After first last
+    → LoopFreeBy n left last
+handed-back-free n m l lent z first last left e f after =
+    let by = after-run after in
+    let calls = by .0 in
+    rw (f, by .1 ∙ ap (λ (r : Record). run r calls) e) (free-by n m l lent z calls)

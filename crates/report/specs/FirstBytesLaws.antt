@@ -1,0 +1,42 @@
+-- The first bytes of an input decide all that is printed for it, if they are more than the largest file has: 17,565
+-- bytes are enough for every program (01, "The rehearsal").
+-- Why: a file that is not refused has no byte beyond them (first-all); of one that is refused the number of the refusal
+-- is all that is printed, and it is the same for them (refusal-first).
+--     rehearsal-first, routes-first      what `rehearse` and `routes` print
+use Prim.Native.Nat.{ℕ, _<_}
+use mathlib.Core.Path.{_≡_, sym, ap, _∙_}
+use mathlib.Core.Logic.{_≢_}
+use mathlib.Core.List.{List}
+use native.Mathlib.Decide.{ℕ-discrete}
+use lib.ListN.{take}
+use Rattle.plan.specs.Plan.{Tables}
+use Rattle.bench_file.specs.Sections.{largest}
+use Rattle.text.specs.Text.{word, line}
+use Rattle.prepare.specs.Bench.{refusal}
+use Rattle.prepare.specs.BenchLaws.{first-all, refusal-first}
+use Rattle.report.specs.Report.{rehearsal, routes}
+use Rattle.report.specs.ReportLaws.{rehearsal-refused, routes-refused}
+
+module _ (f m : List ℕ) (t : Tables) (k : ℕ) (more : largest < k) where
+  -- both texts are such: where something is refused, they are the line of its number
+  text-first :
+      (text : List ℕ → List ℕ)
+      → ((g : List ℕ) → refusal g m t ≢ 0 → text g ≡ line (word "refused ") (refusal g m t))
+      → text (take k f) ≡ text f
+  text-first text refused = by-refusal (ℕ-discrete (refusal f m t) 0)
+    where
+      same : refusal (take k f) m t ≡ refusal f m t
+      same = refusal-first f m t k more
+
+      by-refusal : Dec (refusal f m t ≡ 0) → text (take k f) ≡ text f
+      by-refusal (yes z) = ap text (first-all f m t z k more)
+      by-refusal (no g) =
+          refused (take k f) (λ z. g (sym same ∙ z))
+          ∙ ap (line (word "refused ")) same
+          ∙ sym (refused f g)
+
+  pub rehearsal-first : rehearsal (take k f) m t ≡ rehearsal f m t
+  rehearsal-first = text-first (λ g. rehearsal g m t) (λ g. rehearsal-refused g m t)
+
+  pub routes-first : routes (take k f) m t ≡ routes f m t
+  routes-first = text-first (λ g. routes g m t) (λ g. routes-refused g m t)

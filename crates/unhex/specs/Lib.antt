@@ -1,0 +1,3 @@
+-- What the program writes. First the definitions, then the laws about them.
+pub mod Unhex
+pub mod UnhexLaws

@@ -1,0 +1,373 @@
+// Every function of bindings/ofib.h, called from C: on the file of paper 01, against what is stored of it and what 01
+// says of its plan (C1), and on what they refuse.
+//     ofib_test FILE REHEARSAL ROUTES
+// FILE is the bench file, REHEARSAL and ROUTES what the programs print for it. What differs is printed, and the status
+// is 1 then.
+#include "ofib.h"
+
+#include <stdio.h>
+#include <stdlib.h>
+#include <string.h>
+
+// ---- Comparing.
+
+static int failures;
+
+static void number(const char *what, unsigned long got, unsigned long wanted)
+{
+    if (got != wanted) {
+        printf("ofib_test: %s: %lu, and not %lu\n", what, got, wanted);
+        failures++;
+    }
+}
+
+static void bytes(const char *what, const uint8_t *got, const uint8_t *wanted, size_t count)
+{
+    for (size_t k = 0; k < count; k++) {
+        if (got[k] != wanted[k]) {
+            printf("ofib_test: %s, byte %zu: %u, and not %u\n", what, k, got[k], wanted[k]);
+            failures++;
+            return;
+        }
+    }
+}
+
+static void cells(const char *what, const uint32_t *got, const uint32_t *wanted, size_t count)
+{
+    for (size_t k = 0; k < count; k++) {
+        if (got[k] != wanted[k]) {
+            printf("ofib_test: %s, cell %zu: %lu, and not %lu\n", what, k, (unsigned long)got[k],
+                   (unsigned long)wanted[k]);
+            failures++;
+            return;
+        }
+    }
+}
+
+static void records(const char *what, const ofib_record *got, const ofib_record *wanted)
+{
+    number(what, got->n, wanted->n);
+    number(what, got->root, wanted->root);
+    number(what, got->direction, wanted->direction);
+    bytes(what, got->ranks, wanted->ranks, OFIB_WIDTH);
+    cells(what, got->waiting, wanted->waiting, OFIB_WIDTH);
+    cells(what, got->telling, wanted->telling, OFIB_WIDTH);
+    cells(what, got->due, wanted->due, OFIB_WIDTH);
+    bytes(what, got->states, wanted->states, OFIB_WIDTH);
+    cells(what, got->written, wanted->written, OFIB_WIDTH);
+}
+
+// ---- What the calls are made on.
+
+typedef struct text {
+    uint8_t bytes[OFIB_ROOM];
+    size_t len;
+} text;
+
+static text file, rehearsal, routes;
+
+static void load(const char *path, text *t)
+{
+    FILE *f = fopen(path, "rb");
+    if (f == NULL) {
+        perror(path);
+        exit(2);
+    }
+    t->len = fread(t->bytes, 1, sizeof t->bytes, f);
+    fclose(f);
+}
+
+// A table with these nine cells for three routers, and `rest` everywhere else.
+static void triangle(uint32_t *table, const uint32_t nine[9], uint32_t rest)
+{
+    for (size_t k = 0; k < OFIB_CELLS; k++)
+        table[k] = rest;
+    for (size_t k = 0; k < 9; k++)
+        table[OFIB_WIDTH * (k / 3) + k % 3] = nine[k];
+}
+
+#define NO OFIB_UNUSED
+static const uint32_t old_metrics[9] = {NO, 1, 3, 1, NO, 1, 3, 1, NO};
+static const uint32_t new_metrics[9] = {NO, 1, 3, 1, NO, NO, 3, NO, NO};
+static const uint32_t old_distances[9] = {0, 1, 2, 1, 0, 1, 2, 1, 0};
+static const uint32_t new_distances[9] = {0, 1, 3, 1, 0, 4, 3, 4, 0};
+static const uint32_t old_next_hops[9] = {0, 2, 2, 1, 0, 4, 2, 2, 0};
+static const uint32_t new_next_hops[9] = {0, 2, 4, 1, 0, 1, 1, 1, 0};
+
+static const uint8_t change[] = {1, 2, 255, 255, 255, 2, 1, 255, 255, 255};
+
+static const ofib_record fresh = {3, 2, OFIB_RISE, {0, 1, 2}, {0, 1, 2}, {2, 4, 0}, {4, 4, 3}, {0}, {0}};
+static const ofib_record blank;
+
+// What the tables hold before a call that must not write them.
+#define UNTOUCHED 7u
+static ofib_tables tables, untouched, planned;
+
+static void fill_tables(void)
+{
+    uint32_t *cell = (uint32_t *)&untouched;
+    for (size_t k = 0; k < sizeof untouched / sizeof *cell; k++)
+        cell[k] = UNTOUCHED;
+    triangle(untouched.old, old_metrics, OFIB_UNUSED);
+    triangle(planned.old, old_metrics, OFIB_UNUSED);
+    triangle(planned.new_, new_metrics, OFIB_UNUSED);
+    triangle(planned.old_dist, old_distances, OFIB_UNREACHED);
+    triangle(planned.new_dist, new_distances, OFIB_UNREACHED);
+    triangle(planned.old_hops, old_next_hops, 0);
+    triangle(planned.new_hops, new_next_hops, 0);
+}
+
+static void same_tables(const char *what, const ofib_tables *wanted)
+{
+    cells(what, tables.old, wanted->old, OFIB_CELLS);
+    cells(what, tables.new_, wanted->new_, OFIB_CELLS);
+    cells(what, tables.old_dist, wanted->old_dist, OFIB_CELLS);
+    cells(what, tables.new_dist, wanted->new_dist, OFIB_CELLS);
+    cells(what, tables.old_hops, wanted->old_hops, OFIB_CELLS);
+    cells(what, tables.new_hops, wanted->new_hops, OFIB_CELLS);
+}
+
+// ---- The tests.
+
+// One call of ofib_read: its answer, what it says of the file, and the table that it leaves.
+static void one_read(const char *what, size_t file_len, size_t table_len, uint8_t answer,
+                     const size_t wanted[6], const uint32_t *metrics)
+{
+    size_t contents[6] = {9, 9, 9, 9, 9, 9};
+    tables = untouched;
+    number(what, ofib_read(file.bytes, file_len, tables.new_, table_len, contents), answer);
+    for (size_t k = 0; k < 6; k++)
+        number(what, contents[k], wanted[k]);
+    cells(what, tables.new_, metrics, OFIB_CELLS);
+}
+
+static void test_read(void)
+{
+    static const size_t nothing[6], wanted[6] = {
+        [OFIB_ROUTERS] = 3,     [OFIB_LINKS] = 6,  [OFIB_CHANGES] = 2,
+        [OFIB_CHANGES_AT] = 34, [OFIB_STEPS] = 10, [OFIB_STEPS_AT] = 46,
+    };
+    static const uint32_t no_link[9] = {NO, NO, NO, NO, NO, NO, NO, NO, NO};
+    static uint32_t unused[OFIB_CELLS];
+    triangle(unused, no_link, OFIB_UNUSED);
+    one_read("ofib_read", file.len, OFIB_CELLS, OFIB_OK, wanted, planned.old);
+    one_read("ofib_read, an empty file", 0, OFIB_CELLS, OFIB_INCOMPLETE, nothing, unused);
+    one_read("ofib_read, a byte less", file.len - 1, OFIB_CELLS, OFIB_INCOMPLETE, nothing, unused);
+    one_read("ofib_read, a byte more", file.len + 1, OFIB_CELLS, OFIB_TRAILING, nothing, unused);
+    one_read("ofib_read, 1,023 cells", file.len, OFIB_CELLS - 1, OFIB_TABLE_SIZE, nothing, untouched.new_);
+    one_read("ofib_read, no cell", file.len, 0, OFIB_TABLE_SIZE, nothing, untouched.new_);
+}
+
+// One call of ofib_paths, with the lengths of its three tables.
+static void one_paths(const char *what, size_t n, const size_t lens[3], uint8_t answer, const ofib_tables *wanted)
+{
+    tables = untouched;
+    number(what, ofib_paths(n, tables.old, lens[0], tables.old_dist, lens[1], tables.old_hops, lens[2]), answer);
+    cells(what, tables.old, untouched.old, OFIB_CELLS);
+    cells(what, tables.old_dist, wanted->old_dist, OFIB_CELLS);
+    cells(what, tables.old_hops, wanted->old_hops, OFIB_CELLS);
+}
+
+static void test_paths(void)
+{
+    size_t lens[3] = {OFIB_CELLS, OFIB_CELLS, OFIB_CELLS};
+    one_paths("ofib_paths", 3, lens, OFIB_OK, &planned);
+    one_paths("ofib_paths, n = 0", 0, lens, OFIB_ROUTER_COUNT, &untouched);
+    one_paths("ofib_paths, n = 33", 33, lens, OFIB_ROUTER_COUNT, &untouched);
+    for (size_t k = 0; k < 3; k++) {
+        lens[k] = OFIB_CELLS - 1;
+        one_paths("ofib_paths, 1,023 cells", 3, lens, OFIB_TABLE_SIZE, &untouched);
+        lens[k] = OFIB_CELLS;
+    }
+    untouched.old[1] = 0;
+    one_paths("ofib_paths, metric 0", 3, lens, OFIB_BAD_METRIC, &untouched);
+    untouched.old[1] = 1;
+}
+
+// One plan of the triangle: its answer, and the record and the tables that it leaves.
+static void one_plan(const char *what, const uint8_t *list, size_t list_len, uint8_t answer)
+{
+    ofib_record r = fresh;
+    memset(&r, UNTOUCHED, sizeof r);
+    tables = untouched;
+    number(what, ofib_record_plan(&r, 3, &tables, list, list_len), answer);
+    records(what, &r, answer == OFIB_OK ? &fresh : &blank);
+    same_tables(what, answer == OFIB_OK ? &planned : &untouched);
+}
+
+// The same with another length for each of its six tables.
+static void test_plan_sizes(void)
+{
+    size_t lens[6] = {OFIB_CELLS, OFIB_CELLS, OFIB_CELLS, OFIB_CELLS, OFIB_CELLS, OFIB_CELLS};
+    const char *what = "ofib_plan, 1,023 cells";
+    for (size_t k = 0; k < 6; k++) {
+        ofib_record r = fresh;
+        tables = untouched;
+        lens[k] = OFIB_CELLS - 1;
+        number(what, ofib_plan(3, tables.old, lens[0], change, sizeof change, tables.new_, lens[1], tables.old_dist,
+                               lens[2], tables.new_dist, lens[3], tables.old_hops, lens[4], tables.new_hops, lens[5],
+                               &r.n, &r.root, &r.direction, r.ranks, r.waiting, r.telling, r.due, r.states,
+                               r.written),
+               OFIB_TABLE_SIZE);
+        records(what, &r, &blank);
+        same_tables(what, &untouched);
+        lens[k] = OFIB_CELLS;
+    }
+}
+
+// C2: the change of C1 the other way round, a fall.
+static void test_fall(void)
+{
+    static const uint8_t list[] = {1, 2, 0, 0, 1, 2, 1, 0, 0, 1};
+    static const ofib_record wanted = {3, 2, OFIB_FALL, {2, 1, 0}, {2, 4, 0}, {0, 1, 2}, {4, 4, 3}, {0}, {0}};
+    ofib_record r = blank;
+    tables = untouched;
+    memcpy(tables.old, planned.new_, sizeof tables.old);
+    number("ofib_plan, C2", ofib_record_plan(&r, 3, &tables, list, sizeof list), OFIB_OK);
+    records("ofib_plan, C2", &r, &wanted);
+    cells("ofib_plan, C2, new metrics", tables.new_, planned.old, OFIB_CELLS);
+    cells("ofib_plan, C2, old distances", tables.old_dist, planned.new_dist, OFIB_CELLS);
+    cells("ofib_plan, C2, new distances", tables.new_dist, planned.old_dist, OFIB_CELLS);
+    cells("ofib_plan, C2, old next hops", tables.old_hops, planned.new_hops, OFIB_CELLS);
+    cells("ofib_plan, C2, new next hops", tables.new_hops, planned.old_hops, OFIB_CELLS);
+}
+
+static void test_plan(void)
+{
+    static const uint8_t unknown[] = {1, 3, 0, 0, 9}, self[] = {1, 1, 0, 0, 9}, zero[] = {1, 2, 0, 0, 0},
+                         same[] = {1, 2, 0, 0, 1}, repeated[] = {1, 2, 0, 0, 9, 1, 2, 0, 0, 9},
+                         mixed[] = {1, 2, 0, 0, 9, 0, 2, 0, 0, 1},
+                         apart[] = {0, 1, 0, 0, 9, 1, 2, 0, 0, 9, 2, 0, 0, 0, 9};
+    static const uint8_t many[OFIB_ENTRY * (OFIB_MOST_CHANGES + 1)];
+    one_plan("ofib_plan, C1", change, sizeof change, OFIB_OK);
+    one_plan("ofib_plan, nine bytes", change, sizeof change - 1, OFIB_INCOMPLETE);
+    one_plan("ofib_plan, 63 changes", many, sizeof many, OFIB_TOO_MANY);
+    one_plan("ofib_plan, no change", change, 0, OFIB_NO_CHANGE);
+    one_plan("ofib_plan, router 3", unknown, sizeof unknown, OFIB_UNKNOWN_ROUTER);
+    one_plan("ofib_plan, from 1 to 1", self, sizeof self, OFIB_SELF_LINK);
+    one_plan("ofib_plan, metric 0", zero, sizeof zero, OFIB_BAD_METRIC);
+    one_plan("ofib_plan, the same metric", same, sizeof same, OFIB_SAME_METRIC);
+    one_plan("ofib_plan, a pair twice", repeated, sizeof repeated, OFIB_REPEATED);
+    one_plan("ofib_plan, up and down", mixed, sizeof mixed, OFIB_MIXED);
+    one_plan("ofib_plan, three links", apart, sizeof apart, OFIB_NO_COMMON_ROUTER);
+    test_plan_sizes();
+    test_fall();
+}
+
+// The steps of the file one by one, and after each of them all of them so far at once.
+static void test_steps(void)
+{
+    static const uint8_t answers[] = {0, 0, OFIB_STILL_WAITING, 0, 0, 0, 0, 0, OFIB_IGNORED, 0};
+    static const ofib_record last = {3,         2,         OFIB_RISE, {0, 1, 2},
+                                     {0, 0, 2}, {2, 4, 0}, {4, 4, 3}, {OFIB_DONE, OFIB_ONGOING, OFIB_IDLE},
+                                     {4, 4, 0}};
+    const uint8_t *steps = file.bytes + 46;
+    ofib_record r = fresh;
+    for (size_t k = 0; k < sizeof answers; k++) {
+        const uint8_t *step = steps + OFIB_STEP * k;
+        ofib_record before = r, at_once = fresh, and_a_part = fresh;
+        number("ofib_step", ofib_record_step(&r, step[0], step[1], step[2]), answers[k]);
+        if (answers[k] != OFIB_OK)
+            records("ofib_step, refused or ignored", &r, &before);
+        ofib_record_run(&at_once, steps, OFIB_STEP * (k + 1));
+        records("ofib_run", &at_once, &r);
+        ofib_record_run(&and_a_part, steps, OFIB_STEP * k + 2);
+        records("ofib_run, two bytes more", &and_a_part, &before);
+    }
+    records("ofib_step, the last record", &r, &last);
+}
+
+// A step that is refused, and leaves the record as it was.
+static void one_refused(ofib_record r, uint8_t kind, uint8_t a, uint8_t b, uint8_t answer)
+{
+    char what[80];
+    ofib_record after = r;
+    snprintf(what, sizeof what, "ofib_step, kind %d of %d and %d", kind, a, b);
+    number(what, ofib_record_step(&after, kind, a, b), answer);
+    records(what, &after, &r);
+    ofib_record_run(&after, (const uint8_t[]){kind, a, b}, OFIB_STEP);
+    records(what, &after, &r);
+}
+
+static void test_refused_steps(void)
+{
+    ofib_record r = fresh;
+    one_refused(blank, OFIB_LEARN, 0, 0, OFIB_BAD_RECORD);
+    r.states[31] = OFIB_DONE + 1;
+    one_refused(r, OFIB_LEARN, 0, 0, OFIB_BAD_RECORD);
+    r.states[31] = OFIB_IDLE;
+    one_refused(r, 0, 0, 0, OFIB_UNKNOWN_KIND);
+    one_refused(r, OFIB_DELIVER + 1, 0, 0, OFIB_UNKNOWN_KIND);
+    one_refused(r, OFIB_LEARN, 3, 0, OFIB_UNKNOWN_ROUTER);
+    one_refused(r, OFIB_WRITE, 0, 3, OFIB_UNKNOWN_ROUTER);
+    one_refused(r, OFIB_RELEASE, 0, 0, OFIB_WRONG_STATE);
+    one_refused(r, OFIB_DELIVER, 0, 1, OFIB_NOT_DONE);
+    r.states[0] = OFIB_ONGOING;
+    r.states[1] = OFIB_ONGOING;
+    one_refused(r, OFIB_FINISH, 1, 0, OFIB_STILL_WAITING);
+    one_refused(r, OFIB_WRITE, 0, 1, OFIB_NOT_DUE);
+    one_refused(r, OFIB_FINISH, 0, 0, OFIB_UNWRITTEN);
+    r.states[0] = OFIB_DONE;
+    one_refused(r, OFIB_DELIVER, 0, 2, OFIB_NOT_TOLD);
+}
+
+// A text, in a buffer of each length up to one byte more than it has. The bytes beyond the length are not touched.
+static void one_text(const char *what, size_t (*call)(ofib_tables *, const uint8_t *, size_t, uint8_t *, size_t),
+                     size_t file_len, const uint8_t *wanted, size_t wanted_len)
+{
+    static uint8_t out[OFIB_ROOM + 1], beyond[OFIB_ROOM + 1];
+    memset(beyond, 170, sizeof beyond);
+    for (size_t room = 0; room <= wanted_len + 1; room++) {
+        size_t most = room < wanted_len ? room : wanted_len;
+        memset(out, 170, sizeof out);
+        tables = untouched;
+        number(what, call(&tables, file.bytes, file_len, out, room), most);
+        bytes(what, out, wanted, most);
+        bytes(what, out + room, beyond, sizeof out - room);
+    }
+}
+
+static void test_texts(void)
+{
+    static const char too_early[] = "refused 1\n", a_table[] = "refused 8\n";
+    static uint32_t longer[OFIB_CELLS + 1];
+    uint8_t out[sizeof a_table];
+    one_text("ofib_rehearse", ofib_tables_rehearse, file.len, rehearsal.bytes, rehearsal.len);
+    one_text("ofib_routes", ofib_tables_routes, file.len, routes.bytes, routes.len);
+    one_text("ofib_rehearse, an empty file", ofib_tables_rehearse, 0, (const uint8_t *)too_early, 10);
+    one_text("ofib_routes, an empty file", ofib_tables_routes, 0, (const uint8_t *)too_early, 10);
+    memset(out, 0, sizeof out);
+    number("ofib_rehearse, 1,023 cells",
+           ofib_rehearse(file.bytes, file.len, tables.old, OFIB_CELLS, tables.new_, OFIB_CELLS, tables.old_dist,
+                         OFIB_CELLS, tables.new_dist, OFIB_CELLS, tables.old_hops, OFIB_CELLS, tables.new_hops,
+                         OFIB_CELLS - 1, out, sizeof out),
+           10);
+    bytes("ofib_rehearse, 1,023 cells", out, (const uint8_t *)a_table, 10);
+    memset(out, 0, sizeof out);
+    number("ofib_routes, 1,025 cells",
+           ofib_routes(file.bytes, file.len, longer, OFIB_CELLS + 1, tables.new_, OFIB_CELLS, tables.old_dist,
+                       OFIB_CELLS, tables.new_dist, OFIB_CELLS, tables.old_hops, OFIB_CELLS, tables.new_hops,
+                       OFIB_CELLS, out, sizeof out),
+           10);
+    bytes("ofib_routes, 1,025 cells", out, (const uint8_t *)a_table, 10);
+}
+
+int main(int argc, char **argv)
+{
+    if (argc != 4) {
+        fprintf(stderr, "usage: ofib_test FILE REHEARSAL ROUTES\n");
+        return 2;
+    }
+    load(argv[1], &file);
+    load(argv[2], &rehearsal);
+    load(argv[3], &routes);
+    fill_tables();
+    test_read();
+    test_paths();
+    test_plan();
+    test_steps();
+    test_refused_steps();
+    test_texts();
+    number("OFIB_LARGEST", OFIB_LARGEST, 17564);
+    return failures != 0;
+}
