@@ -19,6 +19,7 @@ mod paths;
 mod plan;
 mod processes;
 mod refusal;
+mod sheet;
 mod step;
 mod text;
 mod works;

@@ -8,6 +8,7 @@ use crate::file;
 use crate::limits::{LARGEST_FILE, STEP, WIDTH};
 use crate::ofib;
 use crate::plan::{Record, Tables, plan};
+use crate::sheet::sheet;
 use crate::step::{self, Answer};
 use crate::text;
 
@@ -34,6 +35,8 @@ pub fn all() -> Vec<Work> {
         plan_of("plan-dense", dense),
         plan_of("plan-hypercube", areas::hypercube()),
         plan_of("plan-equal", areas::equal()),
+        sheet_of("sheet-sparse", areas::sparse()),
+        sheet_of("sheet-dense", areas::dense()),
         run_of("run-progress", &fresh, progress.clone(), step::run),
         run_of("run-mixed", &fresh, mixed.clone(), step::run),
         run_of("run-progress-by-value", &fresh, progress.clone(), by_value),
@@ -122,6 +125,36 @@ fn plan_of(name: &'static str, area: Area) -> Work {
         }),
         plain: Box::new(move || {
             black_box(&plan(black_box(WIDTH), &list, &mut rust));
+        }),
+    }
+}
+
+/// The running sheet of an area of 32 routers, with the plan that it needs.
+fn sheet_of(name: &'static str, area: Area) -> Work {
+    let (mut proved, mut rust) = (tables_of(&area), tables_of(&area));
+    let list = area.changes;
+    let mut routers = [0; WIDTH];
+    let number = ofib::sheet(WIDTH, &list, &mut lent(&mut proved), &mut routers);
+    let expected = sheet(WIDTH, &list, &mut rust);
+    require(
+        name,
+        number == 0 && expected.is_ok_and(|r| r == routers) && are_same(&proved, &rust),
+    );
+    let changes = list.clone();
+    Work {
+        name,
+        operation: "sheet",
+        operations: 1,
+        library: Box::new(move || {
+            black_box(ofib::sheet(
+                black_box(WIDTH),
+                &changes,
+                &mut lent(&mut proved),
+                black_box(&mut routers),
+            ));
+        }),
+        plain: Box::new(move || {
+            black_box(&sheet(black_box(WIDTH), &list, &mut rust));
         }),
     }
 }

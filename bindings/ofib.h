@@ -1,4 +1,4 @@
-// The ordered FIB bench for C and C++: the seven functions of the proved static library, x86-64 Linux.
+// The ordered FIB bench for C and C++: the eight functions of the proved static library, x86-64 Linux.
 //
 //     rt staticlib exports                                     # makes target/staticlib/libexports.a
 //     cc -I bindings program.c target/staticlib/libexports.a   # it needs memcpy and memset, and nothing else
@@ -89,7 +89,7 @@ enum {
 enum {
     OFIB_OK = 0,        // nothing is refused
     OFIB_IGNORED = 255, // of a step: a message that its receiver does not listen for
-    // Of ofib_read, ofib_paths and ofib_plan.
+    // Of ofib_read, ofib_paths, ofib_plan and ofib_sheet.
     OFIB_INCOMPLETE = 1,     // the file ends too early, or the list's length is no multiple of OFIB_ENTRY
     OFIB_TRAILING = 2,       // bytes follow the last step of the file
     OFIB_ROUTER_COUNT = 3,   // n is not 1 to 32
@@ -99,7 +99,7 @@ enum {
     OFIB_REPEATED = 7,       // the pair of a link or a change has been listed before
     OFIB_TABLE_SIZE = 8,     // a table's length is not OFIB_CELLS
     OFIB_TOO_MANY = 9,       // more than n * (n - 1) links, OFIB_MOST_CHANGES changes or OFIB_MOST_STEPS steps
-    // Of ofib_plan: the change.
+    // Of ofib_plan and ofib_sheet: the change.
     OFIB_NO_CHANGE = 10,        // the list is empty
     OFIB_SAME_METRIC = 11,      // the new metric of a link is its old one
     OFIB_MIXED = 12,            // neither every metric rises nor every metric falls
@@ -160,6 +160,23 @@ uint8_t ofib_plan(
     uint32_t due[OFIB_WHOLE OFIB_WIDTH],
     uint8_t states[OFIB_WHOLE OFIB_WIDTH],
     uint32_t written[OFIB_WHOLE OFIB_WIDTH]);
+
+// The running sheet: an order in which the routers can be upgraded. It takes what ofib_plan takes, fills the same
+// tables and refuses the same. `routers` gets the numbers of the n routers, each after all that it waits for, and of
+// those that could come next always the lowest; 0 from n on. Once every router has learned and is released, each in
+// turn writes all that is due, finishes, and has its message delivered to each router that it tells: no step is refused
+// or ignored.
+// Gives what ofib_plan gives. With a refusal no table is written, and `routers` becomes all 0.
+uint8_t ofib_sheet(
+    size_t n,
+    const uint32_t *OFIB_ALONE old, size_t old_len,
+    const uint8_t *OFIB_ALONE list, size_t list_len,
+    uint32_t *OFIB_ALONE new_, size_t new_len,
+    uint32_t *OFIB_ALONE old_dist, size_t old_dist_len,
+    uint32_t *OFIB_ALONE new_dist, size_t new_dist_len,
+    uint32_t *OFIB_ALONE old_hops, size_t old_hops_len,
+    uint32_t *OFIB_ALONE new_hops, size_t new_hops_len,
+    uint8_t routers[OFIB_WHOLE OFIB_WIDTH]);
 
 // Step: one step of a record, of which it reads n and five tables, and changes three of them in place.
 // Gives OFIB_OK, OFIB_IGNORED, or the first that applies of 20, 21, 4 and then those of its kind: 23 of learn and
@@ -243,6 +260,14 @@ static inline uint8_t ofib_record_plan(ofib_record *r, size_t n, ofib_tables *t,
     return ofib_plan(n, t->old, OFIB_CELLS, list, list_len, t->new_, OFIB_CELLS, t->old_dist, OFIB_CELLS, t->new_dist,
                      OFIB_CELLS, t->old_hops, OFIB_CELLS, t->new_hops, OFIB_CELLS, &r->n, &r->root, &r->direction,
                      r->ranks, r->waiting, r->telling, r->due, r->states, r->written);
+}
+
+// The running sheet over t->old: fills the other tables, and the routers in their order.
+static inline uint8_t ofib_tables_sheet(ofib_tables *t, size_t n, const uint8_t *list, size_t list_len,
+                                        uint8_t routers[OFIB_WIDTH])
+{
+    return ofib_sheet(n, t->old, OFIB_CELLS, list, list_len, t->new_, OFIB_CELLS, t->old_dist, OFIB_CELLS, t->new_dist,
+                      OFIB_CELLS, t->old_hops, OFIB_CELLS, t->new_hops, OFIB_CELLS, routers);
 }
 
 static inline uint8_t ofib_record_step(ofib_record *r, uint8_t kind, uint8_t a, uint8_t b)

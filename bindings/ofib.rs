@@ -95,6 +95,24 @@ mod c {
             states: *mut [u8; WIDTH],
             written: *mut [u32; WIDTH],
         ) -> u8;
+        pub fn ofib_sheet(
+            n: usize,
+            old: *const u32,
+            old_len: usize,
+            list: *const u8,
+            list_len: usize,
+            new: *mut u32,
+            new_len: usize,
+            old_dist: *mut u32,
+            old_dist_len: usize,
+            new_dist: *mut u32,
+            new_dist_len: usize,
+            old_hops: *mut u32,
+            old_hops_len: usize,
+            new_hops: *mut u32,
+            new_hops_len: usize,
+            routers: *mut [u8; WIDTH],
+        ) -> u8;
         pub fn ofib_step(
             n: u8,
             waiting: *mut [u32; WIDTH],
@@ -218,6 +236,31 @@ pub fn plan(n: usize, list: &[u8], t: &mut Tables, r: &mut Record) -> u8 {
             &mut r.due,
             &mut r.states,
             &mut r.written,
+        )
+    }
+}
+
+/// The running sheet: the number of Plan's refusal, or 0. `routers` gets the routers in their order, and the tables are
+/// filled as by Plan.
+pub fn sheet(n: usize, list: &[u8], t: &mut Tables, routers: &mut [u8; WIDTH]) -> u8 {
+    unsafe {
+        c::ofib_sheet(
+            n,
+            t.old.as_ptr(),
+            t.old.len(),
+            list.as_ptr(),
+            list.len(),
+            t.new.as_mut_ptr(),
+            t.new.len(),
+            t.old_dist.as_mut_ptr(),
+            t.old_dist.len(),
+            t.new_dist.as_mut_ptr(),
+            t.new_dist.len(),
+            t.old_hops.as_mut_ptr(),
+            t.old_hops.len(),
+            t.new_hops.as_mut_ptr(),
+            t.new_hops.len(),
+            routers,
         )
     }
 }

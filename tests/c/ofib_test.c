@@ -99,6 +99,9 @@ static const uint8_t change[] = {1, 2, 255, 255, 255, 2, 1, 255, 255, 255};
 static const ofib_record fresh = {3, 2, OFIB_RISE, {0, 1, 2}, {0, 1, 2}, {2, 4, 0}, {4, 4, 3}, {0}, {0}};
 static const ofib_record blank;
 
+// The routers on the running sheet, and on the one of a refusal.
+static const uint8_t in_order[OFIB_WIDTH] = {0, 1, 2}, no_order[OFIB_WIDTH];
+
 // What the tables hold before a call that must not write them.
 #define UNTOUCHED 7u
 static ofib_tables tables, untouched, planned;
@@ -184,7 +187,18 @@ static void test_paths(void)
     untouched.old[1] = 1;
 }
 
-// One plan of the triangle: its answer, and the record and the tables that it leaves.
+// The running sheet of the triangle: its answer, and the order of the routers and the tables that it leaves.
+static void one_sheet(const char *what, const uint8_t *list, size_t list_len, uint8_t answer)
+{
+    uint8_t routers[OFIB_WIDTH];
+    memset(routers, UNTOUCHED, sizeof routers);
+    tables = untouched;
+    number(what, ofib_tables_sheet(&tables, 3, list, list_len, routers), answer);
+    bytes(what, routers, answer == OFIB_OK ? in_order : no_order, OFIB_WIDTH);
+    same_tables(what, answer == OFIB_OK ? &planned : &untouched);
+}
+
+// One plan of the triangle: its answer, and the record and the tables that it leaves. Then its running sheet.
 static void one_plan(const char *what, const uint8_t *list, size_t list_len, uint8_t answer)
 {
     ofib_record r = fresh;
@@ -193,9 +207,28 @@ static void one_plan(const char *what, const uint8_t *list, size_t list_len, uin
     number(what, ofib_record_plan(&r, 3, &tables, list, list_len), answer);
     records(what, &r, answer == OFIB_OK ? &fresh : &blank);
     same_tables(what, answer == OFIB_OK ? &planned : &untouched);
+    one_sheet(what, list, list_len, answer);
 }
 
-// The same with another length for each of its six tables.
+// The same with another length for each of the six tables.
+static void test_sheet_sizes(void)
+{
+    size_t lens[6] = {OFIB_CELLS, OFIB_CELLS, OFIB_CELLS, OFIB_CELLS, OFIB_CELLS, OFIB_CELLS};
+    const char *what = "ofib_sheet, 1,023 cells";
+    for (size_t k = 0; k < 6; k++) {
+        uint8_t routers[OFIB_WIDTH] = {2, 1};
+        tables = untouched;
+        lens[k] = OFIB_CELLS - 1;
+        number(what, ofib_sheet(3, tables.old, lens[0], change, sizeof change, tables.new_, lens[1], tables.old_dist,
+                                lens[2], tables.new_dist, lens[3], tables.old_hops, lens[4], tables.new_hops, lens[5],
+                                routers),
+               OFIB_TABLE_SIZE);
+        bytes(what, routers, no_order, OFIB_WIDTH);
+        same_tables(what, &untouched);
+        lens[k] = OFIB_CELLS;
+    }
+}
+
 static void test_plan_sizes(void)
 {
     size_t lens[6] = {OFIB_CELLS, OFIB_CELLS, OFIB_CELLS, OFIB_CELLS, OFIB_CELLS, OFIB_CELLS};
@@ -220,9 +253,13 @@ static void test_fall(void)
 {
     static const uint8_t list[] = {1, 2, 0, 0, 1, 2, 1, 0, 0, 1};
     static const ofib_record wanted = {3, 2, OFIB_FALL, {2, 1, 0}, {2, 4, 0}, {0, 1, 2}, {4, 4, 3}, {0}, {0}};
+    static const uint8_t order[OFIB_WIDTH] = {2, 1, 0};
     ofib_record r = blank;
+    uint8_t routers[OFIB_WIDTH] = {0};
     tables = untouched;
     memcpy(tables.old, planned.new_, sizeof tables.old);
+    number("ofib_sheet, C2", ofib_tables_sheet(&tables, 3, list, sizeof list, routers), OFIB_OK);
+    bytes("ofib_sheet, C2", routers, order, OFIB_WIDTH);
     number("ofib_plan, C2", ofib_record_plan(&r, 3, &tables, list, sizeof list), OFIB_OK);
     records("ofib_plan, C2", &r, &wanted);
     cells("ofib_plan, C2, new metrics", tables.new_, planned.old, OFIB_CELLS);
@@ -251,6 +288,7 @@ static void test_plan(void)
     one_plan("ofib_plan, up and down", mixed, sizeof mixed, OFIB_MIXED);
     one_plan("ofib_plan, three links", apart, sizeof apart, OFIB_NO_COMMON_ROUTER);
     test_plan_sizes();
+    test_sheet_sizes();
     test_fall();
 }
 

@@ -5,10 +5,10 @@ use std::fmt::Debug;
 use crate::counts::{Counts, Numbers};
 use crate::flaw::Flaw;
 use crate::lent::{Lent, RIGHT_SIZES, SixTables};
-use crate::ofib::{self, Answer, CELLS, Contents, Record, Tables};
+use crate::ofib::{self, Answer, CELLS, Contents, Record, Tables, WIDTH};
 use crate::paths::{self, UNUSED};
 use crate::random::Random;
-use crate::{plan, read, step, text};
+use crate::{plan, read, sheet, step, steps, text};
 
 /// Room for every text.
 pub const ROOM: usize = 147_456;
@@ -69,7 +69,7 @@ impl Comparison {
         Ok(answer)
     }
 
-    /// The sizes are those of the five tables that Plan fills.
+    /// Plan, and the running sheet of the same input. The sizes are those of the five tables that both fill.
     pub fn plan(
         &mut self,
         random: &mut Random,
@@ -82,8 +82,9 @@ impl Comparison {
         let mut tables = SixTables::filled(random, [0, new, old_dist, new_dist, old_hops, new_hops]);
         tables.tables[0] = Lent::holding(random, old);
         let mut model_tables = tables.clone();
+        let of_sheet = tables.clone();
         // The record is handed back whole, so nothing that it held before may be left in it.
-        let mut record = crate::steps::any_record(random);
+        let mut record = steps::any_record(random);
         let mut model_record = record.clone();
         let answer = ofib::plan(n, list, &mut tables.lend(), &mut record);
         let model = plan::plan(n, list, &mut model_tables.lend(), &mut model_record, self.flaw);
@@ -91,10 +92,56 @@ impl Comparison {
         tables.compare(&model_tables, "Plan")?;
         records("Plan's record", &record, &model_record)?;
         self.counts.plan[usize::from(answer)] += 1;
+        let planned = Planned { answer, record, tables };
+        let routers = self.sheet(random, n, of_sheet, list, &planned)?;
         if answer == 0 {
-            self.counts.accepted(record.n, record.direction);
+            self.counts.accepted(planned.record.n, planned.record.direction);
+            self.follow(&planned.record, &routers)?;
         }
-        Ok(Planned { answer, record, tables })
+        Ok(planned)
+    }
+
+    /// The sheet beside the model's one of the plan, and beside what the plan answered and left in its tables, which
+    /// has been compared.
+    fn sheet(
+        &mut self,
+        random: &mut Random,
+        n: usize,
+        mut tables: SixTables,
+        list: &[u8],
+        planned: &Planned,
+    ) -> Result<[u8; WIDTH], String> {
+        let before = std::array::from_fn(|_| random.byte());
+        let mut routers = before;
+        let answer = ofib::sheet(n, list, &mut tables.lend(), &mut routers);
+        same("the sheet's answer", answer, planned.answer)?;
+        tables.compare(&planned.tables, "the sheet")?;
+        entries("the sheet", &routers, &sheet::sheet(&planned.record, before, self.flaw))?;
+        self.counts.sheet[usize::from(answer)] += 1;
+        Ok(routers)
+    }
+
+    /// Following the sheet, no step is refused or ignored, and in the end every router is done.
+    fn follow(&mut self, fresh: &Record, routers: &[u8; WIDTH]) -> Result<(), String> {
+        let (mut library, mut model) = (fresh.clone(), fresh.clone());
+        let following = sheet::following(fresh, &routers[..usize::from(fresh.n)]);
+        for &call in &following {
+            let answer = self.step(&mut library, &mut model, call)?;
+            if answer != Answer::Ok {
+                return Err(format!("following the sheet {routers:?}, step {call:?}: {answer:?}"));
+            }
+        }
+        let last = self.run(fresh, following.as_flattened())?;
+        records(
+            "following the sheet, record after run beside that after the single steps",
+            &last,
+            &library,
+        )?;
+        if !steps::all_done(&last) {
+            return Err(format!("following the sheet {routers:?} ends with {last:?}"));
+        }
+        self.counts.followed += 1;
+        Ok(())
     }
 
     /// One step of the library's record and of the model's.

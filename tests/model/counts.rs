@@ -29,6 +29,8 @@ pub struct Counts {
     pub falls: [u64; 33],
     pub sizes: [u64; 33],
     pub finished_runs: u64,
+    /// Running sheets that were followed to their end.
+    pub followed: u64,
     pub files: u64,
     pub short_texts: u64,
     pub processes: u64,
@@ -37,6 +39,7 @@ pub struct Counts {
     pub small_plans: [u64; 5],
     pub paths: Numbers,
     pub plan: Numbers,
+    pub sheet: Numbers,
     pub read: Numbers,
     pub rehearsal: Numbers,
     pub routes: Numbers,
@@ -55,6 +58,7 @@ impl Counts {
             falls: [0; 33],
             sizes: [0; 33],
             finished_runs: 0,
+            followed: 0,
             files: 0,
             short_texts: 0,
             processes: 0,
@@ -63,6 +67,7 @@ impl Counts {
             small_plans: [0; 5],
             paths: [0; 256],
             plan: [0; 256],
+            sheet: [0; 256],
             read: [0; 256],
             rehearsal: [0; 256],
             routes: [0; 256],
@@ -125,9 +130,11 @@ impl Counts {
 
     fn missing_numbers(&self, missing: &mut Vec<String>) {
         let of_texts: &[usize] = &[0, 1, 2, 3, 4, 5, 6, 7, 8, 9, 10, 11, 12, 13];
-        let calls: [(&str, &Numbers, &[usize]); 5] = [
+        let of_plan: &[usize] = &[0, 1, 3, 4, 5, 6, 7, 8, 9, 10, 11, 12, 13];
+        let calls: [(&str, &Numbers, &[usize]); 6] = [
             ("Paths", &self.paths, &[0, 3, 6, 8]),
-            ("Plan", &self.plan, &[0, 1, 3, 4, 5, 6, 7, 8, 9, 10, 11, 12, 13]),
+            ("Plan", &self.plan, of_plan),
+            ("the sheet", &self.sheet, of_plan),
             ("Read", &self.read, &[0, 1, 2, 3, 4, 5, 6, 7, 8, 9]),
             ("rehearsal", &self.rehearsal, of_texts),
             ("routes", &self.routes, of_texts),
@@ -197,6 +204,7 @@ impl Counts {
         println!("runs in which every router got done: {}", self.finished_runs);
         println!("Paths: {}", answers(&self.paths));
         println!("Plan: {}", answers(&self.plan));
+        println!("sheets: {}; followed {}", answers(&self.sheet), self.followed);
         println!("Read: {}", answers(&self.read));
         println!("rehearsal: {}", answers(&self.rehearsal));
         println!("routes: {}", answers(&self.routes));

@@ -35,9 +35,15 @@ pub enum Flaw {
     RehearsalExchanges,
     /// The routes change a cell of the new metrics where the file is refused.
     RoutesTouchRefused,
+    /// Of the routers that could come next on the sheet, the highest number is taken.
+    SheetHighestFirst,
+    /// The sheet goes by rank.
+    SheetByRank,
+    /// A refusal leaves the sheet as it was.
+    SheetKeptIfRefused,
 }
 
-pub const FLAWS: [Flaw; 16] = [
+pub const FLAWS: [Flaw; 19] = [
     Flaw::ReadTwoForOne,
     Flaw::ReadKeepsLinks,
     Flaw::MaximumUsed,
@@ -54,4 +60,7 @@ pub const FLAWS: [Flaw; 16] = [
     Flaw::RouteNeedsBoth,
     Flaw::RehearsalExchanges,
     Flaw::RoutesTouchRefused,
+    Flaw::SheetHighestFirst,
+    Flaw::SheetByRank,
+    Flaw::SheetKeptIfRefused,
 ];

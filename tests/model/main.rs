@@ -1,4 +1,4 @@
-//! Compares the proved library with a model that is written from 01 alone.
+//! Compares the proved library with a model that is written from 01 and 02 alone.
 
 mod area_cases;
 mod areas;
@@ -23,6 +23,7 @@ mod process;
 mod random;
 mod reachable;
 mod read;
+mod sheet;
 mod step;
 mod steps;
 mod text;

@@ -1,5 +1,5 @@
-//! The printed rehearsal and the small areas C1 to C13 of 01: the model must give what 01 says, and the library the
-//! same.
+//! The printed rehearsal and the small areas C1 to C13 of 01, and running sheets of them: the model must give what is
+//! worked out there by hand, and the library the same.
 
 use crate::areas::Area;
 use crate::changes::bytes_of;
@@ -12,6 +12,7 @@ use crate::ofib::{Answer, CELLS, Record};
 use crate::paths::{UNUSED, at, paths};
 use crate::plan::{Change, plan};
 use crate::random::Random;
+use crate::sheet::sheet;
 use crate::step::step;
 use crate::text::rehearsal;
 
@@ -52,7 +53,8 @@ pub fn check_model() -> Result<(), String> {
     orders()?;
     path_examples()?;
     refusals()?;
-    printed_steps()
+    printed_steps()?;
+    sheets()
 }
 
 /// The examples on the library beside the model.
@@ -173,6 +175,28 @@ fn printed_steps() -> Result<(), String> {
         .collect();
     same("C11", answers[2], Answer::Refused(24))?;
     same("C12", (answers[7], answers[8]), (Answer::Ok, Answer::Ignored))
+}
+
+/// Running sheets: C1, C2, C4, an area whose order by rank is another one, and C9, which is refused.
+fn sheets() -> Result<(), String> {
+    let of = |n, links: &[Link], changes: &[Link]| sheet(&planned(n, links, changes).1, [9; 32], Flaw::None);
+    let places = |routers: &[u8]| std::array::from_fn(|place| routers.get(place).copied().unwrap_or(0));
+    same("C1, sheet", of(3, &FIRST_LINKS, &FIRST_CHANGES), places(&[0, 1, 2]))?;
+    let links = [(0, 1, 1), (1, 0, 1), (0, 2, 3), (2, 0, 3)];
+    same("C2, sheet", of(3, &links, &[(1, 2, 1), (2, 1, 1)]), places(&[2, 1, 0]))?;
+    let reversed = [FIRST_CHANGES[1], FIRST_CHANGES[0]];
+    same("C4, sheet", of(3, &FIRST_LINKS, &reversed), places(&[0, 2, 1]))?;
+    let links = [(0, 1, 1), (1, 0, 1), (1, 3, 1), (3, 1, 1), (2, 3, 1), (3, 2, 1)];
+    same(
+        "sheet beside ranks 0, 1, 0, 2",
+        of(4, &links, &[(2, 3, 2), (1, 3, 2)]),
+        places(&[0, 1, 2, 3]),
+    )?;
+    same(
+        "C9, sheet",
+        of(4, &[(0, 1, 1), (2, 3, 1)], &[(0, 1, 2), (2, 3, 2)]),
+        [0; 32],
+    )
 }
 
 /// The examples as bench files.

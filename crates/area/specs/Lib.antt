@@ -1,7 +1,7 @@
 -- What the words of 01 mean that every layer uses. The definitions, in reading order:
 --     Limits           how many routers, changes and steps; the metric and the distance that stand for "none"
 --     Refusals         the refusals, by name and number
---     Tests            tests, and the first refusal of several
+--     Tests            tests, the first refusal of several, and the lowest number that passes a test
 --     Sizes            the sizes that a call checks first
 --     Tables           tables of rows of cells, and tables per router
 --     Lists            what stands in a list of numbers
@@ -14,6 +14,7 @@ pub mod Tables
 pub mod Lists
 pub mod RefusalLaws
 pub mod TestLaws
+pub mod LowestLaws
 pub mod SizeLaws
 pub mod TableLaws
 pub mod RowLaws

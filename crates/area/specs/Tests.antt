@@ -2,7 +2,7 @@
 -- tests a = b.
 use Prim.Native.Nat.{ℕ, zero, suc}
 use mathlib.Core.Bool.{Bool, true, false, _&&_}
-use lib.Dec.{eqb}
+use lib.Dec.{eqb, ltb}
 
 -- a where the test holds, and b where it does not
 abbrev pub pick : {A : Type 0} (test : Bool) (a b : A) → A
@@ -22,3 +22,8 @@ orThen a b = pick (eqb a 0) b a
 unfoldable pub first : (n : ℕ) (f : ℕ → ℕ) → ℕ
 first zero f = 0
 first (suc n) f = orThen (first n f) (f n)
+
+-- the lowest number below n that passes the test p, and n where none does
+unfoldable pub lowest : (n : ℕ) (p : ℕ → Bool) → ℕ
+lowest zero p = 0
+lowest (suc n) p = pick (ltb (lowest n p) n) (lowest n p) (pick (p n) n (suc n))

@@ -2,6 +2,7 @@
 // structs and enums. A refusal is its number, 0 where nothing is refused; a record is lent field by field.
 //     ofib_read                       Read: the file's metrics, and what it says of itself
 //     ofib_paths, ofib_plan           Paths and Plan
+//     ofib_sheet                      the running sheet of a plan
 //     ofib_step, ofib_run             one step, and all the steps of a list
 //     ofib_rehearse, ofib_routes      the texts that the programs print
 // Module `fields` takes a record from its fields and puts it back, and makes a number of a step's answer. Each function
@@ -17,6 +18,7 @@ ghost use mathlib.Core.Path.{_≡_};
 ghost use Rattle.paths.specs.Paths.{pathsRefusal, distancesOf, hopsOf};
 ghost use Rattle.plan.specs.declared.Record.{Record};
 ghost use Rattle.plan.specs.Plan.{asTables, areTables, planRefusal, recordOf, tablesOf};
+ghost use Rattle.sheet.specs.Sheet.{sheetOf};
 ghost use Rattle.machine.specs.Machine.{over, stepOf};
 ghost use Rattle.machine.specs.Run.{run, callsOf};
 ghost use Rattle.bench_file.specs.Read.{readRefusal, contentsOf, metricsOf};
@@ -123,6 +125,44 @@ pub extern "C" fn ofib_plan(
         written,
     );
     let answer = planned.answer;
+    answer.number()
+}
+
+// The running sheet: Plan's input and tables, and `routers` gets the routers in their order.
+#[no_mangle]
+pub extern "C" fn ofib_sheet(
+    n: usize,
+    old: &[u32],
+    list: &[u8],
+    new: &mut [u32],
+    old_dist: &mut [u32],
+    new_dist: &mut [u32],
+    old_hops: &mut [u32],
+    new_hops: &mut [u32],
+    routers: &mut [u8; WIDTH],
+) -> u8
+    ensures answer { λ r.
+        let lent = asTables (now (new .entry))
+        (now («old_dist» .entry)) (now («new_dist» .entry))
+        (now («old_hops» .entry)) (now («new_hops» .entry)) in
+        ⌜ r ≡ planRefusal n (now (old .entry)) (now (list .entry)) (areTables (now (old .entry)) lent) ⌝ }
+    ensures routers { λ _.
+        let lent = asTables (now (new .entry))
+        (now («old_dist» .entry)) (now («new_dist» .entry))
+        (now («old_hops» .entry)) (now («new_hops» .entry)) in
+        ⌜ now (routers .exit) ≡ sheetOf (recordOf n (now (old .entry)) (now (list .entry)) lent) ⌝ }
+    ensures tables { λ _.
+        let lent = asTables (now (new .entry))
+        (now («old_dist» .entry)) (now («new_dist» .entry))
+        (now («old_hops» .entry)) (now («new_hops» .entry)) in
+        ⌜ asTables (now (new .exit)) (now («old_dist» .exit)) (now («new_dist» .exit))
+        (now («old_hops» .exit)) (now («new_hops» .exit))
+        ≡ tablesOf n (now (old .entry)) (now (list .entry)) lent ⌝ }
+{
+    let made = sheet::sheet(n, old, list, new, old_dist, new_dist, old_hops, new_hops);
+    let of_routers = made.routers;
+    *routers = of_routers;
+    let answer = made.answer;
     answer.number()
 }
 

@@ -3,4 +3,5 @@ pub mod Hex
 pub mod ReadingLaws
 pub mod HexLaws
 pub mod FaultLaws
+pub mod PairLaws
 pub mod BinaryLaws

@@ -7,3 +7,6 @@ pub mod StepLaws
 pub mod MoveLaws
 pub mod CallLaws
 pub mod RunLaws
+pub mod HeldLaws
+pub mod OkLaws
+pub mod OrderedLaws

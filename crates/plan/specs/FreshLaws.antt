@@ -3,8 +3,8 @@
 --     plan-differs, plan-larger, plan-smaller      metrics differ only in pairs with the root as an end, and all the
 --                                              same way
 --     plan-elsewhere, plan-rises, plan-falls   the same of the two topologies
---     fresh-count, fresh-size, fresh-rank, fresh-waiting, fresh-telling, fresh-due, fresh-state, fresh-written,
---     fresh-beyond                             the fresh record's entries
+--     fresh-count, fresh-size, fresh-states-size, fresh-waiting-size, fresh-rank, fresh-waiting, fresh-telling,
+--     fresh-due, fresh-state, fresh-written, fresh-beyond      the fresh record's sizes and entries
 use Prim.Native.Nat.{ℕ, _≤_, _<_}
 use mathlib.Core.Path.{_≡_, refl, sym, _∙_}
 use mathlib.Core.Bool.{true, false, false≢true}
@@ -15,7 +15,7 @@ use lib.ListN.{length, getD, length-replicate}
 use Rattle.area.specs.Limits.{width}
 use Rattle.area.specs.TestLaws.{look}
 use Rattle.area.specs.Tables.{cell}
-use Rattle.area.specs.PerRouterLaws.{per-at, per-beyond, zeros-at}
+use Rattle.area.specs.PerRouterLaws.{per-length, per-at, per-beyond, zeros-at}
 use Rattle.topology.specs.Topology.{topology}
 use Rattle.ranks.specs.Rank.{rank}
 use Rattle.changes.specs.Changes.{isRise, isFall}
@@ -100,6 +100,15 @@ module _ (n : ℕ) (m l : List ℕ) where
   pub fresh-size : length (fresh n m l .written) ≡ width
   unfolding fresh
   fresh-size = length-replicate {A = ℕ} width 0
+
+  -- and a state and a waiting set
+  pub fresh-states-size : length (fresh n m l .states) ≡ width
+  unfolding fresh
+  fresh-states-size = length-replicate {A = ℕ} width 0
+
+  pub fresh-waiting-size : length (fresh n m l .waiting) ≡ width
+  unfolding fresh
+  fresh-waiting-size = per-length width n (waiting n m l)
 
   pub fresh-state : (r : ℕ) → getD (fresh n m l .states) r 0 ≡ 0
   unfolding fresh

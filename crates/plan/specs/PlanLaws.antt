@@ -3,7 +3,7 @@
 --     plan-cut, plan-many, plan-none, Listed       of the list's length,
 --     plan-faulty, plan-mixed, plan-apart          of its changes
 --     Plan, planned-is     an input is planned exactly where none of 01's conditions for a refusal holds
---     record-planned, record-refused, tables-planned, tables-refused       what is handed back and left
+--     record-planned, record-refused, refused-count, tables-planned, tables-refused    what is handed back and left
 --     filled-size      the tables that are filled have the right size
 -- The tests of the ladder are taken one after another: a refusal is given where its test is the first to fail, and so
 -- an input that is given none has passed all of them.
@@ -248,6 +248,11 @@ module _ (n : ℕ) (m l : List ℕ) where
     pub record-refused : isPlanned n m l t ≡ false → recordOf n m l t ≡ blank
     unfolding recordOf
     record-refused e = rw e refl
+
+    -- the record of a refusal has no routers
+    pub refused-count : planRefusal n m l (areTables m t) ≢ 0 → recordOf n m l t .n ≡ 0
+    unfolding blank
+    refused-count f = rw (record-refused (planned-false f)) refl
 
     pub tables-planned : isPlanned n m l t ≡ true → tablesOf n m l t ≡ filled n m l
     unfolding tablesOf

@@ -4,7 +4,7 @@
 --     tells-waits, waits-inside    telling is waiting seen from the other end; both ends are routers of the area
 --     waiting-distinct, waiting-rank, waiting-less     waiting never goes round in a circle, so ranks are over chains
 --                                  of any length, and a router ranks above those it waits for
---     due-at                       what is due, destination by destination
+--     due-at, due-inside           what is due, destination by destination; every one is a router of the area
 -- In a rise a router waits for those farther from the root in the old topology, in a fall for those nearer to it in the
 -- new one. So a distance to the root bounds every chain of waiting, and the laws of ranks apply.
 use Prim.Native.Nat.{ℕ, _-_, _≤_, _<_}
@@ -135,3 +135,8 @@ module _ (n : ℕ) (m l : List ℕ) (most : n ≤ width) where
       Iff·trans
       (set-is n (λ d. not (eqb (oldHops n m r d) (newHops n m l r d))) d (λ e. h))
       ((λ e. eqb-false a b (not-true (eqb a b) e)), (λ f. rw (ne-eqb a b f) refl))
+
+pub due-inside : (n : ℕ) (m l : List ℕ) (r d : ℕ) → bit (due n m l r) d ≡ true → d < n
+unfolding due
+due-inside n m l r d e =
+    bit-lt n (due n m l r) d (setOf-lt n (λ d. not (eqb (oldHops n m r d) (newHops n m l r d)))) e

@@ -2,7 +2,7 @@
 -- bytes are enough for every program (01, "The rehearsal").
 -- Why: a file that is not refused has no byte beyond them (first-all); of one that is refused the number of the refusal
 -- is all that is printed, and it is the same for them (refusal-first).
---     rehearsal-first, routes-first      what `rehearse` and `routes` print
+--     rehearsal-first, routes-first, sheet-turns-first, sheet-steps-first      what each function prints
 use Prim.Native.Nat.{ℕ, _<_}
 use mathlib.Core.Path.{_≡_, sym, ap, _∙_}
 use mathlib.Core.Logic.{_≢_}
@@ -14,11 +14,12 @@ use Rattle.bench_file.specs.Sections.{largest}
 use Rattle.text.specs.Text.{word, line}
 use Rattle.prepare.specs.Bench.{refusal}
 use Rattle.prepare.specs.BenchLaws.{first-all, refusal-first}
-use Rattle.report.specs.Report.{rehearsal, routes}
+use Rattle.report.specs.Report.{rehearsal, routes, sheetTurns, sheetSteps}
 use Rattle.report.specs.ReportLaws.{rehearsal-refused, routes-refused}
+use Rattle.report.specs.ReportLaws.{sheet-turns-refused, sheet-steps-refused}
 
 module _ (f m : List ℕ) (t : Tables) (k : ℕ) (more : largest < k) where
-  -- both texts are such: where something is refused, they are the line of its number
+  -- all texts are such: where something is refused, they are the line of its number
   text-first :
       (text : List ℕ → List ℕ)
       → ((g : List ℕ) → refusal g m t ≢ 0 → text g ≡ line (word "refused ") (refusal g m t))
@@ -40,3 +41,9 @@ module _ (f m : List ℕ) (t : Tables) (k : ℕ) (more : largest < k) where
 
   pub routes-first : routes (take k f) m t ≡ routes f m t
   routes-first = text-first (λ g. routes g m t) (λ g. routes-refused g m t)
+
+  pub sheet-turns-first : sheetTurns (take k f) m t ≡ sheetTurns f m t
+  sheet-turns-first = text-first (λ g. sheetTurns g m t) (λ g. sheet-turns-refused g m t)
+
+  pub sheet-steps-first : sheetSteps (take k f) m t ≡ sheetSteps f m t
+  sheet-steps-first = text-first (λ g. sheetSteps g m t) (λ g. sheet-steps-refused g m t)

@@ -1,23 +1,31 @@
 -- How many bytes the lines have at most. A word has its own length and a number at most ten digits (`field-most` and
 -- `line-most` of the crate text), so each line is bounded by the sum of its parts; all lines of a kind are bounded by
 -- that for each of them.
---     refused-most, router-most, step-most, route-most    one line
---     routers-most, steps-most, routes-most               all lines of a kind
+--     refused-most, router-most, step-most, route-most, turn-most, call-most      one line
+--     routers-most, steps-most, routes-most, turns-most, section-most             all lines of a kind
 use Prim.Native.Nat.{ℕ, zero, suc, _+_, _*_, _≤_}
-use mathlib.Core.Logic.{⊎-elim}
+use mathlib.Core.Path.{_≡_}
+use mathlib.Core.Bool.{true, false}
+use mathlib.Core.Logic.{_⊎_, inl, inr, ⊎-elim}
 use mathlib.Core.List.{List, [], _∷_}
 use native.Mathlib.Omega.{arith}
-use lib.Dec.{eqb}
+use borrow.Author.Tests.{leb-true}
+use lib.Dec.{eqb, leb}
 use lib.ListN.{length, getD, length-append}
-use Rattle.area.specs.Limits.{width, unreached}
+use Rattle.area.specs.Limits.{width, unreached, mostSteps}
 use Rattle.area.specs.TestLaws.{look}
+use Rattle.sets.specs.Sets.{bit}
 use Rattle.plan.specs.declared.Record.{Record}
 use Rattle.machine.specs.Answers.{Reply, ok, ignored, refused}
+use Rattle.machine.specs.Machine.{dueOf, tellingOf}
+use Rattle.machine.specs.Run.{Call}
 use Rattle.text.specs.Text.{word}
 use Rattle.text.specs.TextLaws.{field-most, line-most}
 use Rattle.report.specs.declared.lines.Path.{Path}
 use Rattle.report.specs.Lines.{refusedLine, routerLine, routerLines, answerText, stepLine, stepLines}
 use Rattle.report.specs.Lines.{pathText, routeLine, isPrinted, pairText, path, rowLines, routeLines}
+use Rattle.report.specs.Lines.{memberWord, memberText, setText, turnLine, turnLines}
+use Rattle.report.specs.Lines.{hexByte, countLine, callLine, callLines, stepSection}
 
 -- ---- one line
 refused-most : (k : ℕ) → length (refusedLine k) ≤ 19
@@ -62,6 +70,38 @@ pair-most : (i j : ℕ) (p q : Path) → length (pairText i j p q) ≤ 88
 unfolding pairText
 pair-most i j p q = ⊎-elim (λ t. rw t (route-most i j p q)) (λ f. rw f (omega arith)) (look (isPrinted i j p q))
 
+member-most : (set k : ℕ) → length (memberWord set k) ≤ 11
+unfolding memberWord
+member-most set k =
+    let named = field-most (word " ") k in
+    ⊎-elim (λ t. rw t (omega arith)) (λ f. rw f (omega arith)) (look (bit set k))
+
+members-most : (set k : ℕ) → length (memberText set k) ≤ 11 * k
+unfolding memberText
+members-most set zero = omega arith
+members-most set (suc k) = simp length-append (omega (arith, members-most set k, member-most set k))
+
+set-most : (set : ℕ) → length (setText set) ≤ 11 * width
+unfolding setText
+set-most set =
+    let members = members-most set width in
+    ⊎-elim (λ t. rw t (omega arith)) (λ f. rw f (omega arith)) (look (eqb set 0))
+
+turn-most : (k a writes tells : ℕ) → length (turnLine k a writes tells) ≤ 47 + 22 * width
+unfolding turnLine
+turn-most k a writes tells =
+    let counted = field-most (word "turn ") k in
+    let named = field-most (word " router ") a in
+    simp length-append (omega (arith, set-most writes, set-most tells))
+
+count-most : (count : ℕ) → length (countLine count) ≤ 5
+unfolding countLine hexByte
+count-most count = omega arith
+
+call-most : (c : Call) → length (callLine c) ≤ 9
+unfolding callLine hexByte
+call-most c = omega arith
+
 -- ---- all lines of a kind
 pub routers-most : (r : Record) (k : ℕ) → length (routerLines r k) ≤ 83 * k
 unfolding routerLines
@@ -87,3 +127,27 @@ module _ (d h e g : List ℕ) where
   unfolding routeLines
   routes-most n zero b = omega arith
   routes-most n (suc k) b = simp length-append (omega (arith, routes-most n k b, row-most k n))
+
+pub turns-most : (r : Record) (places : List ℕ) (k : ℕ) → length (turnLines r places k) ≤ (47 + 22 * width) * k
+unfolding turnLines
+turns-most r places zero = omega arith
+turns-most r places (suc k) =
+    let a = getD places k 0 in
+    simp length-append (omega (arith, turns-most r places k, turn-most (k + 1) a (dueOf r a) (tellingOf r a)))
+
+calls-most : (calls : List Call) → length (callLines calls) ≤ 9 * length calls
+unfolding callLines
+calls-most [] = omega arith
+calls-most (c ∷ cs) = simp length-append (omega (arith, call-most c, calls-most cs))
+
+pub section-most : (calls : List Call) → length (stepSection calls) ≤ 27 + 9 * mostSteps
+unfolding stepSection
+section-most calls = by-count (look (leb (length calls) mostSteps))
+  where
+    by-count :
+        (leb (length calls) mostSteps ≡ true) ⊎ (leb (length calls) mostSteps ≡ false)
+        → length (stepSection calls) ≤ 27 + 9 * mostSteps
+    by-count (inl t) =
+        let few = leb-true (length calls) mostSteps t in
+        rw t (simp length-append (omega (arith, count-most (length calls), calls-most calls)))
+    by-count (inr f) = rw f (omega (arith, line-most (word "too many steps: ") (length calls)))

@@ -2,7 +2,10 @@
 pub mod Lines
 pub mod Report
 pub mod LineLaws
+pub mod SheetLineLaws
+pub mod CallLineLaws
 pub mod LengthLaws
 pub mod ReportLaws
 pub mod RoomLaws
 pub mod FirstBytesLaws
+pub mod StepsReadLaws

@@ -1,15 +1,19 @@
--- The lines that the programs print, as bytes: those of the rehearsal (01, "The rehearsal"), and those of the routes,
--- which are our own (docs/DECISIONS.md).
-use Prim.Native.Nat.{ℕ, zero, suc, _+_}
+-- The lines that the programs print, as bytes: those of the rehearsal (01, "The rehearsal"), and those of the routes
+-- and of the running sheet, which are our own (docs/DECISIONS.md).
+use Prim.Native.Nat.{ℕ, zero, suc, _+_, _/_, _%_}
 use mathlib.Core.Bool.{Bool, not, _&&_}
 use mathlib.Core.List.{List, [], _∷_, _++_}
-use lib.Dec.{eqb}
-use lib.ListN.{getD}
-use Rattle.area.specs.Limits.{width, unreached}
+use lib.Dec.{eqb, ltb, leb}
+use lib.ListN.{length, getD}
+use Rattle.area.specs.Limits.{width, unreached, mostSteps}
 use Rattle.area.specs.Tests.{pick}
 use Rattle.area.specs.Tables.{cell}
+use Rattle.sets.specs.Sets.{bit}
 use Rattle.plan.specs.declared.Record.{Record}
 use Rattle.machine.specs.Answers.{Reply, ok, ignored, refused}
+use Rattle.machine.specs.Machine.{dueOf, tellingOf}
+use Rattle.machine.specs.Run.{Call}
+use Rattle.sheet.specs.Sheet.{sheetOf}
 use Rattle.text.specs.Text.{word, field, line}
 use Rattle.report.specs.declared.lines.Path.{Path}
 
@@ -95,3 +99,76 @@ module _ (d h e g : List ℕ) where
   unfoldable pub routeLines : (n k : ℕ) → List ℕ
   routeLines n zero = []
   routeLines n (suc k) = routeLines n k ++ rowLines k n
+
+-- ---- the running sheet (02, No. 1)
+-- router k after a space, where it is a member of a set
+unfoldable pub memberWord : (set k : ℕ) → List ℕ
+memberWord set k = pick (bit set k) (field (word " ") k) []
+
+-- the members of a set that are below k
+unfoldable pub memberText : (set k : ℕ) → List ℕ
+memberText set zero = []
+memberText set (suc k) = memberText set k ++ memberWord set k
+
+-- the members of a set, or that it has none
+unfoldable pub setText : (set : ℕ) → List ℕ
+setText set = pick (eqb set 0) (word " none") (memberText set width)
+
+-- turn k: router a writes the destinations of one set, and its message goes to the routers of another
+unfoldable pub turnLine : (k a writes tells : ℕ) → List ℕ
+turnLine k a writes tells =
+    field (word "turn ") k ++
+    (field (word " router ") a ++
+    (word " writes" ++
+    (setText writes ++
+    (word " tells" ++
+    (setText tells ++
+    word "\n")))))
+
+-- turn k of router a of a record: it writes what it has due, and its message goes to those that it tells
+abbrev pub turnLineOf : (r : Record) (k a : ℕ) → List ℕ
+turnLineOf r k a = turnLine k a (dueOf r a) (tellingOf r a)
+
+-- the first k turns, counted from 1, of the routers at these places
+unfoldable pub turnLines : (r : Record) (places : List ℕ) (k : ℕ) → List ℕ
+turnLines r places zero = []
+turnLines r places (suc k) = turnLines r places k ++ turnLineOf r (k + 1) (getD places k 0)
+
+-- all turns of a record's sheet, and an end
+abbrev pub sheetLines : (r : Record) → List ℕ
+sheetLines r = turnLines r (sheetOf r) (r .n) ++ word "end\n"
+
+-- ---- calls, as the step section of a bench file in hexadecimal (01, "The bench file")
+-- the digit of a number below 16
+unfoldable pub hexDigit : (d : ℕ) → ℕ
+hexDigit d = pick (ltb d 10) (48 + d) (55 + d)
+
+-- the two digits of a byte
+unfoldable pub hexByte : (x : ℕ) → List ℕ
+hexByte x = hexDigit (x / 16) ∷ hexDigit (x % 16) ∷ []
+
+-- the count of steps, two bytes with the high byte first
+unfoldable pub countLine : (count : ℕ) → List ℕ
+countLine count = hexByte (count / 256) ++ (hexByte (count % 256) ++ word "\n")
+
+-- a call: its kind, a and b
+unfoldable pub callLine : (c : Call) → List ℕ
+callLine c =
+    hexByte (c .kind) ++
+    (word " " ++
+    (hexByte (c .a) ++
+    (word " " ++
+    (hexByte (c .b) ++
+    word "\n"))))
+
+-- a line for each call
+unfoldable pub callLines : (calls : List Call) → List ℕ
+callLines [] = []
+callLines (c ∷ cs) = callLine c ++ callLines cs
+
+-- The section: the count and the calls; or how many they are, where a file may not hold as many.
+unfoldable pub stepSection : (calls : List Call) → List ℕ
+stepSection calls =
+    pick (leb (length calls) mostSteps)
+    (countLine (length calls) ++ callLines calls)
+    (line (word "too many steps: ") (length calls))

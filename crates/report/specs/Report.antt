@@ -7,9 +7,10 @@ use Rattle.area.specs.Tests.{pick}
 use Rattle.plan.specs.Plan.{Tables}
 use Rattle.machine.specs.Run.{replies, callsOf}
 use Rattle.bench_file.specs.Sections.{routers, steps}
+use Rattle.sheet.specs.Follow.{sheetCalls}
 use Rattle.text.specs.Text.{word}
 use Rattle.prepare.specs.Bench.{refusal, planned, filledTables}
-use Rattle.report.specs.Lines.{refusedLine, routerLines, stepLines, routeLines}
+use Rattle.report.specs.Lines.{refusedLine, routerLines, stepLines, routeLines, sheetLines, stepSection}
 
 -- the line of the refusal where there is one, and these lines where there is none
 abbrev pub unlessRefused : (number : ℕ) (lines : List ℕ) → List ℕ
@@ -27,3 +28,11 @@ routes f m t =
     let p = filledTables f in
     unlessRefused (refusal f m t)
     (routeLines (p .oldDistances) (p .oldHops) (p .newDistances) (p .newHops) (routers f) (routers f))
+
+-- The running sheet: the refusal alone, or a line for each turn, and an end (02, No. 1; its form is our own).
+unfoldable pub sheetTurns : (f m : List ℕ) (t : Tables) → List ℕ
+sheetTurns f m t = unlessRefused (refusal f m t) (sheetLines (planned f))
+
+-- The steps of the sheet: the refusal alone, or the calls by which it is followed, to be put into a bench file.
+unfoldable pub sheetSteps : (f m : List ℕ) (t : Tables) → List ℕ
+sheetSteps f m t = unlessRefused (refusal f m t) (stepSection (sheetCalls (planned f)))

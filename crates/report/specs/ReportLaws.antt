@@ -2,13 +2,17 @@
 -- the steps are, and filled tables, each by an equation on the file. Where it refuses, that one line is the text. Where
 -- it does not, the record is Plan's, the steps are those of the file and the tables are filled by Plan, so their lines
 -- are the lines of the definition; and what the file was accepted for gives the bounds that the loops ask for.
---     rehearsal-refused, routes-refused       the text where Read or Plan refuses
---     rehearsal-whole, routes-whole           the text where neither refuses
+--     rehearsal-refused, routes-refused, sheet-turns-refused, sheet-steps-refused
+--                                             the text where Read or Plan refuses
+--     rehearsal-whole, routes-whole, sheet-turns-whole, sheet-steps-whole
+--                                             the text where neither refuses
 --     refused-printed, lines-printed          the refusal, or all lines
 --     rehearsalLines, lines-appended          the lines of a record and of its steps
 --     Bounded, bounded, bytes-few             what the rehearsal asks for
 --     Full, full-tables                       what the routes ask for
---     rehearsal-printed, routes-printed       the text by what `prepare` gives
+--     few-printed                             what the running sheet asks for
+--     rehearsal-printed, routes-printed, sheet-turns-printed, sheet-steps-printed
+--                                             the text by what `prepare` gives
 use Prim.Native.Nat.{ℕ, _+_, _*_, _≤_}
 use mathlib.Core.Path.{_≡_, refl, sym, ap, ap₂, subst, _∙_}
 use mathlib.Core.Logic.{_≢_}
@@ -24,6 +28,7 @@ use Rattle.plan.specs.Plan.{Tables, asTables}
 use Rattle.plan.specs.PlanLaws.{filled-size}
 use Rattle.plan.specs.FreshLaws.{fresh-count}
 use Rattle.machine.specs.Run.{replies, callsOf}
+use Rattle.sheet.specs.Follow.{sheetCalls}
 use Rattle.bench_file.specs.Sections.{routers, changes, stepCount, stepsAt, steps}
 use Rattle.bench_file.specs.declared.Contents.{Contents}
 use Rattle.bench_file.specs.declared.Section.{Section}
@@ -34,9 +39,9 @@ use Rattle.text.specs.Text.{Appended, word, line}
 use Rattle.text.specs.TextLaws.{appended-then}
 use Rattle.prepare.specs.Bench.{metrics, refusal, planned, filledTables, recordAt, tablesAt}
 use Rattle.prepare.specs.BenchLaws.{read-passed, file-of, record-passed, tables-passed}
-use Rattle.report.specs.Lines.{refusedLine, routerLines, stepLines, routeLines}
+use Rattle.report.specs.Lines.{refusedLine, routerLines, stepLines, routeLines, sheetLines, stepSection}
 use Rattle.report.specs.LineLaws.{refused-is}
-use Rattle.report.specs.Report.{unlessRefused, rehearsal, routes}
+use Rattle.report.specs.Report.{unlessRefused, rehearsal, routes, sheetTurns, sheetSteps}
 
 -- the steps of a file, by where they are
 abbrev pub stepBytes : (f : List ℕ) (s : Section) → List ℕ
@@ -88,6 +93,14 @@ module _ (f m : List ℕ) (t : Tables) where
   unfolding routes
   routes-refused g = rw (ne-eqb (refusal f m t) 0 g) (refused-is (refusal f m t))
 
+  pub sheet-turns-refused : refusal f m t ≢ 0 → sheetTurns f m t ≡ line (word "refused ") (refusal f m t)
+  unfolding sheetTurns
+  sheet-turns-refused g = rw (ne-eqb (refusal f m t) 0 g) (refused-is (refusal f m t))
+
+  pub sheet-steps-refused : refusal f m t ≢ 0 → sheetSteps f m t ≡ line (word "refused ") (refusal f m t)
+  unfolding sheetSteps
+  sheet-steps-refused g = rw (ne-eqb (refusal f m t) 0 g) (refused-is (refusal f m t))
+
   module _ (z : refusal f m t ≡ 0) where
     pub rehearsal-whole :
         rehearsal f m t
@@ -103,6 +116,14 @@ module _ (f m : List ℕ) (t : Tables) where
     unfolding routes
     routes-whole = rw (eq-eqb (refusal f m t) 0 z) refl
 
+    pub sheet-turns-whole : sheetTurns f m t ≡ sheetLines (planned f)
+    unfolding sheetTurns
+    sheet-turns-whole = rw (eq-eqb (refusal f m t) 0 z) refl
+
+    pub sheet-steps-whole : sheetSteps f m t ≡ stepSection (sheetCalls (planned f))
+    unfolding sheetSteps
+    sheet-steps-whole = rw (eq-eqb (refusal f m t) 0 z) refl
+
   -- ---- by what the file gives before its first step: k is the refusal, and r the record
   module _ (k : ℕ) (told : k ≡ refusal f m t) (r : Record) (is : r ≡ recordAt f m t) where
     module _ (z : refusal f m t ≡ 0) where
@@ -114,6 +135,35 @@ module _ (f m : List ℕ) (t : Tables) where
 
       few-routers : r .n ≤ width
       few-routers = omega (arith, n-is, router-count-most (routers f) (file-of f m t z .routers-in))
+
+    pub few-printed : k ≡ 0 → r .n ≤ width
+    few-printed e = few-routers (sym told ∙ e)
+
+    -- a text that is made of the record alone
+    of-record :
+        (text : Record → List ℕ) {o p : List ℕ} {a : ℕ}
+        → Appended o 0 (unlessRefused k (text r)) p a
+        → Appended o 0 (unlessRefused (refusal f m t) (text (planned f))) p a
+    of-record text {o} {p} {a} x = go (ℕ-discrete (refusal f m t) 0)
+      where
+        go : Dec (refusal f m t ≡ 0) → Appended o 0 (unlessRefused (refusal f m t) (text (planned f))) p a
+        go (yes z) =
+            let lines = rw (eq-eqb k 0 (told ∙ z)) at x in
+            rw (eq-eqb (refusal f m t) 0 z) (subst (λ (q : Record). Appended o 0 (text q) p a) (fresh z) lines)
+        go (no g) = rw (ne-eqb (refusal f m t) 0 g) (rw (told, ne-eqb (refusal f m t) 0 g) at x)
+
+    module _ {o p : List ℕ} {a : ℕ} where
+      pub sheet-turns-printed :
+          Appended o 0 (unlessRefused k (sheetLines r)) p a
+          → Appended o 0 (sheetTurns f m t) p a
+      unfolding sheetTurns
+      sheet-turns-printed x = of-record sheetLines x
+
+      pub sheet-steps-printed :
+          Appended o 0 (unlessRefused k (stepSection (sheetCalls r))) p a
+          → Appended o 0 (sheetSteps f m t) p a
+      unfolding sheetSteps
+      sheet-steps-printed x = of-record (λ q. stepSection (sheetCalls q)) x
 
     -- s is where the steps are
     module _ (s : Section) (placed : s ≡ contentsOf f m .steps) where

@@ -1,7 +1,7 @@
 -- All that is printed for a file has at most `room` bytes: a program whose buffer has as many prints the whole of it.
 -- A refusal is one short line. Otherwise a file has at most 32 routers and 4,096 steps, and LengthLaws bounds the lines
--- of each: 83 bytes for a router, 35 for a step and 88 for a pair.
---     rehearsal-room, routes-room      what `rehearse` and `routes` print
+-- of each: 83 bytes for a router, 35 for a step, 88 for a pair, 751 for a turn and 9 for a step of the sheet.
+--     rehearsal-room, routes-room, sheet-turns-room, sheet-steps-room      what each function prints
 use Prim.Native.Nat.{ℕ, _*_, _≤_}
 use mathlib.Core.Path.{_≡_}
 use mathlib.Core.List.{List}
@@ -10,16 +10,21 @@ use native.Mathlib.Omega.{arith}
 use lib.ListN.{length, drop, length-append, length-take}
 use Rattle.area.specs.SizeLaws.{router-count-most}
 use Rattle.plan.specs.Plan.{Tables}
+use Rattle.plan.specs.FreshLaws.{fresh-count}
 use Rattle.machine.specs.Run.{replies, callsOf}
 use Rattle.machine.specs.CallLaws.{replies-many}
-use Rattle.bench_file.specs.Sections.{routers, stepCount, stepsAt, steps}
+use Rattle.sheet.specs.Sheet.{sheetOf}
+use Rattle.sheet.specs.Follow.{sheetCalls}
+use Rattle.bench_file.specs.Sections.{routers, changes, stepCount, stepsAt, steps}
 use Rattle.text.specs.Text.{word}
 use Rattle.text.specs.TextLaws.{line-most}
-use Rattle.prepare.specs.Bench.{refusal, planned, filledTables}
+use Rattle.prepare.specs.Bench.{metrics, refusal, planned, filledTables}
 use Rattle.prepare.specs.BenchLaws.{file-of}
-use Rattle.report.specs.LengthLaws.{routers-most, steps-most, routes-most}
-use Rattle.report.specs.Report.{rehearsal, routes}
+use Rattle.report.specs.LengthLaws.{routers-most, steps-most, routes-most, turns-most, section-most}
+use Rattle.report.specs.Report.{rehearsal, routes, sheetTurns, sheetSteps}
 use Rattle.report.specs.ReportLaws.{rehearsal-refused, routes-refused, rehearsal-whole, routes-whole}
+use Rattle.report.specs.ReportLaws.{sheet-turns-refused, sheet-steps-refused}
+use Rattle.report.specs.ReportLaws.{sheet-turns-whole, sheet-steps-whole}
 
 abbrev pub room : ℕ
 room = 147456
@@ -50,3 +55,23 @@ module _ (f m : List ℕ) (t : Tables) where
           let n = routers f in
           let most = routes-most (p .oldDistances) (p .oldHops) (p .newDistances) (p .newHops) n n few in
           rw (routes-whole f m t z) (omega arith)
+
+  pub sheet-turns-room : length (sheetTurns f m t) ≤ room
+  sheet-turns-room = by-refusal (ℕ-discrete (refusal f m t) 0)
+    where
+      by-refusal : Dec (refusal f m t ≡ 0) → length (sheetTurns f m t) ≤ room
+      by-refusal (no g) =
+          rw (sheet-turns-refused f m t g) (omega (arith, line-most (word "refused ") (refusal f m t)))
+      by-refusal (yes z) =
+          let few = router-count-most (routers f) (file-of f m t z .routers-in) in
+          let many = fresh-count (routers f) (metrics f) (changes f) in
+          let turns = turns-most (planned f) (sheetOf (planned f)) (planned f .n) in
+          rw (sheet-turns-whole f m t z) (simp length-append (omega arith))
+
+  pub sheet-steps-room : length (sheetSteps f m t) ≤ room
+  sheet-steps-room = by-refusal (ℕ-discrete (refusal f m t) 0)
+    where
+      by-refusal : Dec (refusal f m t ≡ 0) → length (sheetSteps f m t) ≤ room
+      by-refusal (no g) =
+          rw (sheet-steps-refused f m t g) (omega (arith, line-most (word "refused ") (refusal f m t)))
+      by-refusal (yes z) = rw (sheet-steps-whole f m t z) (omega (arith, section-most (sheetCalls (planned f))))

@@ -1,14 +1,20 @@
 // The lines that the programs print, each appended to the text in a lent buffer. `at` is where the text ends, and what
 // is returned is where it ends then.
 use area::limits::UNREACHED;
+use area::limits::WIDTH;
 use machine::Answer;
+use sets::member;
 use text::append;
 use text::field;
 use text::line;
 ghost use mathlib.Core.List.{_++_};
+ghost use Prim.Native.Nat.{_≤_, _<_};
+ghost use lib.ListN.{length};
+ghost use Rattle.area.specs.Limits.{width};
 ghost use Rattle.machine.specs.Answers.{replyOf};
 ghost use Rattle.text.specs.Text.{Appended, word, field};
 ghost use Rattle.report.specs.Lines.{refusedLine, routerLine, answerText, stepLine, pathText, routeLine};
+ghost use Rattle.report.specs.Lines.{memberWord, memberText, setText, turnLine};
 
 // The distance between two routers, and the next-hop set by which it is reached.
 pub struct Path {
@@ -105,4 +111,64 @@ fn path_text(p: Path, out: &mut [u8], at: usize) -> usize
     }
     let at = field(out, at, b" ", p.distance);
     field(out, at, b" via ", p.hops)
+}
+
+// The line of turn k: the router, the destinations that it writes, and the routers that it tells.
+pub(crate) fn turn_line(
+    k: u32,
+    router: u8,
+    writes: u32,
+    tells: u32,
+    out: &mut [u8],
+    at: usize,
+) -> usize
+    ensures line { λ r. ⌜ Appended (now (out .entry)) at (turnLine k router writes tells) (now (out .exit)) r ⌝ }
+{
+    let at = field(out, at, b"turn ", k);
+    let at = field(out, at, b" router ", router as u32);
+    let at = named_set(b" writes", writes, out, at);
+    let at = named_set(b" tells", tells, out, at);
+    append(out, at, b"\n")
+}
+
+// A set after its name.
+fn named_set(name: &[u8], set: u32, out: &mut [u8], at: usize) -> usize
+    ensures text { λ r. ⌜ Appended (now (out .entry)) at (now (name .entry) ++ setText set) (now (out .exit)) r ⌝ }
+{
+    let at = append(out, at, name);
+    set_text(set, out, at)
+}
+
+// The members of a set, or that it has none.
+fn set_text(set: u32, out: &mut [u8], at: usize) -> usize
+    requires { ⌜ at ≤ length (now out) ⌝ }
+    ensures text { λ r. ⌜ Appended (now (out .entry)) at (setText set) (now (out .exit)) r ⌝ }
+{
+    if set == 0 {
+        return append(out, at, b" none");
+    }
+    member_text(set, out, at)
+}
+
+// The members of a set, each after a space.
+fn member_text(set: u32, out: &mut [u8], start: usize) -> usize
+    requires { ⌜ start ≤ length (now out) ⌝ }
+    ensures text { λ r. ⌜ Appended (now (out .entry)) start (memberText set width) (now (out .exit)) r ⌝ }
+{
+    let mut at = start;
+    for k in 0..WIDTH {
+        at = one_member(set, k, out, at);
+    }
+    at
+}
+
+// Router k after a space, where it is a member.
+fn one_member(set: u32, k: usize, out: &mut [u8], at: usize) -> usize
+    requires { ⌜ (k < width) × (at ≤ length (now out)) ⌝ }
+    ensures text { λ r. ⌜ Appended (now (out .entry)) at (memberWord set k) (now (out .exit)) r ⌝ }
+{
+    if member(set, k) {
+        return field(out, at, b" ", k as u32);
+    }
+    at
 }

@@ -6,13 +6,15 @@
 --     setOf-none, none-setOf, member-some      when a set is empty
 --     bit-added, bit-removed, bit-union, subset-at, at-subset
 --                                              the members of each
+--     added-self, added-other, added-cases, added-still, removed-self, removed-other, removed-still
+--                                              the same, of the router that was added or removed and of the others
 --     setOf-start, setOf-skip, setOf-more      a set that is found router by router
 --     bit-one, or-added, .. and-subset         what code computes, at a type of w bits
 --     added-below                              a set of routers below n and one more of them
 use Prim.Native.Nat.{ℕ, zero, suc, _+_, _-_, _*_, _/_, _%_, _^_, _≤_, _<_}
 use mathlib.Core.Path.{_≡_, refl, sym, ap, ap₂, _∙_}
 use mathlib.Core.Bool.{Bool, true, false, not, _&&_, _||_, false≢true}
-use mathlib.Core.Logic.{_≢_, ⊎-elim}
+use mathlib.Core.Logic.{_≢_, _⊎_, inl, inr, ⊎-elim}
 use native.Mathlib.Nat.{not-suc-le-zero, le-of-suc-le-suc, eq-or-lt-of-le, sub-add-cancel, pow-succ', mul-assoc}
 use native.Mathlib.Nat.{mod-one, mod-eq-of-lt, div-eq-of-lt, add-mul-div-right, add-mul-mod-self-right}
 use native.Mathlib.Decide.{decLt, ℕ-discrete}
@@ -23,7 +25,7 @@ use lib.Dec.{eqb}
 use lib.Arith.{mod-mul}
 use lib.Bits.{bitAnd, bitOr, bitXor, or-shr, or-mod, or-lt, and-shr, and-mod, and-lt, xor-shr, xor-mod, xor-lt}
 use lib.Pow.{pow-pos, pow-add, pow-mono, pow-lt, shl-exact}
-use Rattle.area.specs.TestLaws.{and-one, or-right, or-none, same-test}
+use Rattle.area.specs.TestLaws.{both-true, and-false, and-one, or-cases, or-left, or-right, or-none, same-test}
 use Rattle.sets.specs.Sets.{num, bit, setOf, added, removed, union, subset}
 
 -- ---- what stands in a set
@@ -153,6 +155,10 @@ added-lt : (w s k : ℕ) → added w s k < 2 ^ w
 unfolding added
 added-lt w s k = setOf-lt w (λ i. bit s i || eqb i k)
 
+removed-lt : (w s k : ℕ) → removed w s k < 2 ^ w
+unfolding removed
+removed-lt w s k = setOf-lt w (λ i. bit s i && not (eqb i k))
+
 pub bit-added : (w s i k : ℕ) → k < w → bit (added w s i) k ≡ (bit s k || eqb k i)
 unfolding added
 bit-added w s i k h = bit-setOf w (λ j. bit s j || eqb j i) k h
@@ -164,6 +170,32 @@ bit-removed w s i k h = bit-setOf w (λ j. bit s j && not (eqb j i)) k h
 pub bit-union : (w s t k : ℕ) → k < w → bit (union w s t) k ≡ (bit s k || bit t k)
 unfolding union
 bit-union w s t k h = bit-setOf w (λ j. bit s j || bit t j) k h
+
+-- the router that was added or removed, and the others
+pub added-self : (w s k : ℕ) → k < w → bit (added w s k) k ≡ true
+added-self w s k h = bit-added w s k k h ∙ or-right (bit s k) (eqb k k) (eq-eqb k k refl)
+
+pub added-other : (w s k i : ℕ) → i < w → i ≢ k → bit (added w s k) i ≡ bit s i
+added-other w s k i l f = bit-added w s k i l ∙ rw (ne-eqb i k f) (or-none (bit s i))
+
+pub added-still : (w s k i : ℕ) → i < w → bit s i ≡ true → bit (added w s k) i ≡ true
+added-still w s k i l e = bit-added w s k i l ∙ or-left (bit s i) (eqb i k) e
+
+pub added-cases : (w s k i : ℕ) → bit (added w s k) i ≡ true → (bit s i ≡ true) ⊎ (i ≡ k)
+added-cases w s k i e =
+    let l = bit-lt w (added w s k) i (added-lt w s k) e in
+    ⊎-elim inl (λ t. inr (eqb-true i k t)) (or-cases (bit s i) (eqb i k) (sym (bit-added w s k i l) ∙ e))
+
+pub removed-self : (w s k : ℕ) → k < w → bit (removed w s k) k ≡ false
+removed-self w s k h = bit-removed w s k k h ∙ and-false (bit s k) (not (eqb k k)) (rw (eq-eqb k k refl) refl)
+
+pub removed-other : (w s k i : ℕ) → i < w → i ≢ k → bit (removed w s k) i ≡ bit s i
+removed-other w s k i l f = bit-removed w s k i l ∙ rw (ne-eqb i k f) (and-one (bit s i))
+
+pub removed-still : (w s k i : ℕ) → bit (removed w s k) i ≡ true → bit s i ≡ true
+removed-still w s k i e =
+    let l = bit-lt w (removed w s k) i (removed-lt w s k) e in
+    both-true (bit s i) (not (eqb i k)) (sym (bit-removed w s k i l) ∙ e) .0
 
 -- ---- a set that is found router by router: what a loop over the routers below k has
 pub setOf-start : (p : ℕ → Bool) → 0 ≡ setOf 0 p

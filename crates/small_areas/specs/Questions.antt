@@ -1,10 +1,10 @@
--- What can be asked of a bench file f, and what the definitions answer: Read's on the file, then those of Paths, Plan
--- and Step on what Read gives.
+-- What can be asked of a bench file f, and what the definitions answer: Read's on the file, then those of Paths, Plan,
+-- Step and the running sheet on what Read gives.
 use Prim.Native.Nat.{ℕ, _*_}
 use mathlib.Core.List.{List, _∷_}
 use lib.ListN.{getD, take, replicate}
 use Rattle.area.specs.Limits.{width}
-use Rattle.area.specs.Tests.{orThen, all, first}
+use Rattle.area.specs.Tests.{orThen, all, first, lowest}
 use Rattle.area.specs.Sizes.{isRouterCount, isTable}
 use Rattle.area.specs.Tables.{cell, build, tabulate, perRouter}
 use Rattle.sets.specs.Sets.{bit, setOf, added, removed, subset}
@@ -26,6 +26,7 @@ use Rattle.machine.specs.Answers.{Reply, refused}
 use Rattle.machine.specs.Machine.{learn, release, ready, write, finish, listens, deliver, isSound, isKind, readsB}
 use Rattle.machine.specs.Machine.{areRouters, callOf, stepOf}
 use Rattle.machine.specs.Run.{callsOf, replies}
+use Rattle.sheet.specs.Sheet.{placed, sheetOf}
 use Rattle.bench_file.specs.Sections.{changes, steps}
 use Rattle.bench_file.specs.Faults.{mostLinks, linkRefusal, restRefusal, fileRefusal}
 use Rattle.bench_file.specs.Read.{readRefusal, contents, noContents, contentsOf, linked, metricsOf}
@@ -43,6 +44,8 @@ pub data Question : Type 0 where
   -- the distance from i to j over the links of the file, whatever its changes, and the next-hop set of (i, j)
   distance : (i j : ℕ) → Question
   set : (i j : ℕ) → Question
+  -- the running sheet, all of its entries: the routers in their order, and then zeros
+  sheet : Question
   -- the plan's next-hop set of (i, j) before the change, and after it
   oldSet : (i j : ℕ) → Question
   newSet : (i j : ℕ) → Question
@@ -58,6 +61,7 @@ Value refusal = ℕ
 Value root = ℕ
 Value ranks = List ℕ
 Value waits = List ℕ
+Value sheet = List ℕ
 Value (distance i j) = ℕ
 Value (set i j) = ℕ
 Value (oldSet i j) = ℕ
@@ -106,12 +110,13 @@ unfolding readRefusal fileRefusal mostLinks linkRefusal restRefusal contentsOf c
     distancesOf hopsOf changeRefusal isRise isFall isCommon Rattle.changes.specs.Root.root newCell newMetrics
     oldHops newHops waiting telling due greatest above longest rank areTables planRefusal isPlanned fresh blank
     filled recordOf tablesOf learn release ready write finish listens deliver isSound isKind readsB areRouters
-    callOf stepOf callsOf replies digits decimal field line Rattle.prepare.specs.Bench.refusal refusedLine
-    routerLine routerLines answerText stepLine stepLines rehearsal
+    callOf stepOf callsOf replies lowest placed sheetOf digits decimal field line
+    Rattle.prepare.specs.Bench.refusal refusedLine routerLine routerLines answerText stepLine stepLines rehearsal
 answer f refusal = orThen (readRefusal f lent) (refusedBy f)
 answer f root = planned f .root
 answer f ranks = take (routers f) (planned f .ranks)
 answer f waits = take (routers f) (planned f .waiting)
+answer f sheet = sheetOf (planned f)
 answer f (distance i j) = cell width (distancesOf (routers f) (metrics f) lent lent) i j
 answer f (set i j) = cell width (hopsOf (routers f) (metrics f) lent lent) i j
 answer f (oldSet i j) = cell width (filledIn f .oldHops) i j

@@ -1,16 +1,17 @@
 -- The small areas of 01, "Small areas, checked by hand": one list of inputs and results, and one theorem, that the
 -- definitions agree with every row of it.
 --     C1 .. C13        the rows of 01's table, each drawn above it
---     rehearsed        after them, all that the rehearsal replies and prints
+--     sheets           after them, running sheets (02, No. 1)
+--     rehearsed        and all that the rehearsal replies and prints
 --     agreed           the theorem
 use Prim.Native.Nat.{ℕ, _/_, _%_}
 use mathlib.Core.Path.{_≡_, refl}
 use mathlib.Core.List.{List, [], _∷_, _++_, map}
-use lib.ListN.{length}
+use lib.ListN.{length, take, replicate}
 use Rattle.machine.specs.Answers.{ok, ignored, refused}
 use Rattle.text.specs.Text.{word}
 use Rattle.small_areas.specs.Questions.{Question, refusal, root, ranks, waits, distance, set, oldSet, newSet}
-use Rattle.small_areas.specs.Questions.{step, allSteps, printed, Value, answer}
+use Rattle.small_areas.specs.Questions.{sheet, step, allSteps, printed, Value, answer}
 
 -- ---- bench files as bytes (01, "The bench file")
 -- a number in two bytes
@@ -212,6 +213,40 @@ C13 =
     case (bench 3 (link 0 1 1 ++ link 1 2 16_777_214) [] [])
     (distance 0 2 is 16_777_215 ∷ set 0 2 is 2 ∷ [])
 
+-- ---- running sheets (02, No. 1)
+-- these routers in their order, and 0 in all other of the 32 entries
+abbrev places : (routers : List ℕ) → List ℕ
+places routers = take 32 (routers ++ replicate 32 0)
+
+-- In C1 router 2 waits for 1, and 1 for 0.
+abbrev sheetC1 : Case
+sheetC1 = case (C1 .file) (sheet is places (0 ∷ 1 ∷ 2 ∷ []) ∷ [])
+
+-- In C2 router 0 waits for 1, and 1 for 2.
+abbrev sheetC2 : Case
+sheetC2 = case (C2 .file) (sheet is places (2 ∷ 1 ∷ 0 ∷ []) ∷ [])
+
+-- In C4 router 1 waits for 0 and 2.
+abbrev sheetC4 : Case
+sheetC4 = case (C4 .file) (sheet is places (0 ∷ 2 ∷ 1 ∷ []) ∷ [])
+
+-- C9 is refused.
+abbrev sheetC9 : Case
+sheetC9 = case (C9 .file) (sheet is places [] ∷ [])
+
+-- The lowest number that could come, and no order by rank, which would be 0 2 1 3: once 0 stands there, 1 waits for no
+-- other, and neither does 2.
+--
+--        0 --1-- 1 --1-- 3 --1-- 2          0 --1-- 1 --2-> 3 <-2-- 2
+--                                           0 --1-- 1 <-1-- 3 --1-> 2
+abbrev lowestFirst : Case
+lowestFirst =
+    case (bench 4 (both 0 1 1 ++ both 1 3 1 ++ both 2 3 1) (link 2 3 2 ++ link 1 3 2) [])
+    (ranks is (0 ∷ 1 ∷ 0 ∷ 2 ∷ []) ∷ sheet is places (0 ∷ 1 ∷ 2 ∷ 3 ∷ []) ∷ [])
+
+abbrev sheets : List Case
+sheets = sheetC1 ∷ sheetC2 ∷ sheetC4 ∷ sheetC9 ∷ lowestFirst ∷ []
+
 -- ---- the rehearsal, with the lines that 01 has below its file
 abbrev routerLines : List ℕ
 routerLines =
@@ -237,7 +272,9 @@ rehearsed = replied ∷ wholeText ∷ []
 
 -- ---- the theorem
 cases : List Case
-cases = C1 ∷ C2 ∷ C3 ∷ C4 ∷ C5 ∷ C6 ∷ C7 ∷ C8 ∷ C9 ∷ C10 ∷ C11 ∷ C12 ∷ C13 ∷ rehearsed
+cases =
+    C1 ∷ C2 ∷ C3 ∷ C4 ∷ C5 ∷ C6 ∷ C7 ∷ C8 ∷ C9 ∷ C10 ∷ C11 ∷ C12 ∷ C13
+    ∷ sheets ++ rehearsed
 
 -- the questions of a row, with the definitions' answers
 abbrev answered : (c : Case) → List Result
@@ -248,10 +285,10 @@ abbrev Agree : (cs : List Case) → Type 0
 Agree [] = Unit {0}
 Agree (c ∷ cs) = (answered c ≡ c .results) × Agree cs
 
--- The definitions agree with the list: both sides are computed, in each of its fifteen rows.
-others : Agree rehearsed
+-- The definitions agree with the list: both sides are computed, in each of its twenty rows.
+others : Agree (sheets ++ rehearsed)
 unfolding answer
-others = (refl, (refl, tt))
+others = (refl, (refl, (refl, (refl, (refl, (refl, (refl, tt)))))))
 
 agreed : Agree cases
 unfolding cases answer

@@ -1,0 +1,82 @@
+-- The section, or that it has too many steps, for the routers at the places of the sheet.
+use Prim.Native.Nat.{ℕ, _≤_}
+use mathlib.Core.Path.{ap, _∙_}
+use mathlib.Core.List.{List}
+use native.Mathlib.Omega.{arith}
+use borrow.Author.Needs.{needs}
+use lib.ListN.{length, getD}
+use Rattle.area.specs.Limits.{width}
+use Rattle.sheet.specs.Follow.{following}
+use Rattle.sheet.specs.LengthLaws.{calls-most}
+use Rattle.report.specs.CallLineLaws.{section-whole, section-long, sheet-section}
+use Rattle.report.proofs.step_section.section.Statement.{statement}
+use Rattle.report.proofs.step_section.section.Tie as tie
+
+in-turn-requires : tie.Need-in-turn-requires
+in-turn-requires c κs = search needs
+
+step-count-requires : tie.Need-step-count-requires
+step-count-requires c κs = search needs
+
+slice-aggregate-line : tie.Need-slice-aggregate-line
+slice-aggregate-line c = search needs
+
+cast-line : tie.Need-cast-line
+cast-line c =
+    let counted = c .before .before .before in
+    let a = counted .before .before .before .args in
+    let few : a .fresh .n ≤ width = omega arith in
+    let calls : List ℕ → ℕ = λ places. length (following (a .fresh) (λ k. getD places k 0)) in
+    let count = counted .step-count .ensures ∙ ap calls (counted .before .in-turn .ensures) in
+    omega (arith, calls-most (a .fresh) few)
+
+line-requires : tie.Need-line-requires
+line-requires c κs = search needs
+
+same-length : tie.Need-same-length
+same-length c = search needs
+
+returns : tie.Need-returns
+returns c =
+    let counted = c .before .before .before .before .before .before in
+    let a = counted .before .before .before .args in
+    sheet-section (a .fresh) _ (counted .before .in-turn .ensures)
+    (section-long _ _ (counted .step-count .ensures) (omega arith) (c .before .before .line .ensures))
+
+cast-count-line : tie.Need-cast-count-line
+cast-count-line c = search needs
+
+count-line-requires : tie.Need-count-line-requires
+count-line-requires c κs = search needs
+
+sheet-lines-requires : tie.Need-sheet-lines-requires
+sheet-lines-requires c κs = search needs
+
+same-length-2 : tie.Need-same-length-2
+same-length-2 c = search needs
+
+returns-2 : tie.Need-returns-2
+returns-2 c =
+    let count = c .before .before .before .before .before .before in
+    let counted = count .before .before .before in
+    let a = counted .before .before .before .args in
+    sheet-section (a .fresh) _ (counted .before .in-turn .ensures)
+    (section-whole _ _ (counted .step-count .ensures) (omega arith)
+    (count .count-line .ensures) (c .before .before .sheet-lines .ensures))
+
+pub section-spec : {M : Type 1} → statement M
+section-spec =
+    tie.close
+    (tie.spec
+    in-turn-requires
+    step-count-requires
+    slice-aggregate-line
+    cast-line
+    line-requires
+    same-length
+    returns
+    cast-count-line
+    count-line-requires
+    sheet-lines-requires
+    same-length-2
+    returns-2)

@@ -1,0 +1,98 @@
+// The running sheet: a line for each turn, and an end.
+use crate::lines::refused_line;
+use crate::lines::turn_line;
+use area::limits::WIDTH;
+use plan::Record;
+use prepare::prepare;
+use sheet::in_turn;
+use text::append;
+ghost use mathlib.Core.Path.{_≡_};
+ghost use Prim.Native.Nat.{_≤_};
+ghost use lib.ListN.{getD};
+ghost use Rattle.area.specs.Limits.{width};
+ghost use Rattle.plan.specs.Plan.{asTables};
+ghost use Rattle.bench_file.specs.Read.{metricsOf};
+ghost use Rattle.text.specs.Text.{Appended};
+ghost use Rattle.prepare.specs.Bench.{tablesAt};
+ghost use Rattle.report.specs.Lines.{turnLineOf, turnLines, sheetLines};
+ghost use Rattle.report.specs.Report.{unlessRefused, sheetTurns};
+
+// Puts all that is printed of a file's running sheet at the start of `out`, as far as that has room, and gives its
+// length. The tables are lent to be filled, whatever they hold, and are left as `prepare` leaves them.
+pub fn sheet_turns(
+    file: &[u8],
+    old: &mut [u32],
+    new: &mut [u32],
+    old_dist: &mut [u32],
+    new_dist: &mut [u32],
+    old_hops: &mut [u32],
+    new_hops: &mut [u32],
+    out: &mut [u8],
+) -> usize
+    ensures text { λ r.
+        let lent = asTables (now (new .entry))
+        (now («old_dist» .entry)) (now («new_dist» .entry))
+        (now («old_hops» .entry)) (now («new_hops» .entry)) in
+        ⌜ Appended (now (out .entry)) 0
+        (sheetTurns (now (file .entry)) (now (old .entry)) lent) (now (out .exit)) r ⌝ }
+    ensures metrics { λ _. ⌜ now (old .exit) ≡ metricsOf (now (file .entry)) (now (old .entry)) ⌝ }
+    ensures tables { λ _.
+        let lent = asTables (now (new .entry))
+        (now («old_dist» .entry)) (now («new_dist» .entry))
+        (now («old_hops» .entry)) (now («new_hops» .entry)) in
+        let left = asTables (now (new .exit))
+        (now («old_dist» .exit)) (now («new_dist» .exit))
+        (now («old_hops» .exit)) (now («new_hops» .exit)) in
+        ⌜ left ≡ tablesAt (now (file .entry)) (now (old .entry)) lent ⌝ }
+{
+    let start = prepare(file, old, new, old_dist, new_dist, old_hops, new_hops);
+    printed(start.refusal, start.record, out)
+}
+
+// The refusal of this number, or all lines.
+fn printed(number: u8, fresh: Record, out: &mut [u8]) -> usize
+    requires { ⌜ (number ≡ 0 → fresh .n ≤ width) ⌝ }
+    ensures text { λ r. ⌜
+        Appended (now (out .entry)) 0 (unlessRefused number (sheetLines fresh)) (now (out .exit)) r ⌝ }
+{
+    if number != 0 {
+        return refused_line(number, out, 0);
+    }
+    let places = in_turn(fresh);
+    let at = turn_lines(fresh, places, out);
+    append(out, at, b"end\n")
+}
+
+// A line for each turn of the routers at these places, at the start of `out`.
+fn turn_lines(fresh: Record, places: [u8; WIDTH], out: &mut [u8]) -> usize
+    requires { ⌜ fresh .n ≤ width ⌝ }
+    ensures lines { λ r. ⌜
+        Appended (now (out .entry)) 0 (turnLines fresh places (fresh .n)) (now (out .exit)) r ⌝ }
+{
+    let n = fresh.n as usize;
+    let mut at = 0;
+    for k in 0..n {
+        let router = places[k];
+        at = turn_of(fresh, k as u32 + 1, router, out, at);
+    }
+    at
+}
+
+// The line of a router's turn.
+fn turn_of(fresh: Record, k: u32, router: u8, out: &mut [u8], at: usize) -> usize
+    ensures line { λ r. ⌜ Appended (now (out .entry)) at (turnLineOf fresh k router) (now (out .exit)) r ⌝ }
+{
+    let due = fresh.due;
+    let writes = entry(&due, router);
+    let telling = fresh.telling;
+    let tells = entry(&telling, router);
+    turn_line(k, router, writes, tells, out, at)
+}
+
+// A router's entry of a table per router; 0 for a number that is no router of any area.
+pub(crate) fn entry(table: &[u32], router: u8) -> u32
+    ensures entry { λ r. ⌜ r ≡ getD (now (table .entry)) router 0 ⌝ }
+{
+    let i = router as usize;
+    if i < table.len() { table[i] } else { 0 }
+}
