@@ -28,7 +28,7 @@ pub fn change(n: usize, old: &[u32], list: &[u8]) -> Result<Change, Refusal> {
         return Err(Refusal::Mixed);
     }
     let first = Entry::decode(list);
-    let root = [first.to, first.from]
+    let root = [first.from.min(first.to), first.from.max(first.to)]
         .into_iter()
         .find(|&c| is_common(list, c))
         .ok_or(Refusal::NoCommonRouter)?;

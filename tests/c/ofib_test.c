@@ -1,5 +1,5 @@
 // Every function of bindings/ofib.h, called from C: on the file of paper 01, against what is stored of it and what 01
-// says of its plan (C1), and on what they refuse.
+// and 02 say of its plan (C1), and on what they refuse.
 //     ofib_test FILE REHEARSAL ROUTES
 // FILE is the bench file, REHEARSAL and ROUTES what the programs print for it. What differs is printed, and the status
 // is 1 then.
@@ -96,11 +96,11 @@ static const uint32_t new_next_hops[9] = {0, 2, 4, 1, 0, 1, 1, 1, 0};
 
 static const uint8_t change[] = {1, 2, 255, 255, 255, 2, 1, 255, 255, 255};
 
-static const ofib_record fresh = {3, 2, OFIB_RISE, {0, 1, 2}, {0, 1, 2}, {2, 4, 0}, {4, 4, 3}, {0}, {0}};
+static const ofib_record fresh = {3, 1, OFIB_RISE, {0, 1, 0}, {0, 5, 0}, {2, 0, 2}, {4, 4, 3}, {0}, {0}};
 static const ofib_record blank;
 
 // The routers on the running sheet, and on the one of a refusal.
-static const uint8_t in_order[OFIB_WIDTH] = {0, 1, 2}, no_order[OFIB_WIDTH];
+static const uint8_t in_order[OFIB_WIDTH] = {0, 2, 1}, no_order[OFIB_WIDTH];
 
 // What the tables hold before a call that must not write them.
 #define UNTOUCHED 7u
@@ -252,8 +252,8 @@ static void test_plan_sizes(void)
 static void test_fall(void)
 {
     static const uint8_t list[] = {1, 2, 0, 0, 1, 2, 1, 0, 0, 1};
-    static const ofib_record wanted = {3, 2, OFIB_FALL, {2, 1, 0}, {2, 4, 0}, {0, 1, 2}, {4, 4, 3}, {0}, {0}};
-    static const uint8_t order[OFIB_WIDTH] = {2, 1, 0};
+    static const ofib_record wanted = {3, 1, OFIB_FALL, {1, 0, 1}, {2, 0, 2}, {0, 5, 0}, {4, 4, 3}, {0}, {0}};
+    static const uint8_t order[OFIB_WIDTH] = {1, 0, 2};
     ofib_record r = blank;
     uint8_t routers[OFIB_WIDTH] = {0};
     tables = untouched;
@@ -276,7 +276,9 @@ static void test_plan(void)
                          mixed[] = {1, 2, 0, 0, 9, 0, 2, 0, 0, 1},
                          apart[] = {0, 1, 0, 0, 9, 1, 2, 0, 0, 9, 2, 0, 0, 0, 9};
     static const uint8_t many[OFIB_ENTRY * (OFIB_MOST_CHANGES + 1)];
+    static const uint8_t other_order[] = {2, 1, 255, 255, 255, 1, 2, 255, 255, 255};
     one_plan("ofib_plan, C1", change, sizeof change, OFIB_OK);
+    one_plan("ofib_plan, C4", other_order, sizeof other_order, OFIB_OK);
     one_plan("ofib_plan, nine bytes", change, sizeof change - 1, OFIB_INCOMPLETE);
     one_plan("ofib_plan, 63 changes", many, sizeof many, OFIB_TOO_MANY);
     one_plan("ofib_plan, no change", change, 0, OFIB_NO_CHANGE);
@@ -295,10 +297,10 @@ static void test_plan(void)
 // The steps of the file one by one, and after each of them all of them so far at once.
 static void test_steps(void)
 {
-    static const uint8_t answers[] = {0, 0, OFIB_STILL_WAITING, 0, 0, 0, 0, 0, OFIB_IGNORED, 0};
-    static const ofib_record last = {3,         2,         OFIB_RISE, {0, 1, 2},
-                                     {0, 0, 2}, {2, 4, 0}, {4, 4, 3}, {OFIB_DONE, OFIB_ONGOING, OFIB_IDLE},
-                                     {4, 4, 0}};
+    static const uint8_t answers[] = {0, 0, OFIB_STILL_WAITING, 0, 0, 0, 0, 0, OFIB_IGNORED, OFIB_STILL_WAITING};
+    static const ofib_record last = {3,         1,         OFIB_RISE, {0, 1, 0},
+                                     {0, 4, 0}, {2, 0, 2}, {4, 4, 3}, {OFIB_DONE, OFIB_ONGOING, OFIB_IDLE},
+                                     {4, 0, 0}};
     const uint8_t *steps = file.bytes + 46;
     ofib_record r = fresh;
     for (size_t k = 0; k < sizeof answers; k++) {

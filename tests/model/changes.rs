@@ -47,7 +47,7 @@ pub fn bytes_of(changes: &[Change]) -> Vec<u8> {
 pub fn faultless(random: &mut Random, area: &mut Area) -> Vec<Change> {
     for _ in 0..4 {
         let router = random.below(area.n);
-        let changes = match random.below(8) {
+        let mut changes = match random.below(8) {
             0 => router_down(area, router),
             1 => router_up(area, router),
             kind => {
@@ -56,16 +56,22 @@ pub fn faultless(random: &mut Random, area: &mut Area) -> Vec<Change> {
             }
         };
         if !changes.is_empty() {
-            return shuffled(random, changes);
+            random.shuffle(&mut changes);
+            return changes;
         }
     }
     Vec::new()
 }
 
-/// The first change decides the root where both of its ends are common, so the order of a list matters.
-fn shuffled(random: &mut Random, mut changes: Vec<Change>) -> Vec<Change> {
-    random.shuffle(&mut changes);
-    changes
+/// The same entries in another order, which differs wherever two of them do; bytes that are no entry stay at the end.
+pub fn in_another_order(random: &mut Random, list: &[u8]) -> Vec<u8> {
+    let mut entries: Vec<&[u8]> = list.chunks_exact(5).collect();
+    random.shuffle(&mut entries);
+    let rest = list.chunks_exact(5).remainder();
+    if entries.concat() == list[..list.len() - rest.len()] && !entries.is_empty() {
+        entries.rotate_left(1);
+    }
+    [entries.concat().as_slice(), rest].concat()
 }
 
 fn links_of(n: usize, router: usize) -> impl Iterator<Item = (usize, usize)> {

@@ -8,7 +8,7 @@ use crate::lent::{Lent, RIGHT_SIZES, SixTables};
 use crate::ofib::{self, Answer, CELLS, Contents, Record, Tables, WIDTH};
 use crate::paths::{self, UNUSED};
 use crate::random::Random;
-use crate::{plan, read, sheet, step, steps, text};
+use crate::{changes, plan, read, sheet, step, steps, text};
 
 /// Room for every text.
 pub const ROOM: usize = 147_456;
@@ -69,7 +69,8 @@ impl Comparison {
         Ok(answer)
     }
 
-    /// Plan, and the running sheet of the same input. The sizes are those of the five tables that both fill.
+    /// Plan, Plan of the same changes in another order, and the running sheet of the same input. The sizes are those of
+    /// the five tables that all of them fill.
     pub fn plan(
         &mut self,
         random: &mut Random,
@@ -81,8 +82,24 @@ impl Comparison {
         let [new, old_dist, new_dist, old_hops, new_hops] = sizes;
         let mut tables = SixTables::filled(random, [0, new, old_dist, new_dist, old_hops, new_hops]);
         tables.tables[0] = Lent::holding(random, old);
+        let planned = self.plan_alone(random, n, tables.clone(), list)?;
+        self.other_order(random, n, tables.clone(), list, &planned)?;
+        let routers = self.sheet(random, n, tables, list, &planned)?;
+        if planned.answer == 0 {
+            self.counts.accepted(planned.record.n, planned.record.direction);
+            self.follow(&planned.record, &routers)?;
+        }
+        Ok(planned)
+    }
+
+    fn plan_alone(
+        &mut self,
+        random: &mut Random,
+        n: usize,
+        mut tables: SixTables,
+        list: &[u8],
+    ) -> Result<Planned, String> {
         let mut model_tables = tables.clone();
-        let of_sheet = tables.clone();
         // The record is handed back whole, so nothing that it held before may be left in it.
         let mut record = steps::any_record(random);
         let mut model_record = record.clone();
@@ -92,13 +109,26 @@ impl Comparison {
         tables.compare(&model_tables, "Plan")?;
         records("Plan's record", &record, &model_record)?;
         self.counts.plan[usize::from(answer)] += 1;
-        let planned = Planned { answer, record, tables };
-        let routers = self.sheet(random, n, of_sheet, list, &planned)?;
-        if answer == 0 {
-            self.counts.accepted(planned.record.n, planned.record.direction);
-            self.follow(&planned.record, &routers)?;
+        Ok(Planned { answer, record, tables })
+    }
+
+    /// The same changes in another order are accepted too, with the same record and tables, or refused too, where the
+    /// number may be another one (02, No. 2).
+    fn other_order(
+        &mut self,
+        random: &mut Random,
+        n: usize,
+        tables: SixTables,
+        list: &[u8],
+        planned: &Planned,
+    ) -> Result<(), String> {
+        let reordered = changes::in_another_order(random, list);
+        if reordered == list {
+            return Ok(());
         }
-        Ok(planned)
+        let other = self.plan_alone(random, n, tables, &reordered)?;
+        self.counts.order(planned.answer, other.answer);
+        same_plan(&other, planned).map_err(|what| format!("the changes in the order {reordered:?}: {what}"))
     }
 
     /// The sheet beside the model's one of the plan, and beside what the plan answered and left in its tables, which
@@ -244,6 +274,19 @@ impl Comparison {
         self.routes(random, file, RIGHT_SIZES, ROOM)?;
         self.counts.files += 1;
         Ok(text)
+    }
+}
+
+/// Two plans of the same changes: both accepted or both refused, and with the same record and tables.
+pub fn same_plan(other: &Planned, first: &Planned) -> Result<(), String> {
+    let parts = [
+        ("one order is refused", (other.answer == 0) == (first.answer == 0)),
+        ("another record", other.record == first.record),
+        ("other tables", other.tables == first.tables),
+    ];
+    match parts.into_iter().find(|&(_, is_same)| !is_same) {
+        None => Ok(()),
+        Some((what, _)) => Err(what.to_string()),
     }
 }
 

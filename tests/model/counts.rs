@@ -29,6 +29,10 @@ pub struct Counts {
     pub falls: [u64; 33],
     pub sizes: [u64; 33],
     pub finished_runs: u64,
+    /// Accepted plans that another order of the changes left the same.
+    orders: u64,
+    /// Refusals that another order of the changes gave another number.
+    other_numbers: u64,
     /// Running sheets that were followed to their end.
     pub followed: u64,
     pub files: u64,
@@ -58,6 +62,8 @@ impl Counts {
             falls: [0; 33],
             sizes: [0; 33],
             finished_runs: 0,
+            orders: 0,
+            other_numbers: 0,
             followed: 0,
             files: 0,
             short_texts: 0,
@@ -84,6 +90,12 @@ impl Counts {
             &mut self.falls
         };
         by_size[usize::from(n)] += 1;
+    }
+
+    /// The answers to the same changes in two orders.
+    pub fn order(&mut self, first: u8, other: u8) {
+        self.orders += u64::from(first == 0 && other == 0);
+        self.other_numbers += u64::from(first != 0 && other != 0 && first != other);
     }
 
     pub fn step(&mut self, kind: u8, answer: Answer) {
@@ -124,6 +136,12 @@ impl Counts {
         }
         require(&mut missing, self.finished_runs, || {
             "run in which every router is done".to_string()
+        });
+        require(&mut missing, self.orders, || {
+            "accepted plan of changes in another order".to_string()
+        });
+        require(&mut missing, self.other_numbers, || {
+            "refusal with another number in another order".to_string()
         });
         missing
     }
@@ -204,6 +222,10 @@ impl Counts {
         println!("runs in which every router got done: {}", self.finished_runs);
         println!("Paths: {}", answers(&self.paths));
         println!("Plan: {}", answers(&self.plan));
+        println!(
+            "changes in another order: the same plan {}, another refusal {}",
+            self.orders, self.other_numbers
+        );
         println!("sheets: {}; followed {}", answers(&self.sheet), self.followed);
         println!("Read: {}", answers(&self.read));
         println!("rehearsal: {}", answers(&self.rehearsal));

@@ -13,8 +13,12 @@ pub enum Flaw {
     OneNextHop,
     /// A fall is ordered like a rise.
     FallAsRise,
-    /// The near end of the first change is the root where both ends are common.
-    RootNearEnd,
+    /// The root is the higher of two common routers.
+    RootHigher,
+    /// Of two common routers the far end of the first change is the root.
+    RootFarEnd,
+    /// The lower end of the first change is the root, though it is not common.
+    RootLowerEnd,
     /// The rank is the length of the shortest chain of waiting routers.
     ShortestRank,
     /// The rank is one too large: the routers of the chain are counted, not its links.
@@ -43,13 +47,15 @@ pub enum Flaw {
     SheetKeptIfRefused,
 }
 
-pub const FLAWS: [Flaw; 19] = [
+pub const FLAWS: [Flaw; 21] = [
     Flaw::ReadTwoForOne,
     Flaw::ReadKeepsLinks,
     Flaw::MaximumUsed,
     Flaw::OneNextHop,
     Flaw::FallAsRise,
-    Flaw::RootNearEnd,
+    Flaw::RootHigher,
+    Flaw::RootFarEnd,
+    Flaw::RootLowerEnd,
     Flaw::ShortestRank,
     Flaw::RankOffByOne,
     Flaw::FinishUnordered,

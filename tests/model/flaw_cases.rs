@@ -1,8 +1,10 @@
-//! Each mistake that the model can be given must show: in the comparison, and where it breaks the order of the writes
-//! also in the walks along the pointers.
+//! Each mistake that the model can be given must show: in the comparison, where it breaks the order of the writes also
+//! in the walks along the pointers, and where the plan hangs on the order of the changes also beside another order.
 
 use crate::area_cases::area_case;
-use crate::compare::Comparison;
+use crate::areas::Area;
+use crate::changes::in_another_order;
+use crate::compare::{Comparison, Planned, same_plan};
 use crate::difference::Difference;
 use crate::file_cases::{self, file_case};
 use crate::flaw::{FLAWS, Flaw};
@@ -32,7 +34,10 @@ pub fn flaw_cases(seed: u64) -> Result<(), String> {
         let what = what.split(" with ").next().unwrap_or_default();
         println!("flaw {flaw:?}: caught by a walk at plan {plans} ({what})");
     }
-    match first_bad_walk(Flaw::None, seed) {
+    let flaw = Flaw::RootFarEnd;
+    let (plans, what) = first_other_plan(flaw, seed).ok_or(format!("flaw {flaw:?}: no other order showed it"))?;
+    println!("flaw {flaw:?}: caught by another order at plan {plans} ({what})");
+    match first_bad_walk(Flaw::None, seed).or(first_other_plan(Flaw::None, seed)) {
         None => Ok(()),
         Some((_, what)) => Err(format!("the model without a flaw: {what}")),
     }
@@ -67,13 +72,11 @@ fn first_bad_walk(flaw: Flaw, seed: u64) -> Option<(u64, String)> {
         } else {
             small_area(&mut random, n)
         };
-        let mut tables = SixTables::filled(&mut random, RIGHT_SIZES);
-        tables.tables[0].cells_mut().copy_from_slice(&area.metric);
-        let mut record = Record::default();
-        if plan(area.n, &list, &mut tables.lend(), &mut record, flaw) != 0 {
+        let planned = model_plan(&area, &list, SixTables::filled(&mut random, RIGHT_SIZES), flaw);
+        if planned.answer != 0 {
             continue;
         }
-        let outcome = search(&tables, &record, |record, call| {
+        let outcome = search(&planned.tables, &planned.record, |record, call| {
             step(record, call, flaw);
             Ok(())
         });
@@ -82,4 +85,28 @@ fn first_bad_walk(flaw: Flaw, seed: u64) -> Option<(u64, String)> {
         }
     }
     None
+}
+
+/// The flawed model by itself on the same changes in two orders: after how many plans these differ, and in what.
+fn first_other_plan(flaw: Flaw, seed: u64) -> Option<(u64, String)> {
+    for number in 1..=MOST_SEARCHES {
+        let mut random = Random::for_case(seed, PART, number);
+        let n = random.between(2, 4);
+        let (area, list) = small_area(&mut random, n);
+        let reordered = in_another_order(&mut random, &list);
+        let tables = SixTables::filled(&mut random, RIGHT_SIZES);
+        let first = model_plan(&area, &list, tables.clone(), flaw);
+        let other = model_plan(&area, &reordered, tables, flaw);
+        if let Err(what) = same_plan(&other, &first) {
+            return Some((number, what));
+        }
+    }
+    None
+}
+
+fn model_plan(area: &Area, list: &[u8], mut tables: SixTables, flaw: Flaw) -> Planned {
+    tables.tables[0].cells_mut().copy_from_slice(&area.metric);
+    let mut record = Record::default();
+    let answer = plan(area.n, list, &mut tables.lend(), &mut record, flaw);
+    Planned { answer, record, tables }
 }

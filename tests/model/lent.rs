@@ -6,7 +6,7 @@ use crate::random::Random;
 
 const MARGIN: usize = 8;
 
-#[derive(Clone)]
+#[derive(Clone, PartialEq)]
 pub struct Lent {
     all: Vec<u32>,
 }
@@ -57,7 +57,7 @@ pub const TABLE_NAMES: [&str; 6] = ["old", "new", "old_dist", "new_dist", "old_h
 pub const RIGHT_SIZES: [usize; 6] = [CELLS; 6];
 
 /// The six tables that Plan and the texts are lent.
-#[derive(Clone)]
+#[derive(Clone, PartialEq)]
 pub struct SixTables {
     pub tables: [Lent; 6],
 }

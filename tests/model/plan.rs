@@ -1,4 +1,4 @@
-//! Plan: the new metrics, both topologies' paths and the fresh record (01, "The plan").
+//! Plan: the new metrics, both topologies' paths and the fresh record (01, "The plan"; 02, No. 2, for the root).
 
 use crate::flaw::Flaw;
 use crate::ofib::{Record, Tables, WIDTH};
@@ -130,16 +130,17 @@ fn direction(old: &[u32], changes: &[Change]) -> Option<u8> {
     }
 }
 
-/// The router that is an end of every change. A common router is an end of the first change, and where both of its ends
-/// are common the far one is meant: so the far end is tried first.
+/// The router that is an end of every change; of two the one with the lower number (02, No. 2).
 fn root(changes: &[Change], flaw: Flaw) -> Option<u8> {
     let first = changes.first()?;
-    let mut ends = [first.to, first.from];
-    if flaw == Flaw::RootNearEnd {
-        ends.reverse();
+    let is_common = |&router: &u8| changes.iter().all(|change| change.has_end(router));
+    let mut routers = 0..WIDTH as u8;
+    match flaw {
+        Flaw::RootHigher => routers.rfind(is_common),
+        Flaw::RootFarEnd => [first.to, first.from].into_iter().find(is_common),
+        Flaw::RootLowerEnd => Some(first.from.min(first.to)),
+        _ => routers.find(is_common),
     }
-    ends.into_iter()
-        .find(|&end| changes.iter().all(|change| change.has_end(end)))
 }
 
 /// The old metrics with the changes applied; all other cells say that there is no link.

@@ -110,20 +110,13 @@ fn digit(code: usize, place: usize) -> usize {
 }
 
 /// For each router, all lists that give its links other metrics; Plan refuses the mixed ones. A list between two
-/// routers alone comes up for both of them and is kept once, in both orders, since its first entry decides the root.
+/// routers alone comes up for both of them and is kept once.
 fn all_changes(area: &Area) -> Vec<Vec<u8>> {
     let mut lists = Vec::new();
     for router in 0..area.n {
         let links: Vec<(usize, usize)> = pairs(area.n).filter(|&(i, j)| i == router || j == router).collect();
         for code in 0..3_usize.pow(links.len() as u32) {
-            let list = changes_by_code(area, &links, code);
-            lists.push(bytes_of(&list));
-            if let [first, second] = list.as_slice()
-                && first.from == second.to
-                && first.to == second.from
-            {
-                lists.push(bytes_of(&[*second, *first]));
-            }
+            lists.push(bytes_of(&changes_by_code(area, &links, code)));
         }
     }
     lists.sort();

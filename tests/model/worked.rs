@@ -1,5 +1,5 @@
-//! The printed rehearsal and the small areas C1 to C13 of 01, and running sheets of them: the model must give what is
-//! worked out there by hand, and the library the same.
+//! The printed rehearsal and the small areas C1 to C13 of 01, by the root of 02, No. 2, and running sheets of them: the
+//! model must give what is worked out there by hand, and the library the same.
 
 use crate::areas::Area;
 use crate::changes::bytes_of;
@@ -23,8 +23,8 @@ const INPUT: &str = "03 0006 0001000001 0100000001 0102000001 0201000001 0002000
 
 const OUTPUT: &str = "\
 router 0 rank 0 waits 0 tells 2 due 4
-router 1 rank 1 waits 1 tells 4 due 4
-router 2 rank 2 waits 2 tells 0 due 3
+router 1 rank 1 waits 5 tells 0 due 4
+router 2 rank 0 waits 0 tells 2 due 3
 step 1 ok
 step 2 ok
 step 3 refused 24
@@ -34,7 +34,7 @@ step 6 ok
 step 7 ok
 step 8 ok
 step 9 ignored
-step 10 ok
+step 10 refused 24
 end
 ";
 
@@ -115,17 +115,18 @@ fn entries(links: &[Link]) -> Vec<Change> {
         .collect()
 }
 
-/// C1, C2 and C4: root, ranks and waiting sets.
+/// C1, C2 and C4: root, ranks and waiting sets. C1 and C4 are the same changes in two orders.
 fn orders() -> Result<(), String> {
-    let (_, record, _) = planned(3, &FIRST_LINKS, &FIRST_CHANGES);
-    same("C1, ranks", &record.ranks[..3], &[0, 1, 2])?;
+    let (_, first, _) = planned(3, &FIRST_LINKS, &FIRST_CHANGES);
+    same("C1, root", first.root, 1)?;
+    same("C1, ranks", &first.ranks[..3], &[0, 1, 0])?;
+    same("C1, waits", &first.waiting[..3], &[0, 5, 0])?;
     let links = [(0, 1, 1), (1, 0, 1), (0, 2, 3), (2, 0, 3)];
     let (_, record, _) = planned(3, &links, &[(1, 2, 1), (2, 1, 1)]);
-    same("C2, ranks", &record.ranks[..3], &[2, 1, 0])?;
-    same("C2, waits", &record.waiting[..3], &[2, 4, 0])?;
+    same("C2, ranks", &record.ranks[..3], &[1, 0, 1])?;
+    same("C2, waits", &record.waiting[..3], &[2, 0, 2])?;
     let (_, record, _) = planned(3, &FIRST_LINKS, &[FIRST_CHANGES[1], FIRST_CHANGES[0]]);
-    same("C4, root", record.root, 1)?;
-    same("C4, waits", &record.waiting[..3], &[0, 5, 0])
+    same("C4", record, first)
 }
 
 /// C3, C5, C6 and C13: distances and next-hop sets.
@@ -155,13 +156,15 @@ fn path(n: usize, links: &[Link], i: usize, j: usize) -> (u32, u32) {
     (dist[at(i, j)], hops[at(i, j)])
 }
 
-/// C7 to C10: refusals of Plan.
+/// C7 to C10: refusals of Plan. Then two faulty changes in both orders, of which the first decides.
 fn refusals() -> Result<(), String> {
     let answer = |n, links: &[Link], changes: &[Link]| planned(n, links, changes).0;
     same("C7", answer(2, &[(0, 1, 2)], &[(0, 1, 2)]), 11)?;
     same("C8", answer(2, &[(0, 1, 2), (1, 0, 2)], &[(0, 1, 3), (1, 0, 1)]), 12)?;
     same("C9", answer(4, &[(0, 1, 1), (2, 3, 1)], &[(0, 1, 2), (2, 3, 2)]), 13)?;
-    same("C10", answer(3, &FIRST_LINKS, &[]), 10)
+    same("C10", answer(3, &FIRST_LINKS, &[]), 10)?;
+    same("5 and then 4", answer(3, &FIRST_LINKS, &[(1, 1, 5), (3, 0, 5)]), 5)?;
+    same("4 and then 5", answer(3, &FIRST_LINKS, &[(3, 0, 5), (1, 1, 5)]), 4)
 }
 
 /// C11 and C12: answers to the printed steps.
@@ -181,9 +184,9 @@ fn printed_steps() -> Result<(), String> {
 fn sheets() -> Result<(), String> {
     let of = |n, links: &[Link], changes: &[Link]| sheet(&planned(n, links, changes).1, [9; 32], Flaw::None);
     let places = |routers: &[u8]| std::array::from_fn(|place| routers.get(place).copied().unwrap_or(0));
-    same("C1, sheet", of(3, &FIRST_LINKS, &FIRST_CHANGES), places(&[0, 1, 2]))?;
+    same("C1, sheet", of(3, &FIRST_LINKS, &FIRST_CHANGES), places(&[0, 2, 1]))?;
     let links = [(0, 1, 1), (1, 0, 1), (0, 2, 3), (2, 0, 3)];
-    same("C2, sheet", of(3, &links, &[(1, 2, 1), (2, 1, 1)]), places(&[2, 1, 0]))?;
+    same("C2, sheet", of(3, &links, &[(1, 2, 1), (2, 1, 1)]), places(&[1, 0, 2]))?;
     let reversed = [FIRST_CHANGES[1], FIRST_CHANGES[0]];
     same("C4, sheet", of(3, &FIRST_LINKS, &reversed), places(&[0, 2, 1]))?;
     let links = [(0, 1, 1), (1, 0, 1), (1, 3, 1), (3, 1, 1), (2, 3, 1), (3, 2, 1)];

@@ -2,7 +2,8 @@
 -- without it the numbers are below n - 1.
 --     without          a distinct list of numbers below n + 1, without n: it is at most one number shorter
 --     pigeonhole       a distinct list of numbers below n has at most n of them
-use Prim.Native.Nat.{ℕ, zero, suc, _≤_}
+--     onto             a function that takes the numbers below n to different ones below n takes one to each of them
+use Prim.Native.Nat.{ℕ, zero, suc, _≤_, _<_}
 use mathlib.Core.Path.{_≡_, refl, sym, _∙_, subst}
 use mathlib.Core.Logic.{_≢_, inl, inr, ⊎-elim}
 use mathlib.Core.List.{List, [], _∷_}
@@ -11,6 +12,7 @@ use native.Mathlib.Nat.{not-suc-le-zero}
 use native.Mathlib.Omega.{arith}
 use lib.ListN.{length}
 use Rattle.area.specs.Lists.{_∈_, Distinct, Below}
+use Rattle.area.specs.MemberLaws.{member?}
 
 -- what is left of the list l without n
 record Without (n : ℕ) (l : List ℕ) : Type 0 where
@@ -54,3 +56,47 @@ pigeonhole zero (x ∷ l) d b = absurd (not-suc-le-zero (b x (inl refl)))
 pigeonhole (suc n) l d b =
     let w = without n l d b in
     omega (arith, w .long, pigeonhole n (w .rest) (w .distinct) (w .below))
+
+-- ---- a function from the numbers below n to different numbers below n
+module _
+    (n : ℕ) (f : ℕ → ℕ)
+    (inside : (x : ℕ) → x < n → f x < n)
+    (apart : (x y : ℕ) → x < n → y < n → f x ≡ f y → x ≡ y)
+  where
+    -- the numbers that it takes those below k to
+    record Taken (k : ℕ) : Type 0 where
+      list : List ℕ
+      size : length list ≡ k
+      distinct : Distinct list
+      from-below : (y : ℕ) → y ∈ list → (x : ℕ) × (x < k) × (f x ≡ y)
+
+    taken : (k : ℕ) → k ≤ n → Taken k
+    taken zero h = record { list = []; size = refl; distinct = tt; from-below = λ y m. absurd m }
+    taken (suc k) h =
+        let t = taken k (omega arith) in
+        let new : f k ∈ (t .list) → ⊥ = λ m.
+        let x = t .from-below (f k) m in
+        let same = apart (x .0) k (omega (arith, x .1)) (omega arith) (x .2) in
+        omega (arith, same, x .1) in
+        record {
+          list = f k ∷ t .list;
+          size = omega (arith, t .size);
+          distinct = (new, t .distinct);
+          from-below = λ y. ⊎-elim
+              (λ e. (k, omega arith, sym e))
+              (λ m. let x = t .from-below y m in (x .0, omega (arith, x .1), x .2));
+        }
+
+    pub onto : (y : ℕ) → y < n → (x : ℕ) × (x < n) × (f x ≡ y)
+    onto y h = by-member (member? y (t .list))
+      where
+        t : Taken n
+        t = taken n (omega arith)
+
+        by-member : Dec (y ∈ t .list) → (x : ℕ) × (x < n) × (f x ≡ y)
+        by-member (yes m) = t .from-below y m
+        by-member (no m) =
+            let below : Below n (y ∷ t .list) = λ z. ⊎-elim
+            (λ e. omega (arith, e))
+            (λ m. let x = t .from-below z m in omega (arith, x .2, inside (x .0) (x .1))) in
+            absurd (let x : ⊥ = omega (arith, t .size, pigeonhole n (y ∷ t .list) (m, t .distinct) below) in x)

@@ -2,18 +2,26 @@
 use entries::count;
 use entries::decode;
 ghost use mathlib.Core.Path.{_≡_};
+ghost use Rattle.area.specs.Tests.{pick};
 ghost use Rattle.changes.specs.Root.{isCommon, root};
 
-// The far end of the first change where that is an end of every change, and else its near end.
+// The lower end of the first change where that is an end of every change, and else the upper end.
 pub fn root(list: &[u8]) -> usize
     ensures answer { λ r. ⌜ r ≡ root (now (list .entry)) ⌝ }
 {
     let first = decode(list, 0);
-    if is_common(list, first.to) {
-        first.to
+    if first.to < first.from {
+        common_of(list, first.to, first.from)
     } else {
-        first.from
+        common_of(list, first.from, first.to)
     }
+}
+
+// The lower of two routers where that is an end of every change, and else the upper one.
+fn common_of(list: &[u8], lower: usize, upper: usize) -> usize
+    ensures answer { λ r. ⌜ r ≡ pick (isCommon (now (list .entry)) lower) lower upper ⌝ }
+{
+    if is_common(list, lower) { lower } else { upper }
 }
 
 // Is router c an end of every change?

@@ -2,10 +2,12 @@
 -- entries cites these and opens none of the definitions.
 --     read-from, read-to, read-metric, read-cell
 --                          the fields of an entry that code has read, and the cell of its pair
---     entry-count-is, entry-count-least
+--     entry-count-is, entry-count-least, entry-count-same
 --                          how many entries a list has
 --     entry-bytes, entry-same
 --                          an entry by its five bytes
+--     joined-count, joined-left, joined-right
+--                          the entries of two lists joined
 --     metric-fits          a metric of three bytes is at most `unused`
 --     of-pair, pair-of     the pair of an entry
 --     free-none, free-true, free-false, free-taken, free-kept, free-other
@@ -17,17 +19,17 @@
 --     given-start, given-next, given-more, given-kept, given-none, given-cases, given-at
 --                          the metric that a list gives a pair
 --     cell-entered         the cells of a table in which an entry is put
-use Prim.Native.Nat.{ℕ, zero, suc, _+_, _*_, _≤_, _<_}
+use Prim.Native.Nat.{ℕ, zero, suc, _+_, _*_, _%_, _≤_, _<_}
 use mathlib.Core.Path.{_≡_, refl, sym, ap, ap₂, _∙_}
 use mathlib.Core.Bool.{Bool, true, false, not, _&&_, false≢true}
 use mathlib.Core.Logic.{_≢_, _⊎_, inl, inr, ⊎-elim}
-use mathlib.Core.List.{List}
+use mathlib.Core.List.{List, _++_}
 use native.Mathlib.Nat.{eq-or-lt-of-le, le-of-suc-le-suc, not-suc-le-zero}
 use native.Mathlib.Decide.{decLt, ℕ-discrete}
 use native.Mathlib.Omega.{arith}
 use lib.Dec.{ltb, eqb}
-use lib.ListN.{length, getD, set}
-use lib.Seq.{getD-set-same, getD-set-other}
+use lib.ListN.{length, getD, set, length-append, List·getD-append}
+use lib.Seq.{getD-set-same, getD-set-other, getD-append-add}
 use borrow.Author.Tests.{eqb-true, lt-ltb, le-ltb, eq-eqb, ne-eqb, not-true}
 use Rattle.area.specs.Limits.{width, unused}
 use Rattle.area.specs.Refusals.{unknownRouter, selfLink, badMetric, repeated}
@@ -62,6 +64,10 @@ pub entry-count-least : (l : List ℕ) (k : ℕ) → 5 * k ≤ length l → k �
 unfolding entryCount
 entry-count-least l k h = omega arith
 
+pub entry-count-same : (l m : List ℕ) → length l ≡ length m → entryCount l ≡ entryCount m
+unfolding entryCount
+entry-count-same l m e = omega arith
+
 pub entry-bytes :
     (l : List ℕ) (e : ℕ)
     → e < entryCount l
@@ -82,6 +88,30 @@ entry-same l m e a b same =
     rw (lt-ltb e (entryCount l) a, lt-ltb e (entryCount m) b)
     (rw (same (5 * e) (omega arith), same (5 * e + 1) (omega arith), same (5 * e + 2) (omega arith))
     (rw (same (5 * e + 3) (omega arith), same (5 * e + 4) (omega arith)) refl))
+
+-- ---- two lists joined, the first of whole entries: its entries, and then those of the second
+module _ (l k : List ℕ) (whole : length l % 5 ≡ 0) where
+  pub joined-count : entryCount (l ++ k) ≡ entryCount l + entryCount k
+  unfolding entryCount
+  joined-count = omega (arith, length-append l k)
+
+  pub joined-left : (e : ℕ) → e < entryCount l → entryOf (l ++ k) e ≡ entryOf l e
+  unfolding entryCount
+  joined-left e b =
+      entry-same (l ++ k) l e (omega (arith, joined-count)) b
+      (λ i h. List·getD-append l k 0 i (omega arith))
+
+  pub joined-right : (e : ℕ) → e < entryCount k → entryOf (l ++ k) (entryCount l + e) ≡ entryOf k e
+  unfolding entryOf entryCount
+  joined-right e b =
+      let at = entryCount l + e in
+      rw (lt-ltb (entryCount l + e) (entryCount (l ++ k)) (omega (arith, joined-count)), lt-ltb e (entryCount k) b)
+      (rw (byte (5 * at) (5 * e) (omega arith), byte (5 * at + 1) (5 * e + 1) (omega arith))
+      (rw (byte (5 * at + 2) (5 * e + 2) (omega arith), byte (5 * at + 3) (5 * e + 3) (omega arith))
+      (rw (byte (5 * at + 4) (5 * e + 4) (omega arith)) refl)))
+    where
+      byte : (x y : ℕ) → x ≡ length l + y → getD (l ++ k) x 0 ≡ getD k y 0
+      byte x y q = ap (λ (z : ℕ). getD (l ++ k) z 0) q ∙ getD-append-add l k y 0
 
 pub metric-fits : (l : List ℕ) → ((k : ℕ) → getD l k 0 < 256) → (e : ℕ) → entryOf l e .metric ≤ unused
 unfolding entryOf

@@ -1,6 +1,6 @@
 -- Demand 3 on three routers: two changes that Plan accepts, calls in order, and the loops that the order rules out. All
 -- of it is computed from the definitions. C1 is a rise, 1–2 goes down; C2 is a fall, 1–2 comes up at 1. Every link
--- goes both ways, and the root is 2 in both.
+-- goes both ways, and the root is 1 in both.
 --
 --         0               0
 --      1 / \ 3         1 / \ 3
@@ -70,17 +70,17 @@ lent = asTables metricsUp metricsUp metricsUp metricsUp metricsUp
 abbrev three : ℕ → ℕ → ℕ → List ℕ
 three x y z = x ∷ y ∷ z ∷ replicate (width - 3) 0
 
--- the records: 1 waits for 0 and 2 for 1 in the rise, 0 for 1 and 1 for 2 in the fall; destination 2 is due at 0 and at
--- 1, and both others are due at 2
+-- the records: 1 waits for 0 and 2 in the rise, and both wait for 1 in the fall; destination 2 is due at 0 and at 1, and
+-- both others are due at 2
 beforeRise : Record
 beforeRise =
     record {
       n = 3;
-      root = 2;
+      root = 1;
       direction = 1;
-      ranks = three 0 1 2;
-      waiting = three 0 1 2;
-      telling = three 2 4 0;
+      ranks = three 0 1 0;
+      waiting = three 0 5 0;
+      telling = three 2 0 2;
       due = three 4 4 3;
       states = three 0 0 0;
       written = three 0 0 0;
@@ -90,11 +90,11 @@ beforeFall : Record
 beforeFall =
     record {
       n = 3;
-      root = 2;
+      root = 1;
       direction = 2;
-      ranks = three 2 1 0;
-      waiting = three 2 4 0;
-      telling = three 0 1 2;
+      ranks = three 1 0 1;
+      waiting = three 2 0 2;
+      telling = three 0 5 0;
       due = three 4 4 3;
       states = three 0 0 0;
       written = three 0 0 0;
@@ -118,28 +118,30 @@ planned = (record { accepted = refl; given = refl }, record { accepted = refl; g
 riseCalls : List Call
 riseCalls = call 1 1 0 ∷ call 2 1 0 ∷ call 3 1 2 ∷ call 1 0 0 ∷ call 2 0 0 ∷ call 3 0 2 ∷ []
 
--- Then 0 is done and tells 1, twice, and 1 writes 2.
+-- Then 0 is done and tells 1, twice; 1 still waits for 2. 2 writes both others, is done and tells 1, and 1 writes 2.
 riseRest : List Call
-riseRest = call 4 0 0 ∷ call 5 0 1 ∷ call 5 0 1 ∷ call 3 1 2 ∷ []
+riseRest =
+    call 4 0 0 ∷ call 5 0 1 ∷ call 5 0 1 ∷ call 3 1 2 ∷ call 1 2 0 ∷ call 2 2 0 ∷
+    call 3 2 0 ∷ call 3 2 1 ∷ call 4 2 0 ∷ call 5 2 1 ∷ call 3 1 2 ∷ []
 
--- Fall: 0 may not write 2 before 1 is done. 2 writes both others, is done and tells 1, and 1 writes 2.
+-- Fall: 0 and 2 may not write before 1 is done. 1 writes 2.
 fallCalls : List Call
 fallCalls =
     call 1 0 0 ∷ call 2 0 0 ∷ call 3 0 2 ∷ call 1 2 0 ∷ call 2 2 0 ∷ call 3 2 0 ∷
-    call 3 2 1 ∷ call 4 2 0 ∷ call 1 1 0 ∷ call 2 1 0 ∷ call 5 2 1 ∷ call 3 1 2 ∷ []
+    call 1 1 0 ∷ call 2 1 0 ∷ call 3 1 2 ∷ []
 
 -- the answers to the calls, and that one of the routers 0 and 1 has written 2 and the other has not
 record RiseAnswers (r : Record) : Type 0 where
-  all-ten :
+  all-replies :
       replies r (riseCalls ++ riseRest)
-      ≡ ok ∷ ok ∷ refused 24 ∷ ok ∷ ok ∷ ok ∷ ok ∷ ok ∷ ignored ∷ ok ∷ []
+      ≡ ok ∷ ok ∷ refused 24 ∷ ok ∷ ok ∷ ok ∷ ok ∷ ok ∷ ignored ∷ refused 24 ∷ ok ∷ ok ∷ ok ∷ ok ∷ ok ∷ ok ∷ ok ∷ []
   has-written : hasWritten r riseCalls 0 2 ≡ true
   has-not : hasWritten r riseCalls 1 2 ≡ false
 
 record FallAnswers (r : Record) : Type 0 where
-  all-twelve :
+  all-replies :
       replies r fallCalls
-      ≡ ok ∷ ok ∷ refused 24 ∷ ok ∷ ok ∷ ok ∷ ok ∷ ok ∷ ok ∷ ok ∷ ok ∷ ok ∷ []
+      ≡ ok ∷ ok ∷ refused 24 ∷ ok ∷ ok ∷ refused 24 ∷ ok ∷ ok ∷ ok ∷ []
   has-written : hasWritten r fallCalls 1 2 ≡ true
   has-not : hasWritten r fallCalls 0 2 ≡ false
 
@@ -147,8 +149,8 @@ answered : RiseAnswers (recordOf 3 metricsUp goesDown lent) × FallAnswers (reco
 unfolding beforeRise beforeFall riseCalls riseRest fallCalls replies hasWritten stepOf callOf areRouters readsB
     isKind isSound isRouterCount all deliver listens finish write ready release learn bit setOf added removed subset
 answered = (
-  subst RiseAnswers (sym (planned .0 .given)) (record { all-ten = refl; has-written = refl; has-not = refl }),
-  subst FallAnswers (sym (planned .1 .given)) (record { all-twelve = refl; has-written = refl; has-not = refl }),
+  subst RiseAnswers (sym (planned .0 .given)) (record { all-replies = refl; has-written = refl; has-not = refl }),
+  subst FallAnswers (sym (planned .1 .given)) (record { all-replies = refl; has-written = refl; has-not = refl }),
 )
 
 -- demand 3 after these calls

@@ -7,4 +7,5 @@ pub mod WaitingLaws
 pub mod PlanLaws
 pub mod FreshLaws
 pub mod FilledLaws
+pub mod SameLaws
 pub mod Parts

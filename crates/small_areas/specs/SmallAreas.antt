@@ -2,6 +2,7 @@
 -- definitions agree with every row of it.
 --     C1 .. C13        the rows of 01's table, each drawn above it
 --     sheets           after them, running sheets (02, No. 1)
+--     orders           lists of changes in several orders (02, No. 2)
 --     rehearsed        and all that the rehearsal replies and prints
 --     agreed           the theorem
 use Prim.Native.Nat.{ℕ, _/_, _%_}
@@ -127,7 +128,9 @@ case f rs = record { file = f; results = rs }
 --        0 --- 2            0 --- 2
 --           3                  3
 abbrev C1 : Case
-C1 = case rehearsal (ranks is (0 ∷ 1 ∷ 2 ∷ []) ∷ [])
+C1 =
+    case rehearsal
+    (root is 1 ∷ ranks is (0 ∷ 1 ∷ 0 ∷ []) ∷ waits is (0 ∷ 5 ∷ 0 ∷ []) ∷ [])
 
 -- C2: link 1–2 comes up.
 --
@@ -138,7 +141,7 @@ C1 = case rehearsal (ranks is (0 ∷ 1 ∷ 2 ∷ []) ∷ [])
 abbrev C2 : Case
 C2 =
     case (bench 3 (both 0 1 1 ++ both 0 2 3) (both 1 2 1) [])
-    (ranks is (2 ∷ 1 ∷ 0 ∷ []) ∷ waits is (2 ∷ 4 ∷ 0 ∷ []) ∷ [])
+    (root is 1 ∷ ranks is (1 ∷ 0 ∷ 1 ∷ []) ∷ waits is (2 ∷ 0 ∷ 2 ∷ []) ∷ [])
 
 -- C3: C1 where two ways from 0 to 2 cost the same: sets {1, 2} and then {2}.
 --
@@ -151,11 +154,11 @@ C3 =
     case (bench 3 (triangle 2) (both 1 2 down) [])
     (oldSet 0 2 is 6 ∷ newSet 0 2 is 4 ∷ [])
 
--- C4: C1 with its changes in the other order, 2→1 before 1→2.
+-- C4: C1 with its changes in the other order, 2→1 before 1→2, and the same plan (02, No. 2).
 abbrev C4 : Case
 C4 =
     case (bench 3 (triangle 3) (both 2 1 down) [])
-    (root is 1 ∷ waits is (0 ∷ 5 ∷ 0 ∷ []) ∷ [])
+    (root is 1 ∷ ranks is (0 ∷ 1 ∷ 0 ∷ []) ∷ waits is (0 ∷ 5 ∷ 0 ∷ []) ∷ [])
 
 -- C5: a link that is not used.
 --
@@ -218,15 +221,14 @@ C13 =
 abbrev places : (routers : List ℕ) → List ℕ
 places routers = take 32 (routers ++ replicate 32 0)
 
--- In C1 router 2 waits for 1, and 1 for 0.
+-- In C1 and in C4 router 1 waits for 0 and 2.
 abbrev sheetC1 : Case
-sheetC1 = case (C1 .file) (sheet is places (0 ∷ 1 ∷ 2 ∷ []) ∷ [])
+sheetC1 = case (C1 .file) (sheet is places (0 ∷ 2 ∷ 1 ∷ []) ∷ [])
 
--- In C2 router 0 waits for 1, and 1 for 2.
+-- In C2 routers 0 and 2 wait for 1.
 abbrev sheetC2 : Case
-sheetC2 = case (C2 .file) (sheet is places (2 ∷ 1 ∷ 0 ∷ []) ∷ [])
+sheetC2 = case (C2 .file) (sheet is places (1 ∷ 0 ∷ 2 ∷ []) ∷ [])
 
--- In C4 router 1 waits for 0 and 2.
 abbrev sheetC4 : Case
 sheetC4 = case (C4 .file) (sheet is places (0 ∷ 2 ∷ 1 ∷ []) ∷ [])
 
@@ -247,22 +249,47 @@ lowestFirst =
 abbrev sheets : List Case
 sheets = sheetC1 ∷ sheetC2 ∷ sheetC4 ∷ sheetC9 ∷ lowestFirst ∷ []
 
--- ---- the rehearsal, with the lines that 01 has below its file
+-- ---- the order of the changes (02, No. 2)
+-- A fall of three changes that have router 1 in common. In either order the root is 1, and 0 and 2 wait for it; in the
+-- second the lower end of the first change is not common.
+--
+--        0 --2-- 1 --2-- 2          0 --1-- 1 --1-> 2
+--                                           1 <-2-- 2
+abbrev threeChanges : (changes : List ℕ) → Case
+threeChanges changes =
+    case (bench 3 (both 0 1 2 ++ both 1 2 2) changes [])
+    (root is 1 ∷ ranks is (1 ∷ 0 ∷ 1 ∷ []) ∷ waits is (2 ∷ 0 ∷ 2 ∷ []) ∷ [])
+
+-- The number of a refusal is that of the first faulty change, so it does depend on the order: 0→1 is at 1 already, and
+-- there is no link from 1 to itself.
+abbrev twoFaults : (changes : List ℕ) (number : ℕ) → Case
+twoFaults changes number = case (bench 3 (triangle 3) changes []) (refusal is number ∷ [])
+
+abbrev orders : List Case
+orders =
+    threeChanges (link 1 2 1 ++ link 1 0 1 ++ link 0 1 1)
+    ∷ threeChanges (link 0 1 1 ++ link 1 2 1 ++ link 1 0 1)
+    ∷ twoFaults (link 0 1 1 ++ link 1 1 2) 11
+    ∷ twoFaults (link 1 1 2 ++ link 0 1 1) 5
+    ∷ []
+
+-- ---- the rehearsal, with the lines that 01 has below its file, as they are since 02, No. 2
 abbrev routerLines : List ℕ
 routerLines =
     word "router 0 rank 0 waits 0 tells 2 due 4\n"
-    ++ word "router 1 rank 1 waits 1 tells 4 due 4\n"
-    ++ word "router 2 rank 2 waits 2 tells 0 due 3\n"
+    ++ word "router 1 rank 1 waits 5 tells 0 due 4\n"
+    ++ word "router 2 rank 0 waits 0 tells 2 due 3\n"
 
 abbrev stepLines : List ℕ
 stepLines =
     word "step 1 ok\nstep 2 ok\nstep 3 refused 24\nstep 4 ok\nstep 5 ok\n"
-    ++ word "step 6 ok\nstep 7 ok\nstep 8 ok\nstep 9 ignored\nstep 10 ok\nend\n"
+    ++ word "step 6 ok\nstep 7 ok\nstep 8 ok\nstep 9 ignored\nstep 10 refused 24\nend\n"
 
 -- all ten replies, and all that is printed
 abbrev replied : Case
 replied =
-    case rehearsal (allSteps is (ok ∷ ok ∷ refused 24 ∷ ok ∷ ok ∷ ok ∷ ok ∷ ok ∷ ignored ∷ ok ∷ []) ∷ [])
+    case rehearsal
+    (allSteps is (ok ∷ ok ∷ refused 24 ∷ ok ∷ ok ∷ ok ∷ ok ∷ ok ∷ ignored ∷ refused 24 ∷ []) ∷ [])
 
 abbrev wholeText : Case
 wholeText = case rehearsal (printed is (routerLines ++ stepLines) ∷ [])
@@ -274,7 +301,7 @@ rehearsed = replied ∷ wholeText ∷ []
 cases : List Case
 cases =
     C1 ∷ C2 ∷ C3 ∷ C4 ∷ C5 ∷ C6 ∷ C7 ∷ C8 ∷ C9 ∷ C10 ∷ C11 ∷ C12 ∷ C13
-    ∷ sheets ++ rehearsed
+    ∷ sheets ++ orders ++ rehearsed
 
 -- the questions of a row, with the definitions' answers
 abbrev answered : (c : Case) → List Result
@@ -285,10 +312,10 @@ abbrev Agree : (cs : List Case) → Type 0
 Agree [] = Unit {0}
 Agree (c ∷ cs) = (answered c ≡ c .results) × Agree cs
 
--- The definitions agree with the list: both sides are computed, in each of its twenty rows.
-others : Agree (sheets ++ rehearsed)
+-- The definitions agree with the list: both sides are computed, in each of its 24 rows.
+others : Agree (sheets ++ orders ++ rehearsed)
 unfolding answer
-others = (refl, (refl, (refl, (refl, (refl, (refl, (refl, tt)))))))
+others = (refl, (refl, (refl, (refl, (refl, (refl, (refl, (refl, (refl, (refl, (refl, tt)))))))))))
 
 agreed : Agree cases
 unfolding cases answer

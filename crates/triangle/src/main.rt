@@ -37,7 +37,7 @@ fn main() {
     let fresh = print_plan(planned);
     let learned = print_step(fresh.learn(1));
     let released = print_step(learned.release(1));
-    let refused = print_step(released.write(1, 2)); // router 1 still waits for router 0
+    let refused = print_step(released.write(1, 2)); // router 1 still waits for 0 and 2
     print_step(in_place::applied(refused.now, LEARN, 0, 0)); // by its kind, on a record by value
 }
 

@@ -1,0 +1,143 @@
+-- An accepted plan depends on the set of changes and not on their order (02, No. 2). l and k are lists with the same
+-- changes.
+--     same-plan        where both are accepted, the records are the same, and so are the tables
+--     same-accepted    where l is accepted, so is k if it is as long: the same changes in another order
+--     either-order     two reports, each of whole entries, give the same plan whichever comes first
+-- The number of a refusal is not among this: it is that of the first faulty change.
+use Prim.Native.Nat.{ℕ, _%_, _<_}
+use mathlib.Core.Path.{_≡_, refl, sym, ap, _∙_}
+use mathlib.Core.Bool.{true, not, _&&_}
+use mathlib.Core.Logic.{⊎-elim, inl, inr}
+use mathlib.Core.List.{List, _++_}
+use native.Mathlib.Omega.{arith}
+use lib.Dec.{ltb, eqb}
+use lib.ListN.{length, length-append}
+use Rattle.area.specs.Limits.{width, unused}
+use Rattle.area.specs.Tests.{pick}
+use Rattle.area.specs.Tables.{cell, perRouter}
+use Rattle.area.specs.TableLaws.{is-tabulate, length-tabulate, cell-tabulate}
+use Rattle.area.specs.PerRouterLaws.{per-same}
+use Rattle.sets.specs.SetLaws.{setOf-same}
+use Rattle.topology.specs.Topology.{topology}
+use Rattle.topology.specs.NextHops.{nextHops}
+use Rattle.order.specs.OrderLaws.{telling-same, ranks-same}
+use Rattle.entries.specs.Entries.{entryCount}
+use Rattle.entries.specs.EntryLaws.{entry-count-same}
+use Rattle.changes.specs.Changes.{isRise}
+use Rattle.changes.specs.Root.{isCommon, root}
+use Rattle.changes.specs.SameChanges.{SameChanges, Once}
+use Rattle.changes.specs.RootLaws.{common-root}
+use Rattle.changes.specs.SameLaws.{joined-same, common-same, rise-same, fall-same, root-same, given-same, sound-same}
+use Rattle.plan.specs.NewMetrics.{newCell, newMetrics}
+use Rattle.plan.specs.Waiting.{oldHops, newHops, waiting, telling, due}
+use Rattle.plan.specs.Plan.{Tables, areTables, planRefusal, fresh, filled, recordOf, tablesOf}
+use Rattle.plan.specs.PlanLaws.{Plan, plan-of, of-plan, planned-true, planned-is, record-planned, tables-planned}
+
+plan-once : (n : ℕ) (m l : List ℕ) → Plan n m l → Once l
+plan-once n m l p e b = p .sound e b .new
+
+module _ (n : ℕ) (m l k : List ℕ) (s : SameChanges l k) (p : Plan n m l) (q : Plan n m k) where
+  -- ---- the new tables
+  same-cell : (i j : ℕ) → newCell n m l i j ≡ newCell n m k i j
+  unfolding newCell
+  same-cell i j =
+      ap (λ (x : ℕ). pick (ltb i n && (ltb j n && not (eqb i j))) x unused)
+      (given-same l k i j (cell width m i j) s (plan-once n m l p) (plan-once n m k q))
+
+  same-metrics : newMetrics n m l ≡ newMetrics n m k
+  unfolding newMetrics
+  same-metrics =
+      is-tabulate width (newCell n m k) (newMetrics n m l) (omega arith) (length-tabulate width (newCell n m l))
+      (λ i j a b. cell-tabulate width (newCell n m l) i j a b ∙ same-cell i j)
+
+  same-filled : filled n m l ≡ filled n m k
+  unfolding filled
+  same-filled = rw same-metrics refl
+
+  -- ---- the record, field by field
+  same-root : root l ≡ root k
+  same-root = root-same l k s (p .some) (q .some) (p .common)
+
+  same-hops : (i j : ℕ) → newHops n m l i j ≡ newHops n m k i j
+  unfolding newHops
+  same-hops i j = ap (λ (t : List ℕ). nextHops width n (topology n t) i j) same-metrics
+
+  same-waiting : (r : ℕ) → waiting n m l r ≡ waiting n m k r
+  unfolding waiting
+  same-waiting r = rw (same-root, rise-same l k s m, same-hops r (root k)) refl
+
+  same-due : (r : ℕ) → due n m l r ≡ due n m k r
+  unfolding due
+  same-due r =
+      setOf-same n
+      (λ d. not (eqb (oldHops n m r d) (newHops n m l r d)))
+      (λ d. not (eqb (oldHops n m r d) (newHops n m k r d)))
+      (λ d h. ap (λ (x : ℕ). not (eqb (oldHops n m r d) x)) (same-hops r d))
+
+  same-telling : perRouter width n (telling n m l) ≡ perRouter width n (telling n m k)
+  unfolding telling
+  same-telling = telling-same width n (waiting n m l) (waiting n m k) (p .ready .most) (λ r h. same-waiting r)
+
+  same-fresh : fresh n m l ≡ fresh n m k
+  unfolding fresh
+  same-fresh =
+      let most = p .ready .most in
+      let waits = per-same width n (waiting n m l) (waiting n m k) most (λ r h. same-waiting r) in
+      let ranks = ranks-same width n (waiting n m l) (waiting n m k) most (λ r h. same-waiting r) in
+      let dues = per-same width n (due n m l) (due n m k) most (λ r h. same-due r) in
+      rw (same-root, rise-same l k s m, waits, same-telling, ranks, dues) refl
+
+module _ (n : ℕ) (m l k : List ℕ) (t : Tables) (s : SameChanges l k) where
+  pub same-plan :
+      planRefusal n m l (areTables m t) ≡ 0
+      → planRefusal n m k (areTables m t) ≡ 0
+      → (recordOf n m l t ≡ recordOf n m k t) × (tablesOf n m l t ≡ tablesOf n m k t)
+  same-plan a b =
+      let p = plan-of n m l t a in
+      let q = plan-of n m k t b in
+      let x = planned-true n m l t a in
+      let y = planned-true n m k t b in (
+        record-planned n m l t x ∙ same-fresh n m l k s p q ∙ sym (record-planned n m k t y),
+        tables-planned n m l t x ∙ same-filled n m l k s p q ∙ sym (tables-planned n m k t y),
+      )
+
+  -- ---- whether a list is accepted
+  module _ (long : length k ≡ length l) (a : planRefusal n m l (areTables m t) ≡ 0) where
+    p : Plan n m l
+    p = plan-of n m l t a
+
+    many : entryCount k ≡ entryCount l
+    many = entry-count-same k l long
+
+    some : 0 < entryCount k
+    some = omega (arith, many, p .some)
+
+    common : isCommon k (root k) ≡ true
+    common = common-root k some (root l) (sym (common-same l k s (root l)) ∙ p .common)
+
+    pub same-accepted : planRefusal n m k (areTables m t) ≡ 0
+    same-accepted = of-plan n m k t (planned-is n m l t .0 (planned-true n m l t a) .0) (record {
+      ready = p .ready;
+      whole = ap (λ (x : ℕ). x % 5) long ∙ p .whole;
+      most = omega (arith, many, p .most);
+      some = some;
+      sound = sound-same l k s many (plan-once n m l p) n m (p .sound);
+      way = ⊎-elim (λ r. inl (sym (rise-same l k s m) ∙ r)) (λ f. inr (sym (fall-same l k s m) ∙ f)) (p .way);
+      common = common;
+    })
+
+-- ---- two reports in either order
+pub either-order :
+    (n : ℕ) (m l k : List ℕ) (t : Tables)
+    → length l % 5 ≡ 0
+    → length k % 5 ≡ 0
+    → planRefusal n m (l ++ k) (areTables m t) ≡ 0
+    → (planRefusal n m (k ++ l) (areTables m t) ≡ 0)
+    × (recordOf n m (l ++ k) t ≡ recordOf n m (k ++ l) t)
+    × (tablesOf n m (l ++ k) t ≡ tablesOf n m (k ++ l) t)
+either-order n m l k t a b accepted =
+    let same = joined-same l k a b in
+    let long : length (k ++ l) ≡ length (l ++ k) = omega (arith, length-append l k, length-append k l) in
+    let back = same-accepted n m (l ++ k) (k ++ l) t same long accepted in
+    let plan = same-plan n m (l ++ k) (k ++ l) t same accepted back in
+    (back, plan .0, plan .1)
