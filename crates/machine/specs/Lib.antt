@@ -2,8 +2,10 @@
 -- each file has is said in src/lib.rt.
 pub mod Answers
 pub mod Machine
+pub mod States
 pub mod Run
 pub mod StepLaws
+pub mod StateLaws
 pub mod MoveLaws
 pub mod CallLaws
 pub mod RunLaws

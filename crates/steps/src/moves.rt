@@ -1,12 +1,12 @@
 // The moves of one router, over the tables per router that each reads and changes. Each is the call of its kind: first
-// the refusals in their order, then one entry is written. What they promise is specs/Lent.antt.
+// the refusals in their order, of which 23 is that the event leads nowhere from the router's state (`State::after`);
+// then one entry is written. What they promise is specs/Lent.antt.
 use area::limits::WIDTH;
 use area::refusal::Refusal;
 use machine::Answer;
-use machine::DONE;
-use machine::HOLDING;
-use machine::IDLE;
-use machine::ONGOING;
+use machine::states::Event;
+use machine::states::NextState;
+use machine::states::named;
 use sets::add;
 use sets::is_subset;
 use sets::member;
@@ -20,10 +20,10 @@ pub(crate) fn learn(states: &mut [u8; WIDTH], i: usize) -> Answer
     requires { ⌜ i < width ⌝ }
     ensures { λ r. ⌜ Learns (now (states .entry)) (now (states .exit)) i (replyOf r) ⌝ }
 {
-    if states[i] != IDLE {
+    let NextState::To(holding) = named(states[i]).after(Event::Learn) else {
         return Answer::Refused(Refusal::State);
-    }
-    states[i] = HOLDING;
+    };
+    states[i] = holding.number();
     Answer::Ok
 }
 
@@ -32,10 +32,10 @@ pub(crate) fn release(states: &mut [u8; WIDTH], i: usize) -> Answer
     requires { ⌜ i < width ⌝ }
     ensures { λ r. ⌜ Releases (now (states .entry)) (now (states .exit)) i (replyOf r) ⌝ }
 {
-    if states[i] != HOLDING {
+    let NextState::To(ongoing) = named(states[i]).after(Event::Release) else {
         return Answer::Refused(Refusal::State);
-    }
-    states[i] = ONGOING;
+    };
+    states[i] = ongoing.number();
     Answer::Ok
 }
 
@@ -53,10 +53,10 @@ pub(crate) fn write(
         Writes (now (waiting .entry)) (now (due .entry)) (now (states .entry))
         (now (written .entry)) (now (written .exit)) i d (replyOf r) ⌝ }
 {
-    let at = states[i];
-    if at != ONGOING {
+    // The next state is ongoing again, so it need not be stored.
+    let NextState::To(_) = named(states[i]).after(Event::Write) else {
         return Answer::Refused(Refusal::State);
-    }
+    };
     let waits_for = waiting[i];
     if waits_for != 0 {
         return Answer::Refused(Refusal::Waiting);
@@ -85,10 +85,9 @@ pub(crate) fn finish(
         Finishes (now (waiting .entry)) (now (due .entry)) (now (written .entry))
         (now (states .entry)) (now (states .exit)) i (replyOf r) ⌝ }
 {
-    let at = states[i];
-    if at != ONGOING {
+    let NextState::To(done) = named(states[i]).after(Event::Finish) else {
         return Answer::Refused(Refusal::State);
-    }
+    };
     let unheard = waiting[i];
     if unheard != 0 {
         return Answer::Refused(Refusal::Waiting);
@@ -97,6 +96,6 @@ pub(crate) fn finish(
     if !all_written {
         return Answer::Refused(Refusal::Unwritten);
     }
-    states[i] = DONE;
+    states[i] = done.number();
     Answer::Ok
 }

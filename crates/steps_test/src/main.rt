@@ -7,11 +7,13 @@
 //     others     other ways to take a step, which must not differ
 //     compare    in how many entries two records differ
 //     show       parts of a line of the output
+//     table      the table of states and events, which comes last
 mod call;
 mod compare;
 mod others;
 mod records;
 mod show;
+mod table;
 mod taking;
 
 use cases::lines;
@@ -23,6 +25,7 @@ fn main() {
     let mut input = [0u8; 16384];
     let length = io::read_full(STDIN_FILENO, &mut input);
     run(&input[..length]);
+    table::show();
 }
 
 fn run(text: &[u8]) {

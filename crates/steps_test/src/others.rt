@@ -23,7 +23,7 @@ pub(crate) fn differing(now: Record, words: &[u8], k: usize) -> u64
 }
 
 // A step by the method of its kind. Kinds that have none are left to `step`.
-fn method(now: Record, kind: u8, a: u8, b: u8) -> Stepped {
+pub(crate) fn method(now: Record, kind: u8, a: u8, b: u8) -> Stepped {
     let machine = Machine { now };
     match kind {
         1 => machine.learn(a),

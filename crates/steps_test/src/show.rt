@@ -19,6 +19,13 @@ pub(crate) fn step(words: &[u8], k: usize)
 // An answer by its number, and how many entries changed.
 pub(crate) fn answer(number: u8, changed: u64) {
     print::byte(b'=');
+    outcome(number);
+    print::byte(b'/');
+    print::number(changed);
+}
+
+// An answer by its number.
+pub(crate) fn outcome(number: u8) {
     if number == 0 {
         print::text(b"ok");
     } else if number == 255 {
@@ -26,8 +33,6 @@ pub(crate) fn answer(number: u8, changed: u64) {
     } else {
         print::number(number as u64);
     }
-    print::byte(b'/');
-    print::number(changed);
 }
 
 // State, waiting, due and written set of each router of the area.

@@ -1,33 +1,65 @@
 -- A law of the machine for each return.
 use Prim.Native.Nat.{ℕ}
-use mathlib.Core.Path.{_≡_, sym, _∙_}
+use mathlib.Core.Path.{_≡_, sym, ap, _∙_}
 use mathlib.Core.Bool.{Bool, true, false, not}
+use mathlib.Core.Logic.{_≢_}
 use borrow.Author.Tests.{not-true, not-false}
 use borrow.Author.Needs.{needs}
 use Rattle.area.specs.Limits.{width}
-use Rattle.area.specs.Refusals.{unwritten}
+use Rattle.area.specs.Refusals.{stillWaiting, unwritten}
 use Rattle.sets.specs.Sets.{subset}
 use Rattle.plan.specs.declared.Record.{Record}
 use Rattle.machine.specs.Answers.{ok, refused, gives}
-use Rattle.machine.specs.Machine.{ongoing, done, stateOf, waitingOf, dueOf, writtenOf, withState, finish}
-use Rattle.machine.specs.StepLaws.{finish-state, finish-waiting, finish-unwritten, finish-ok}
+use Rattle.machine.specs.Machine.{ongoing, stateOf, waitingOf, dueOf, writtenOf, withState, finish}
+use Rattle.machine.specs.declared.states.State.{State}
+use Rattle.machine.specs.declared.states.Event.the-variants.{Finish}
+use Rattle.machine.specs.declared.states.NextState.{NextState}
+use Rattle.machine.specs.declared.states.NextState.the-variants.{To}
+use Rattle.machine.specs.States.{stateNumber, named, nextState}
+use Rattle.machine.specs.StepLaws.{finish-waiting, finish-unwritten, finish-ok}
+use Rattle.machine.specs.StateLaws.{finish-none, finish-at, finish-to}
+use Rattle.steps.proofs.Moving.{told}
 use Rattle.steps.proofs.moves.finish.Statement.{statement}
 use Rattle.steps.proofs.moves.finish.Tie as tie
 
--- what the test of the two sets says
-module _ (r : Record) (a : ℕ) (at : stateOf r a ≡ ongoing) (free : waitingOf r a ≡ 0) where
-  module _ (whole : Bool) (is-whole : whole ≡ subset width (dueOf r a) (writtenOf r a)) where
-    not-whole : not whole ≡ true → finish r a ≡ gives r (refused unwritten)
-    not-whole f = finish-unwritten r a at free (sym is-whole ∙ not-true whole f)
+-- what the next state says, and the test of the two sets
+module _ (r : Record) (a : ℕ) (now : State) (is-now : now ≡ named (stateOf r a)) (next : NextState) (to : State) where
+  module _ (after : next ≡ nextState now Finish) (some : next ≡ To to) where
+    leads : nextState (named (stateOf r a)) Finish ≡ To to
+    leads = told (stateOf r a) Finish now next (To to) is-now after some
 
-    finishes : not whole ≡ false → finish r a ≡ gives (withState r a done) ok
-    finishes t = finish-ok r a at free (sym is-whole ∙ not-false whole t)
+    at : stateOf r a ≡ ongoing
+    at = finish-at (stateOf r a) to leads
 
-element-copy-out-at : tie.Need-element-copy-out-at
-element-copy-out-at c = search needs
+    still-waits : waitingOf r a ≢ 0 → finish r a ≡ gives r (refused stillWaiting)
+    still-waits = finish-waiting r a at
+
+    module _ (free : waitingOf r a ≡ 0) (all : Bool) (is-all : all ≡ subset width (dueOf r a) (writtenOf r a)) where
+      not-whole : not all ≡ true → finish r a ≡ gives r (refused unwritten)
+      not-whole f = finish-unwritten r a at free (sym is-all ∙ not-true all f)
+
+      finishes : (v : ℕ) → v ≡ stateNumber to → not all ≡ false → finish r a ≡ gives (withState r a v) ok
+      finishes v e t =
+          rw (e ∙ ap stateNumber (finish-to (stateOf r a) to leads))
+          (finish-ok r a at free (sym is-all ∙ not-false all t))
+
+element-copy-out-named : tie.Need-element-copy-out-named
+element-copy-out-named c = search needs
+
+named-requires : tie.Need-named-requires
+named-requires c κs = search needs
+
+after-requires : tie.Need-after-requires
+after-requires c κs = search needs
+
+enum-known-done : tie.Need-enum-known-done
+enum-known-done c = search needs
+
+enum-told : tie.Need-enum-told
+enum-told c = search needs
 
 returns : tie.Need-returns
-returns c = λ (x : Record). sym (search finish-state)
+returns c = λ (x : Record). sym (search (finish-none, told))
 
 mul-unheard : tie.Need-mul-unheard
 mul-unheard c = search needs
@@ -36,7 +68,7 @@ element-copy-out-unheard : tie.Need-element-copy-out-unheard
 element-copy-out-unheard c = search needs
 
 returns-2 : tie.Need-returns-2
-returns-2 c = λ (x : Record). sym (search finish-waiting)
+returns-2 c = λ (x : Record). sym (search still-waits)
 
 mul-is-subset : tie.Need-mul-is-subset
 mul-is-subset c = search needs
@@ -56,6 +88,9 @@ is-subset-requires c κs = search needs
 returns-3 : tie.Need-returns-3
 returns-3 c = λ (x : Record). sym (search not-whole)
 
+number-requires : tie.Need-number-requires
+number-requires c κs = search needs
+
 element-write-states : tie.Need-element-write-states
 element-write-states c = search needs
 
@@ -66,7 +101,11 @@ pub finish-spec : {M : Type 1} → statement M
 finish-spec =
     tie.close
     (tie.spec
-    element-copy-out-at
+    element-copy-out-named
+    named-requires
+    after-requires
+    enum-known-done
+    enum-told
     returns
     mul-unheard
     element-copy-out-unheard
@@ -77,5 +116,6 @@ finish-spec =
     element-copy-out-is-subset-2
     is-subset-requires
     returns-3
+    number-requires
     element-write-states
     returns-4)

@@ -2,21 +2,48 @@
 use mathlib.Core.Path.{sym}
 use borrow.Author.Needs.{needs}
 use Rattle.plan.specs.declared.Record.{Record}
-use Rattle.machine.specs.StepLaws.{learn-state, learn-ok}
+use Rattle.machine.specs.StateLaws.{learn-none, learn-to}
+use Rattle.steps.proofs.Moving.{told}
 use Rattle.steps.proofs.moves.learn.Statement.{statement}
 use Rattle.steps.proofs.moves.learn.Tie as tie
 
-element-copy-out-if1 : tie.Need-element-copy-out-if1
-element-copy-out-if1 c = search needs
+element-copy-out-named : tie.Need-element-copy-out-named
+element-copy-out-named c = search needs
+
+named-requires : tie.Need-named-requires
+named-requires c κs = search needs
+
+after-requires : tie.Need-after-requires
+after-requires c κs = search needs
+
+enum-known-holding : tie.Need-enum-known-holding
+enum-known-holding c = search needs
+
+enum-told : tie.Need-enum-told
+enum-told c = search needs
 
 returns : tie.Need-returns
-returns c = λ (x : Record). sym (search learn-state)
+returns c = λ (x : Record). sym (search (learn-none, told))
+
+number-requires : tie.Need-number-requires
+number-requires c κs = search needs
 
 element-write-states : tie.Need-element-write-states
 element-write-states c = search needs
 
 returns-2 : tie.Need-returns-2
-returns-2 c = λ (x : Record). sym (search learn-ok)
+returns-2 c = λ (x : Record). sym (search (learn-to, told))
 
 pub learn-spec : {M : Type 1} → statement M
-learn-spec = tie.close (tie.spec element-copy-out-if1 returns element-write-states returns-2)
+learn-spec =
+    tie.close
+    (tie.spec
+    element-copy-out-named
+    named-requires
+    after-requires
+    enum-known-holding
+    enum-told
+    returns
+    number-requires
+    element-write-states
+    returns-2)

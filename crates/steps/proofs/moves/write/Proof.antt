@@ -2,36 +2,67 @@
 use Prim.Native.Nat.{ℕ}
 use mathlib.Core.Path.{_≡_, sym, _∙_}
 use mathlib.Core.Bool.{Bool, true, false, not}
+use mathlib.Core.Logic.{_≢_}
 use borrow.Author.Tests.{not-true, not-false}
 use borrow.Author.Needs.{needs}
 use Rattle.area.specs.Limits.{width}
-use Rattle.area.specs.Refusals.{notDue}
+use Rattle.area.specs.Refusals.{stillWaiting, notDue}
 use Rattle.sets.specs.Sets.{bit, added}
 use Rattle.plan.specs.declared.Record.{Record}
 use Rattle.machine.specs.Answers.{ok, refused, gives}
 use Rattle.machine.specs.Machine.{ongoing, stateOf, waitingOf, dueOf, writtenOf, withWritten, write}
-use Rattle.machine.specs.StepLaws.{write-state, write-waiting, write-not-due, write-again, write-ok}
+use Rattle.machine.specs.declared.states.State.{State}
+use Rattle.machine.specs.declared.states.Event.the-variants.{Write}
+use Rattle.machine.specs.declared.states.NextState.{NextState}
+use Rattle.machine.specs.declared.states.NextState.the-variants.{To}
+use Rattle.machine.specs.States.{named, nextState}
+use Rattle.machine.specs.StepLaws.{write-waiting, write-not-due, write-again, write-ok}
+use Rattle.machine.specs.StateLaws.{write-none, write-at}
+use Rattle.steps.proofs.Moving.{told}
 use Rattle.steps.proofs.moves.write.Statement.{statement}
 use Rattle.steps.proofs.moves.write.Tie as tie
 
--- what the two tests of members say
-module _ (r : Record) (a b : ℕ) (at : stateOf r a ≡ ongoing) (free : waitingOf r a ≡ 0) where
-  module _ (due : Bool) (is-due : due ≡ bit (dueOf r a) b) where
-    not-due : not due ≡ true → write r a b ≡ gives r (refused notDue)
-    not-due f = write-not-due r a b at free (sym is-due ∙ not-true due f)
+-- what the next state says, and the two tests of members
+module _ (r : Record) (a b : ℕ) (now : State) (is-now : now ≡ named (stateOf r a)) (next : NextState) (to : State) where
+  module _ (after : next ≡ nextState now Write) (some : next ≡ To to) where
+    at : stateOf r a ≡ ongoing
+    at = write-at (stateOf r a) to (told (stateOf r a) Write now next (To to) is-now after some)
 
-    module _ (t : not due ≡ false) (again : Bool) (is-again : again ≡ bit (writtenOf r a) b) where
-      already : again ≡ true → write r a b ≡ gives r (refused notDue)
-      already u = write-again r a b at free (sym is-due ∙ not-false due t) (sym is-again ∙ u)
+    still-waits : waitingOf r a ≢ 0 → write r a b ≡ gives r (refused stillWaiting)
+    still-waits = write-waiting r a b at
 
-      writes : (s : ℕ) → again ≡ false → s ≡ added width (writtenOf r a) b → write r a b ≡ gives (withWritten r a s) ok
-      writes s u e = rw e (write-ok r a b at free (sym is-due ∙ not-false due t) (sym is-again ∙ u))
+    module _ (free : waitingOf r a ≡ 0) (due : Bool) (is-due : due ≡ bit (dueOf r a) b) where
+      not-due : not due ≡ true → write r a b ≡ gives r (refused notDue)
+      not-due f = write-not-due r a b at free (sym is-due ∙ not-true due f)
 
-element-copy-out-at : tie.Need-element-copy-out-at
-element-copy-out-at c = search needs
+      module _ (t : not due ≡ false) (again : Bool) (is-again : again ≡ bit (writtenOf r a) b) where
+        already : again ≡ true → write r a b ≡ gives r (refused notDue)
+        already u = write-again r a b at free (sym is-due ∙ not-false due t) (sym is-again ∙ u)
+
+        writes :
+            (v : ℕ)
+            → again ≡ false
+            → v ≡ added width (writtenOf r a) b
+            → write r a b ≡ gives (withWritten r a v) ok
+        writes v u e = rw e (write-ok r a b at free (sym is-due ∙ not-false due t) (sym is-again ∙ u))
+
+element-copy-out-named : tie.Need-element-copy-out-named
+element-copy-out-named c = search needs
+
+named-requires : tie.Need-named-requires
+named-requires c κs = search needs
+
+after-requires : tie.Need-after-requires
+after-requires c κs = search needs
+
+enum-told : tie.Need-enum-told
+enum-told c = search needs
+
+enum-told-2 : tie.Need-enum-told-2
+enum-told-2 c = search needs
 
 returns : tie.Need-returns
-returns c = λ (x : Record). sym (search write-state)
+returns c = λ (x : Record). sym (search (write-none, told))
 
 mul-waits-for : tie.Need-mul-waits-for
 mul-waits-for c = search needs
@@ -40,7 +71,7 @@ element-copy-out-waits-for : tie.Need-element-copy-out-waits-for
 element-copy-out-waits-for c = search needs
 
 returns-2 : tie.Need-returns-2
-returns-2 c = λ (x : Record). sym (search write-waiting)
+returns-2 c = λ (x : Record). sym (search still-waits)
 
 mul-member : tie.Need-mul-member
 mul-member c = search needs
@@ -82,7 +113,11 @@ pub write-spec : {M : Type 1} → statement M
 write-spec =
     tie.close
     (tie.spec
-    element-copy-out-at
+    element-copy-out-named
+    named-requires
+    after-requires
+    enum-told
+    enum-told-2
     returns
     mul-waits-for
     element-copy-out-waits-for
