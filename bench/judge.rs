@@ -1,7 +1,9 @@
 //! The refusals of a plan, and what its changes have in common.
 
 use crate::entries::{Entry, Pairs, entries};
-use crate::limits::{ENTRY, MOST_CHANGES};
+use crate::limits::{CELLS, ENTRY, MOST_CHANGES};
+use crate::paths::usable;
+use crate::plan::apply;
 use crate::refusal::Refusal;
 
 /// The root of an accepted change, and whether its metrics rise.
@@ -21,12 +23,8 @@ pub fn change(n: usize, old: &[u32], list: &[u8]) -> Result<Change, Refusal> {
     if list.is_empty() {
         return Err(Refusal::NoChange);
     }
-    check_entries(n, old, list)?;
-    let rising = entries(list).all(|e| e.metric > old[e.cell()]);
-    let falling = entries(list).all(|e| e.metric < old[e.cell()]);
-    if !rising && !falling {
-        return Err(Refusal::Mixed);
-    }
+    check_entries(n, list)?;
+    let rising = direction(n, old, list)?;
     let first = Entry::decode(list);
     let root = [first.from.min(first.to), first.from.max(first.to)]
         .into_iter()
@@ -36,18 +34,29 @@ pub fn change(n: usize, old: &[u32], list: &[u8]) -> Result<Change, Refusal> {
 }
 
 /// The refusal of the first faulty entry.
-fn check_entries(n: usize, old: &[u32], list: &[u8]) -> Result<(), Refusal> {
+fn check_entries(n: usize, list: &[u8]) -> Result<(), Refusal> {
     let mut seen = Pairs::default();
     for entry in entries(list) {
         entry.check(n)?;
         if !seen.insert(&entry) {
             return Err(Refusal::Repeated);
         }
-        if entry.metric == old[entry.cell()] {
-            return Err(Refusal::SameMetric);
-        }
     }
     Ok(())
+}
+
+/// Whether the usable metrics rise. No other pair than a listed one goes a way of its own; the new metrics are worked out
+/// aside, since a refusal writes no cell.
+fn direction(n: usize, old: &[u32], list: &[u8]) -> Result<bool, Refusal> {
+    let mut new = [0; CELLS];
+    apply(n, old, list, &mut new);
+    let rising = entries(list).all(|e| usable(old, e.from, e.to) <= usable(&new, e.from, e.to));
+    let falling = entries(list).all(|e| usable(&new, e.from, e.to) <= usable(old, e.from, e.to));
+    match (rising, falling) {
+        (true, true) => Err(Refusal::SameMetric),
+        (false, false) => Err(Refusal::Mixed),
+        _ => Ok(rising),
+    }
 }
 
 /// Is router c an end of every change?

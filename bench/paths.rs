@@ -32,6 +32,15 @@ pub fn check(n: usize, metric: &[u32], sized: bool) -> Result<(), Refusal> {
     Ok(())
 }
 
+/// The metric of the link from i to j, which is used only if both directions have one.
+pub fn usable(metric: &[u32], i: usize, j: usize) -> u32 {
+    if metric[WIDTH * j + i] == UNUSED {
+        UNUSED
+    } else {
+        metric[WIDTH * i + j]
+    }
+}
+
 /// The source's rows, which are blank before. They have as many cells as there are routers.
 fn search(metric: &[u32], source: usize, dist: &mut [u32], hops: &mut [u32]) {
     let mut settled = 0u32;
@@ -59,8 +68,8 @@ fn nearest(dist: &[u32], settled: u32) -> Option<usize> {
 fn relax(metric: &[u32], source: usize, q: usize, dist: &mut [u32], hops: &mut [u32]) {
     let base = dist[q];
     let via = hops[q];
-    let links = &metric[WIDTH * q..WIDTH * q + dist.len()];
-    for (j, &m) in links.iter().enumerate() {
+    for j in 0..dist.len() {
+        let m = usable(metric, q, j);
         if j == q || m == UNUSED {
             continue;
         }

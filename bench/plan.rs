@@ -83,7 +83,7 @@ pub fn plan(n: usize, list: &[u8], t: &mut Tables) -> Result<Record, Refusal> {
 }
 
 /// The old metrics with the changes put in. Diagonal and cells beyond n are unused.
-fn apply(n: usize, old: &[u32], list: &[u8], new: &mut [u32]) {
+pub fn apply(n: usize, old: &[u32], list: &[u8], new: &mut [u32]) {
     new.fill(UNUSED);
     for i in 0..n {
         let row = WIDTH * i..WIDTH * i + n;

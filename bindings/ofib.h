@@ -42,7 +42,7 @@ extern "C" {
 #define OFIB_WIDTH 32
 // Cells of a table; that of (i, j) is at OFIB_WIDTH * i + j.
 #define OFIB_CELLS (OFIB_WIDTH * OFIB_WIDTH)
-// The metric of a link that is not used. Used ones have 1 to 16,777,214.
+// The metric of a link that is not used. Used ones have 1 to 16,777,214 in both directions.
 #define OFIB_UNUSED 16777215u
 // The distance where there is no walk.
 #define OFIB_UNREACHED 4294967295u
@@ -101,8 +101,8 @@ enum {
     OFIB_TOO_MANY = 9,       // more than n * (n - 1) links, OFIB_MOST_CHANGES changes or OFIB_MOST_STEPS steps
     // Of ofib_plan and ofib_sheet: the change.
     OFIB_NO_CHANGE = 10,        // the list is empty
-    OFIB_SAME_METRIC = 11,      // the new metric of a link is its old one
-    OFIB_MIXED = 12,            // neither every metric rises nor every metric falls
+    OFIB_SAME_METRIC = 11,      // no used link gets another metric, comes up or goes down
+    OFIB_MIXED = 12,            // of those that do, neither every one rises nor every one falls
     OFIB_NO_COMMON_ROUTER = 13, // no router is an end of every change
     // Of ofib_step.
     OFIB_BAD_RECORD = 20,    // n is not 1 to 32, or one of the 32 states is above 3
@@ -127,7 +127,8 @@ uint8_t ofib_read(
     size_t contents[OFIB_WHOLE 6]);
 
 // Paths: of n routers and their metrics, every distance and every set of next hops. Cells with a row or a column from
-// n on become OFIB_UNREACHED and 0. Of the metrics, the diagonal and what lies beyond n is not looked at.
+// n on become OFIB_UNREACHED and 0. Of the metrics, the diagonal and what lies beyond n is not looked at. A link is
+// used only if both directions have a metric below OFIB_UNUSED.
 // Gives OFIB_OK, or the first of 3, 8 and 6 that applies, and then writes no cell.
 uint8_t ofib_paths(
     size_t n,
@@ -140,8 +141,8 @@ uint8_t ofib_paths(
 // record: `routers` is n, `root` the root, `direction` OFIB_RISE or OFIB_FALL. In the tables per router, entry r
 // belongs to router r, and is 0 from n on: its rank; the sets of those that it waits for and that it tells; its due
 // destinations; its state, OFIB_IDLE; and what it has written, which is nothing yet.
-// Gives OFIB_OK, or the first that applies of 3, 8, 6, 1, 9, 10, then of the first faulty change 4, 5, 6, 7 or 11,
-// then 12, 13. With a refusal no table is written, and the record becomes all 0.
+// Gives OFIB_OK, or the first that applies of 3, 8, 6, 1, 9, 10, then of the first faulty change 4, 5, 6 or 7, then
+// of all changes together 11, 12, 13. With a refusal no table is written, and the record becomes all 0.
 uint8_t ofib_plan(
     size_t n,
     const uint32_t *OFIB_ALONE old, size_t old_len,

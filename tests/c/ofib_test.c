@@ -269,10 +269,20 @@ static void test_fall(void)
     cells("ofib_plan, C2, new next hops", tables.new_hops, planned.old_hops, OFIB_CELLS);
 }
 
+// The link of 1 and 2 goes down at one end only. All is as where both directions go down, but for the new metrics.
+static void test_one_end(void)
+{
+    const size_t reverse = OFIB_WIDTH * 2 + 1;
+    planned.new_[reverse] = planned.old[reverse];
+    one_plan("ofib_plan, 1 to 2 alone", change, OFIB_ENTRY, OFIB_OK);
+    planned.new_[reverse] = OFIB_UNUSED;
+}
+
 static void test_plan(void)
 {
     static const uint8_t unknown[] = {1, 3, 0, 0, 9}, self[] = {1, 1, 0, 0, 9}, zero[] = {1, 2, 0, 0, 0},
-                         same[] = {1, 2, 0, 0, 1}, repeated[] = {1, 2, 0, 0, 9, 1, 2, 0, 0, 9},
+                         same[] = {1, 2, 0, 0, 1}, same_then_unknown[] = {1, 2, 0, 0, 1, 1, 3, 0, 0, 9},
+                         repeated[] = {1, 2, 0, 0, 9, 1, 2, 0, 0, 9},
                          mixed[] = {1, 2, 0, 0, 9, 0, 2, 0, 0, 1},
                          apart[] = {0, 1, 0, 0, 9, 1, 2, 0, 0, 9, 2, 0, 0, 0, 9};
     static const uint8_t many[OFIB_ENTRY * (OFIB_MOST_CHANGES + 1)];
@@ -286,11 +296,13 @@ static void test_plan(void)
     one_plan("ofib_plan, from 1 to 1", self, sizeof self, OFIB_SELF_LINK);
     one_plan("ofib_plan, metric 0", zero, sizeof zero, OFIB_BAD_METRIC);
     one_plan("ofib_plan, the same metric", same, sizeof same, OFIB_SAME_METRIC);
+    one_plan("ofib_plan, the same metric, router 3", same_then_unknown, sizeof same_then_unknown, OFIB_UNKNOWN_ROUTER);
     one_plan("ofib_plan, a pair twice", repeated, sizeof repeated, OFIB_REPEATED);
     one_plan("ofib_plan, up and down", mixed, sizeof mixed, OFIB_MIXED);
     one_plan("ofib_plan, three links", apart, sizeof apart, OFIB_NO_COMMON_ROUTER);
     test_plan_sizes();
     test_sheet_sizes();
+    test_one_end();
     test_fall();
 }
 

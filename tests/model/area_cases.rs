@@ -2,10 +2,13 @@
 
 use crate::areas::{self, Area};
 use crate::changes;
-use crate::compare::{Comparison, records};
+use crate::compare::{Comparison, Planned, records};
+use crate::counts::Usable;
 use crate::difference::{Difference, area_title, describe_area};
+use crate::flaw::Flaw;
 use crate::ofib::{self, CELLS, Record};
-use crate::plan::{changes_of, first_fault};
+use crate::paths::{at, pairs, usable};
+use crate::plan::{Change, changes_of, first_fault, has_effect, raw_moves, root};
 use crate::random::Random;
 use crate::steps::{self, Caller};
 
@@ -50,6 +53,7 @@ fn compare_calls(
         compare_run(comparison, random, &planned.record, calls, &last)?;
     }
     count_place(comparison, area, list, planned.answer);
+    count_usable(comparison, area, &changes_of(list), &planned);
     Ok(())
 }
 
@@ -100,9 +104,49 @@ fn compare_run(
 
 /// Where in its list a refused entry stands.
 fn count_place(comparison: &mut Comparison, area: &Area, list: &[u8], answer: u8) {
-    if matches!(answer, 4 | 5 | 6 | 7 | 11)
-        && let Some((place, number)) = first_fault(area.n, &area.metric, &changes_of(list))
+    if matches!(answer, 4..=7)
+        && let Some((place, number)) = first_fault(area.n, &changes_of(list))
     {
         comparison.counts.list_place(place, number);
     }
+}
+
+/// What the list shows of usable metrics.
+fn count_usable(comparison: &mut Comparison, area: &Area, changes: &[Change], planned: &Planned) {
+    let (n, old) = (area.n, &area.metric);
+    if !matches!(planned.answer, 0 | 11 | 13) {
+        return;
+    }
+    let raw = raw_moves(n, old, changes);
+    let mut active = changes.to_vec();
+    active.retain(|&change| has_effect(n, old, changes, change, Flaw::None));
+    let root_of_active = root(&active, Flaw::None);
+    let seen = match planned.answer {
+        0 => vec![
+            (Usable::IdleEntry, active.len() < changes.len()),
+            (Usable::RawMixed, raw.rise && raw.fall),
+            (
+                Usable::Unlisted,
+                moves_unlisted(n, old, planned.tables.tables[1].cells(), changes),
+            ),
+            (Usable::IdleRoot, root_of_active != Some(planned.record.root)),
+        ],
+        11 => vec![
+            (Usable::RawDiffers, raw.rise || raw.fall),
+            (Usable::SameNoCommon, root(changes, Flaw::None).is_none()),
+        ],
+        _ => vec![(Usable::IdleNoCommon, root_of_active.is_some())],
+    };
+    for (what, _) in seen.into_iter().filter(|&(_, is_seen)| is_seen) {
+        comparison.counts.usable(what);
+    }
+}
+
+/// Whether a pair that is in no entry has another usable metric.
+fn moves_unlisted(n: usize, old: &[u32], new: &[u32], changes: &[Change]) -> bool {
+    let (before, after) = (usable(n, old, Flaw::None), usable(n, new, Flaw::None));
+    let is_listed = |cell| changes.iter().any(|change| change.cell() == cell);
+    pairs(n)
+        .map(|(i, j)| at(i, j))
+        .any(|cell| before[cell] != after[cell] && !is_listed(cell))
 }

@@ -28,7 +28,7 @@ pub fn area_of_size(random: &mut Random, n: usize) -> Area {
         3 => grid(random, n),
         4 => layers(random, n),
         5 => parts(random, n),
-        6 => one_way_ring(n),
+        6 => half_ring(random, n),
         7 => pairs(n).collect(),
         _ => sparse(random, n),
     };
@@ -90,12 +90,14 @@ fn put_metrics(random: &mut Random, area: &mut Area, links: &[(usize, usize)]) {
     }
     if random.chance(50) {
         for &(i, j) in links.iter().filter(|(i, j)| i < j) {
-            area.metric[at(j, i)] = area.metric[at(i, j)];
+            if area.metric[at(j, i)] < UNUSED {
+                area.metric[at(j, i)] = area.metric[at(i, j)];
+            }
         }
     }
 }
 
-/// Takes some directions, or all links of a router, out of use.
+/// Takes some directions, so that half a link is left, or all links of a router out of use.
 fn thin_out(random: &mut Random, area: &mut Area) {
     if random.chance(30) {
         let percent = random.between(1, 50);
@@ -126,17 +128,28 @@ fn random_links(random: &mut Random, n: usize) -> Vec<(usize, usize)> {
     pairs(n).filter(|_| random.chance(percent)).collect()
 }
 
-/// About one to three links out of each router.
+/// About two to six links at each router.
 fn sparse(random: &mut Random, n: usize) -> Vec<(usize, usize)> {
     let degree = random.between(1, 3);
-    (0..n * degree)
-        .map(|k| (k % n, random.below(n)))
-        .filter(|(i, j)| i != j)
-        .collect()
+    both_ways((0..n * degree).map(|k| (k % n, random.below(n))))
 }
 
 fn one_way_ring(n: usize) -> Vec<(usize, usize)> {
     (0..n).map(|i| (i, (i + 1) % n)).filter(|(i, j)| i != j).collect()
+}
+
+/// A ring in which some links, or all, are up at one end only.
+fn half_ring(random: &mut Random, n: usize) -> Vec<(usize, usize)> {
+    let percent = random.pick(&[10, 40, 100]);
+    let mut links = Vec::new();
+    for (i, j) in one_way_ring(n) {
+        links.push((i, j));
+        if !random.chance(percent) {
+            links.push((j, i));
+        }
+    }
+    random.shuffle(&mut links);
+    links
 }
 
 /// A ring with a few links across it.

@@ -1,4 +1,4 @@
-//! Change lists: rises, falls, and lists with one or more faults.
+//! Change lists: rises and falls, also with entries that have no effect, and lists with one or more faults.
 
 use crate::areas::Area;
 use crate::paths::{UNUSED, at, pairs};
@@ -12,12 +12,15 @@ pub enum Fault {
     SameRouter,
     ZeroMetric,
     Repeated,
+    /// By itself it is 11; beside an entry that has an effect it is no fault.
     EqualMetric,
     OtherDirection,
     Elsewhere,
+    /// An entry without effect, of two other routers.
+    EqualElsewhere,
 }
 
-pub const FAULTS: [Fault; 7] = [
+pub const FAULTS: [Fault; 8] = [
     Fault::UnknownRouter,
     Fault::SameRouter,
     Fault::ZeroMetric,
@@ -25,12 +28,14 @@ pub const FAULTS: [Fault; 7] = [
     Fault::EqualMetric,
     Fault::OtherDirection,
     Fault::Elsewhere,
+    Fault::EqualElsewhere,
 ];
 
-/// A list for the area. The area itself may be changed, for a router that comes up.
+/// A list for the area. The area itself may be changed, for a router or the end of a link that comes up.
 pub fn list(random: &mut Random, area: &mut Area) -> Vec<u8> {
-    match random.below(20) {
+    match random.below(21) {
         0..=13 => bytes_of(&faultless(random, area)),
+        20 => bytes_of(&without_effect(random, area)),
         14..=18 => faulty(random, area),
         _ => {
             let length = random.between(0, 400);
@@ -43,19 +48,23 @@ pub fn bytes_of(changes: &[Change]) -> Vec<u8> {
     changes.iter().flat_map(|change| change.to_bytes()).collect()
 }
 
-/// A rise or a fall of links of one router; empty where the area has no link that can move.
+/// A rise or a fall of links of one router, often with entries that have no effect; empty where the area has no link
+/// that can move.
 pub fn faultless(random: &mut Random, area: &mut Area) -> Vec<Change> {
     for _ in 0..4 {
         let router = random.below(area.n);
-        let mut changes = match random.below(8) {
+        let rise = random.chance(50);
+        let mut changes = match random.below(10) {
             0 => router_down(area, router),
             1 => router_up(area, router),
-            kind => {
-                let rise = random.chance(50);
-                some_links(random, area, router, rise, kind)
-            }
+            2 => one_end(random, area, router, rise),
+            3 => against_raw(random, area, router, rise),
+            kind => some_links(random, area, router, rise, kind),
         };
         if !changes.is_empty() {
+            if random.chance(30) {
+                add_idle(random, area, router, &mut changes);
+            }
             random.shuffle(&mut changes);
             return changes;
         }
@@ -103,6 +112,93 @@ fn router_up(area: &mut Area, router: usize) -> Vec<Change> {
     changes
 }
 
+/// Any link of the router that is up at its first end.
+fn any_link(random: &mut Random, area: &Area, router: usize) -> Option<(usize, usize)> {
+    let is_up = |&(i, j): &(usize, usize)| area.metric[at(i, j)] < UNUSED;
+    let mut links: Vec<(usize, usize)> = links_of(area.n, router).filter(is_up).collect();
+    random.shuffle(&mut links);
+    links.first().copied()
+}
+
+/// One end of a link goes down, and with it the reverse, which is in no entry; or it comes up where the other end is.
+fn one_end(random: &mut Random, area: &mut Area, router: usize, rise: bool) -> Vec<Change> {
+    let Some((i, j)) = any_link(random, area, router) else {
+        return Vec::new();
+    };
+    if rise {
+        return vec![change(i, j, UNUSED)];
+    }
+    area.metric[at(j, i)] = UNUSED;
+    vec![change(j, i, random.between(1, 6) as u32)]
+}
+
+/// Both directions of a link, one of which moves the other way than the usable metrics do: it becomes cheaper while the
+/// reverse goes down, or dearer while the reverse comes up.
+fn against_raw(random: &mut Random, area: &mut Area, router: usize, rise: bool) -> Vec<Change> {
+    let Some((i, j)) = any_link(random, area, router) else {
+        return Vec::new();
+    };
+    let metric = area.metric[at(i, j)];
+    if rise {
+        return vec![
+            change(i, j, random.between(1, metric as usize) as u32),
+            change(j, i, UNUSED),
+        ];
+    }
+    area.metric[at(j, i)] = UNUSED;
+    let dearer = random.between(metric as usize, UNUSED as usize - 1) as u32;
+    vec![change(i, j, dearer), change(j, i, random.between(1, 6) as u32)]
+}
+
+/// Adds entries of the router's other links that have no effect.
+fn add_idle(random: &mut Random, area: &Area, router: usize, changes: &mut Vec<Change>) {
+    let is_free = |&(i, j): &(usize, usize)| !lists(changes, i, j) && !lists(changes, j, i);
+    let links = links_of(area.n, router).filter(is_free).collect();
+    let most = random.pick(&[1, 2, 5, MOST_CHANGES]).min(MOST_CHANGES - changes.len());
+    changes.extend(idle(random, area, links, most));
+}
+
+/// A list in which no entry has an effect, of one router or of any.
+fn without_effect(random: &mut Random, area: &Area) -> Vec<Change> {
+    let router = random.below(area.n);
+    let of_one = random.chance(50);
+    let is_wanted = |&(i, j): &(usize, usize)| !of_one || i == router || j == router;
+    let links = pairs(area.n).filter(is_wanted).collect();
+    let most = random.pick(&[1, 1, 2, 3, MOST_CHANGES]);
+    idle(random, area, links, most)
+}
+
+fn lists(changes: &[Change], i: usize, j: usize) -> bool {
+    let ends = |change: &Change| (usize::from(change.from), usize::from(change.to));
+    changes.iter().any(|change| ends(change) == (i, j))
+}
+
+/// Entries of some of these links that have no effect together, since one direction of each stays as it is.
+fn idle(random: &mut Random, area: &Area, mut links: Vec<(usize, usize)>, most: usize) -> Vec<Change> {
+    random.shuffle(&mut links);
+    links.truncate(most);
+    let mut changes = Vec::new();
+    for (i, j) in links {
+        let metric = if lists(&changes, j, i) {
+            area.metric[at(i, j)]
+        } else {
+            idle_metric(random, area, i, j)
+        };
+        changes.push(change(i, j, metric));
+    }
+    changes
+}
+
+/// A metric of (i, j) that has no effect while the reverse stays: any one where that is not used, else the old one.
+fn idle_metric(random: &mut Random, area: &Area, i: usize, j: usize) -> u32 {
+    let old = area.metric[at(i, j)];
+    if area.metric[at(j, i)] == UNUSED {
+        random.pick(&[1, 2, 5, UNUSED - 1, UNUSED, old])
+    } else {
+        old
+    }
+}
+
 /// One link in one direction, one in both, some or all links of the router.
 fn some_links(random: &mut Random, area: &Area, router: usize, rise: bool, kind: usize) -> Vec<Change> {
     let movable = |&(i, j): &(usize, usize)| can_move(area.metric[at(i, j)], rise);
@@ -112,9 +208,9 @@ fn some_links(random: &mut Random, area: &Area, router: usize, rise: bool, kind:
         return Vec::new();
     };
     match kind {
-        2 | 3 => links.truncate(1),
-        4 | 5 => links.retain(|&link| link == (i, j) || link == (j, i)),
-        6 => links.truncate(random.between(1, links.len())),
+        4 => links.truncate(1),
+        5 | 6 => links.retain(|&link| link == (i, j) || link == (j, i)),
+        7 | 8 => links.truncate(random.between(1, links.len())),
         _ => {}
     }
     links
@@ -210,6 +306,10 @@ fn spoiled(
             })
         }
         Fault::Elsewhere => elsewhere(random, area, entry),
+        Fault::EqualElsewhere => {
+            let (i, j) = apart(random, area, entry, |_| true)?;
+            Some(change(i, j, idle_metric(random, area, i, j)))
+        }
     }
 }
 
@@ -237,13 +337,18 @@ fn old_metric(area: &Area, entry: Change) -> Option<u32> {
 /// A change in the same direction between two routers of which neither is an end of the given entry.
 fn elsewhere(random: &mut Random, area: &Area, entry: Change) -> Option<Change> {
     let rise = entry.metric > old_metric(area, entry)?;
-    let ends = [usize::from(entry.from), usize::from(entry.to)];
-    let apart = |&(i, j): &(usize, usize)| !ends.contains(&i) && !ends.contains(&j);
-    let mut links: Vec<(usize, usize)> = pairs(area.n).filter(apart).collect();
-    links.retain(|&(i, j)| can_move(area.metric[at(i, j)], rise));
-    random.shuffle(&mut links);
-    let &(i, j) = links.first()?;
+    let (i, j) = apart(random, area, entry, |metric| can_move(metric, rise))?;
     Some(change(i, j, moved(random, area, area.metric[at(i, j)], rise)))
+}
+
+/// A pair with such a metric, of which neither router is an end of the given entry.
+fn apart(random: &mut Random, area: &Area, entry: Change, is_wanted: impl Fn(u32) -> bool) -> Option<(usize, usize)> {
+    let ends = [usize::from(entry.from), usize::from(entry.to)];
+    let is_apart = |&(i, j): &(usize, usize)| !ends.contains(&i) && !ends.contains(&j);
+    let mut links: Vec<(usize, usize)> = pairs(area.n).filter(is_apart).collect();
+    links.retain(|&(i, j)| is_wanted(area.metric[at(i, j)]));
+    random.shuffle(&mut links);
+    links.first().copied()
 }
 
 /// A list that is empty, not a multiple of five bytes, or too long.

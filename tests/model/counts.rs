@@ -22,6 +22,35 @@ pub const STEP_KINDS: [&str; 6] = ["another kind", "learn", "release", "write", 
 /// The place of "ignored" among a step's answers; no refusal has this number.
 const IGNORED: usize = 255;
 
+/// What one list of changes shows of the usable metrics (02, No. 4).
+#[derive(Clone, Copy, PartialEq, Eq)]
+pub enum Usable {
+    /// Accepted, with an entry that has no effect.
+    IdleEntry,
+    /// Accepted, though the entries' own metrics rise and fall.
+    RawMixed,
+    /// Accepted, and a pair that is in no entry has another usable metric.
+    Unlisted,
+    /// Accepted, where an entry without effect decides the root.
+    IdleRoot,
+    /// 13, though the entries that have an effect have a common router.
+    IdleNoCommon,
+    /// 11, though an entry has another metric than before.
+    RawDiffers,
+    /// 11, though the entries have no common router.
+    SameNoCommon,
+}
+
+const USABLE: [(Usable, &str); 7] = [
+    (Usable::IdleEntry, "accepted plan with an entry without effect"),
+    (Usable::RawMixed, "accepted plan whose entries rise and fall"),
+    (Usable::Unlisted, "accepted plan that moves a pair in no entry"),
+    (Usable::IdleRoot, "root by an entry without effect"),
+    (Usable::IdleNoCommon, "13 by an entry without effect"),
+    (Usable::RawDiffers, "11 where an entry has another metric"),
+    (Usable::SameNoCommon, "11 without a common router"),
+];
+
 pub struct Counts {
     pub areas: u64,
     /// Accepted rises and falls, by the number of routers.
@@ -31,8 +60,10 @@ pub struct Counts {
     pub finished_runs: u64,
     /// Accepted plans that another order of the changes left the same.
     orders: u64,
-    /// Refusals that another order of the changes gave another number.
+    /// Refusals that another order of the changes gave another number, of 4 to 7.
     other_numbers: u64,
+    /// What usable metrics and entries without effect have led to, each as often as it came up.
+    usable: [u64; USABLE.len()],
     /// Running sheets that were followed to their end.
     pub followed: u64,
     pub files: u64,
@@ -64,6 +95,7 @@ impl Counts {
             finished_runs: 0,
             orders: 0,
             other_numbers: 0,
+            usable: [0; USABLE.len()],
             followed: 0,
             files: 0,
             short_texts: 0,
@@ -90,6 +122,11 @@ impl Counts {
             &mut self.falls
         };
         by_size[usize::from(n)] += 1;
+    }
+
+    pub fn usable(&mut self, what: Usable) {
+        let place = USABLE.iter().position(|&(listed, _)| listed == what);
+        self.usable[place.expect("each is listed")] += 1;
     }
 
     /// The answers to the same changes in two orders.
@@ -143,6 +180,9 @@ impl Counts {
         require(&mut missing, self.other_numbers, || {
             "refusal with another number in another order".to_string()
         });
+        for (seen, (_, what)) in self.usable.iter().zip(USABLE) {
+            require(&mut missing, *seen, || what.to_string());
+        }
         missing
     }
 
@@ -183,7 +223,7 @@ impl Counts {
     }
 
     fn missing_places(&self, missing: &mut Vec<String>) {
-        for number in [4, 5, 6, 7, 11] {
+        for number in [4, 5, 6, 7] {
             // The first entry of a list cannot repeat an earlier one.
             let first = if number == 7 { 1 } else { 0 };
             for place in first..MOST_CHANGES {
@@ -226,6 +266,9 @@ impl Counts {
             "changes in another order: the same plan {}, another refusal {}",
             self.orders, self.other_numbers
         );
+        for (seen, (_, what)) in self.usable.iter().zip(USABLE) {
+            println!("{what}: {seen}");
+        }
         println!("sheets: {}; followed {}", answers(&self.sheet), self.followed);
         println!("Read: {}", answers(&self.read));
         println!("rehearsal: {}", answers(&self.rehearsal));

@@ -41,6 +41,7 @@ const WRONG_METRICS: [u32; 5] = [0, UNUSED + 1, UNUSED + 2, 1 << 31, u32::MAX];
 pub fn direct_cases(comparison: &mut Comparison, seed: u64, count: u64) -> Result<(), Difference> {
     let mut random = Random::for_case(seed, PART, 0);
     faults_at_each_place(comparison, &mut random)?;
+    one_effect_at_each_place(comparison, &mut random)?;
     two_faults(comparison, &mut random)?;
     wrong_n(comparison, &mut random)?;
     wrong_sizes(comparison, &mut random)?;
@@ -66,6 +67,25 @@ fn faults_at_each_place(comparison: &mut Comparison, random: &mut Random) -> Res
             let title = format!("{fault:?} at entry {place}");
             compare_area(comparison, random, &title, &area, &changes::bytes_of(&spoiled))?;
         }
+    }
+    Ok(())
+}
+
+/// The longest list, in which one entry has an effect, at each place, and then none.
+fn one_effect_at_each_place(comparison: &mut Comparison, random: &mut Random) -> Result<(), Difference> {
+    let (area, changes) = longest_list(random);
+    let idle = |change: Change| Change {
+        metric: area.metric[change.cell()],
+        ..change
+    };
+    let same: Vec<Change> = changes.iter().map(|&change| idle(change)).collect();
+    for place in 0..=changes.len() {
+        let mut list = same.clone();
+        if let Some(entry) = list.get_mut(place) {
+            *entry = changes[place];
+        }
+        let title = format!("an effect at entry {place} alone");
+        compare_area(comparison, random, &title, &area, &changes::bytes_of(&list))?;
     }
     Ok(())
 }

@@ -9,6 +9,8 @@ pub enum Flaw {
     ReadKeepsLinks,
     /// The largest metric counts as a used link.
     MaximumUsed,
+    /// A link is used whatever its reverse is.
+    ReverseNotRead,
     /// One next hop is kept where several cost the same.
     OneNextHop,
     /// A fall is ordered like a rise.
@@ -19,6 +21,18 @@ pub enum Flaw {
     RootFarEnd,
     /// The lower end of the first change is the root, though it is not common.
     RootLowerEnd,
+    /// Rise and fall are judged by the metrics of the entries, used or not.
+    RawDirection,
+    /// An entry without effect is refused, though another one has some.
+    EqualEntry,
+    /// 12 is given where no usable metric differs, neither to rise nor to fall.
+    MixedFirst,
+    /// 13 is given before 11.
+    CommonRouterFirst,
+    /// The common router is sought only among the changes that have an effect.
+    RootByEffect,
+    /// The new metrics leave out the links that are up at one end only.
+    NewMetricsUsable,
     /// The rank is the length of the shortest chain of waiting routers.
     ShortestRank,
     /// The rank is one too large: the routers of the chain are counted, not its links.
@@ -47,15 +61,22 @@ pub enum Flaw {
     SheetKeptIfRefused,
 }
 
-pub const FLAWS: [Flaw; 21] = [
+pub const FLAWS: [Flaw; 28] = [
     Flaw::ReadTwoForOne,
     Flaw::ReadKeepsLinks,
     Flaw::MaximumUsed,
+    Flaw::ReverseNotRead,
     Flaw::OneNextHop,
     Flaw::FallAsRise,
     Flaw::RootHigher,
     Flaw::RootFarEnd,
     Flaw::RootLowerEnd,
+    Flaw::RawDirection,
+    Flaw::EqualEntry,
+    Flaw::MixedFirst,
+    Flaw::CommonRouterFirst,
+    Flaw::RootByEffect,
+    Flaw::NewMetricsUsable,
     Flaw::ShortestRank,
     Flaw::RankOffByOne,
     Flaw::FinishUnordered,

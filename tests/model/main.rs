@@ -67,7 +67,7 @@ fn main() -> ExitCode {
 fn compare_all(options: &Options) -> Result<String, String> {
     let seed = options.seed;
     println!("model: seed {seed}");
-    worked::check_model().map_err(|what| format!("the model contradicts 01: {what}"))?;
+    worked::check_model().map_err(|what| format!("the model contradicts the papers: {what}"))?;
     flaw_cases::flaw_cases(seed)?;
     let mut comparison = Comparison::new(Flaw::None);
     compare_parts(&mut comparison, options).map_err(|difference| saved(options, &difference))?;

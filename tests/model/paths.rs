@@ -1,4 +1,4 @@
-//! Paths: distances and next-hop sets of an area (01, "The area and its paths").
+//! Paths: distances and next-hop sets of an area (01, "The area and its paths"; 02, No. 4, for the links).
 
 use crate::flaw::Flaw;
 use crate::ofib::{CELLS, WIDTH};
@@ -48,7 +48,8 @@ pub fn paths(n: usize, metric: &[u32], dist: &mut [u32], hops: &mut [u32], flaw:
 
 /// Writes all 1,024 cells of both tables; the input has no fault.
 pub fn fill(n: usize, metric: &[u32], dist: &mut [u32], hops: &mut [u32], flaw: Flaw) {
-    let least = least_sums(n, metric, flaw);
+    let links = usable(n, metric, flaw);
+    let least = least_sums(n, &links);
     dist.fill(UNREACHED);
     hops.fill(0);
     for i in 0..n {
@@ -56,22 +57,26 @@ pub fn fill(n: usize, metric: &[u32], dist: &mut [u32], hops: &mut [u32], flaw: 
     }
     for (i, j) in pairs(n).filter(|&(i, j)| least[at(i, j)] < FAR) {
         dist[at(i, j)] = least[at(i, j)] as u32;
-        hops[at(i, j)] = next_hops(n, metric, &least, i, j, flaw);
+        hops[at(i, j)] = next_hops(n, &links, &least, i, j, flaw);
     }
 }
 
-fn used(metric: u32, flaw: Flaw) -> bool {
-    metric < UNUSED || (flaw == Flaw::MaximumUsed && metric == UNUSED)
+/// The usable metrics: a pair's own where it and its reverse both have one that is used (02, No. 4), else `FAR`.
+pub fn usable(n: usize, metric: &[u32], flaw: Flaw) -> Vec<u64> {
+    let used = |i, j| metric[at(i, j)] < UNUSED || flaw == Flaw::MaximumUsed;
+    let reverse_counts = flaw != Flaw::ReverseNotRead;
+    let mut links = vec![FAR; CELLS];
+    for (i, j) in pairs(n).filter(|&(i, j)| used(i, j) && (used(j, i) || !reverse_counts)) {
+        links[at(i, j)] = u64::from(metric[at(i, j)]);
+    }
+    links
 }
 
 /// Floyd–Warshall: after round k, each cell is the least sum over walks whose inner routers are at most k.
-fn least_sums(n: usize, metric: &[u32], flaw: Flaw) -> Vec<u64> {
-    let mut least = vec![FAR; CELLS];
+fn least_sums(n: usize, links: &[u64]) -> Vec<u64> {
+    let mut least = links.to_vec();
     for i in 0..n {
         least[at(i, i)] = 0;
-    }
-    for (i, j) in pairs(n).filter(|&(i, j)| used(metric[at(i, j)], flaw)) {
-        least[at(i, j)] = u64::from(metric[at(i, j)]);
     }
     for k in 0..n {
         let through: Vec<u64> = least[at(k, 0)..at(k, n)].to_vec();
@@ -86,10 +91,10 @@ fn least_sums(n: usize, metric: &[u32], flaw: Flaw) -> Vec<u64> {
 }
 
 /// The definition itself: each k whose link and remaining distance together make up the distance.
-fn next_hops(n: usize, metric: &[u32], least: &[u64], i: usize, j: usize, flaw: Flaw) -> u32 {
+fn next_hops(n: usize, links: &[u64], least: &[u64], i: usize, j: usize, flaw: Flaw) -> u32 {
     let mut set: u32 = 0;
-    for k in (0..n).filter(|&k| k != i && used(metric[at(i, k)], flaw)) {
-        if u64::from(metric[at(i, k)]) + least[at(k, j)] == least[at(i, j)] {
+    for k in (0..n).filter(|&k| k != i) {
+        if links[at(i, k)] + least[at(k, j)] == least[at(i, j)] {
             set |= 1 << k;
         }
     }

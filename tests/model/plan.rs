@@ -1,8 +1,9 @@
-//! Plan: the new metrics, both topologies' paths and the fresh record (01, "The plan"; 02, No. 2, for the root).
+//! Plan: the new metrics, both topologies' paths and the fresh record (01, "The plan"; 02, No. 2, for the root,
+//! and No. 4 for rise, fall and refusal 11).
 
 use crate::flaw::Flaw;
-use crate::ofib::{Record, Tables, WIDTH};
-use crate::paths::{self, UNUSED, at};
+use crate::ofib::{CELLS, Record, Tables, WIDTH};
+use crate::paths::{self, UNUSED, at, pairs, usable};
 
 pub const MOST_CHANGES: usize = 62;
 pub const RISE: u8 = 1;
@@ -50,12 +51,15 @@ pub fn changes_of(list: &[u8]) -> Vec<Change> {
 
 pub fn plan(n: usize, list: &[u8], t: &mut Tables, record: &mut Record, flaw: Flaw) -> u8 {
     *record = Record::default();
-    let refused = refusal(n, list, t);
+    let refused = refusal(n, list, t, flaw);
     if refused != 0 {
         return refused;
     }
     let changes = changes_of(list);
     apply(n, &changes, t.old, t.new);
+    if flaw == Flaw::NewMetricsUsable {
+        cut_half_links(n, t.new);
+    }
     paths::fill(n, t.old, t.old_dist, t.old_hops, flaw);
     paths::fill(n, t.new, t.new_dist, t.new_hops, flaw);
     *record = fresh_record(n, &changes, t, flaw);
@@ -63,7 +67,7 @@ pub fn plan(n: usize, list: &[u8], t: &mut Tables, record: &mut Record, flaw: Fl
 }
 
 /// The number of the first refusal in the order of 01, or 0.
-fn refusal(n: usize, list: &[u8], t: &Tables) -> u8 {
+fn refusal(n: usize, list: &[u8], t: &Tables, flaw: Flaw) -> u8 {
     let sizes = [
         t.new.len(),
         t.old_dist.len(),
@@ -85,24 +89,20 @@ fn refusal(n: usize, list: &[u8], t: &Tables) -> u8 {
         return 10;
     }
     let changes = changes_of(list);
-    if let Some((_, number)) = first_fault(n, t.old, &changes) {
-        return number;
-    }
-    match (direction(t.old, &changes), root(&changes, Flaw::None)) {
-        (None, _) => 12,
-        (_, None) => 13,
-        _ => 0,
+    match first_fault(n, &changes) {
+        Some((_, number)) => number,
+        None => together(n, t.old, &changes, flaw),
     }
 }
 
 /// The place and the number of the first faulty entry.
-pub fn first_fault(n: usize, old: &[u32], changes: &[Change]) -> Option<(usize, u8)> {
+pub fn first_fault(n: usize, changes: &[Change]) -> Option<(usize, u8)> {
     (0..changes.len())
-        .map(|place| (place, entry_fault(n, old, changes, place)))
+        .map(|place| (place, entry_fault(n, changes, place)))
         .find(|&(_, number)| number != 0)
 }
 
-fn entry_fault(n: usize, old: &[u32], changes: &[Change], place: usize) -> u8 {
+fn entry_fault(n: usize, changes: &[Change], place: usize) -> u8 {
     let change = changes[place];
     if usize::from(change.from) >= n || usize::from(change.to) >= n {
         4
@@ -112,26 +112,90 @@ fn entry_fault(n: usize, old: &[u32], changes: &[Change], place: usize) -> u8 {
         6
     } else if changes[..place].iter().any(|&earlier| earlier.same_pair(change)) {
         7
-    } else if change.metric == old[change.cell()] {
-        11
     } else {
         0
     }
 }
 
-/// Rise or fall, where every entry agrees; the entries have no fault.
-fn direction(old: &[u32], changes: &[Change]) -> Option<u8> {
-    if changes.iter().all(|change| change.metric > old[change.cell()]) {
-        Some(RISE)
-    } else if changes.iter().all(|change| change.metric < old[change.cell()]) {
-        Some(FALL)
+/// 11, 12 and 13: what is wrong with the changes together, of which no entry has a fault.
+fn together(n: usize, old: &[u32], changes: &[Change], flaw: Flaw) -> u8 {
+    let has_no_common = root(&deciding(n, old, changes, flaw), Flaw::None).is_none();
+    let moved = moves(n, old, changes, flaw);
+    match flaw {
+        Flaw::CommonRouterFirst if has_no_common => return 13,
+        Flaw::MixedFirst if !moved.rise && !moved.fall => return 12,
+        Flaw::EqualEntry if changes.iter().any(|&change| !has_effect(n, old, changes, change, flaw)) => return 11,
+        _ => {}
+    }
+    if !moved.rise && !moved.fall {
+        11
+    } else if direction(n, old, changes, flaw).is_none() {
+        12
+    } else if has_no_common {
+        13
     } else {
-        None
+        0
     }
 }
 
+/// Whether a metric of some pair becomes larger, and whether one becomes smaller.
+#[derive(Clone, Copy, Debug, PartialEq, Eq)]
+pub struct Moves {
+    pub rise: bool,
+    pub fall: bool,
+}
+
+impl Moves {
+    fn between<T: Ord>(n: usize, before: &[T], after: &[T]) -> Moves {
+        let cells = || pairs(n).map(|(i, j)| (&before[at(i, j)], &after[at(i, j)]));
+        Moves {
+            rise: cells().any(|(old, new)| old < new),
+            fall: cells().any(|(old, new)| old > new),
+        }
+    }
+}
+
+/// How the usable metrics of all pairs move, also of pairs that are in no entry (02, No. 4).
+pub fn moves(n: usize, old: &[u32], changes: &[Change], flaw: Flaw) -> Moves {
+    let new = new_metrics(n, old, changes);
+    Moves::between(n, &usable(n, old, flaw), &usable(n, &new, flaw))
+}
+
+/// How the metrics of the entries move.
+pub fn raw_moves(n: usize, old: &[u32], changes: &[Change]) -> Moves {
+    Moves::between(n, old, &new_metrics(n, old, changes))
+}
+
+/// Whether the change's pair has another usable metric after all the changes.
+pub fn has_effect(n: usize, old: &[u32], changes: &[Change], change: Change, flaw: Flaw) -> bool {
+    let new = new_metrics(n, old, changes);
+    usable(n, old, flaw)[change.cell()] != usable(n, &new, flaw)[change.cell()]
+}
+
+/// Rise or fall by the pairs whose usable metrics differ; none where both occur, or neither.
+fn direction(n: usize, old: &[u32], changes: &[Change], flaw: Flaw) -> Option<u8> {
+    let moved = match flaw {
+        Flaw::RawDirection => raw_moves(n, old, changes),
+        _ => moves(n, old, changes, flaw),
+    };
+    match (moved.rise, moved.fall) {
+        (true, false) => Some(RISE),
+        (false, true) => Some(FALL),
+        _ => None,
+    }
+}
+
+/// The changes among which the common router is sought: all of them.
+fn deciding(n: usize, old: &[u32], changes: &[Change], flaw: Flaw) -> Vec<Change> {
+    let mut all = changes.to_vec();
+    if flaw == Flaw::RootByEffect {
+        all.retain(|&change| has_effect(n, old, changes, change, flaw));
+    }
+    all
+}
+
 /// The router that is an end of every change; of two the one with the lower number (02, No. 2).
-fn root(changes: &[Change], flaw: Flaw) -> Option<u8> {
+pub fn root(changes: &[Change], flaw: Flaw) -> Option<u8> {
     let first = changes.first()?;
     let is_common = |&router: &u8| changes.iter().all(|change| change.has_end(router));
     let mut routers = 0..WIDTH as u8;
@@ -143,10 +207,16 @@ fn root(changes: &[Change], flaw: Flaw) -> Option<u8> {
     }
 }
 
+fn new_metrics(n: usize, old: &[u32], changes: &[Change]) -> Vec<u32> {
+    let mut new = vec![UNUSED; CELLS];
+    apply(n, changes, old, &mut new);
+    new
+}
+
 /// The old metrics with the changes applied; all other cells say that there is no link.
 fn apply(n: usize, changes: &[Change], old: &[u32], new: &mut [u32]) {
     new.fill(UNUSED);
-    for (i, j) in paths::pairs(n) {
+    for (i, j) in pairs(n) {
         new[at(i, j)] = old[at(i, j)];
     }
     for change in changes {
@@ -154,9 +224,18 @@ fn apply(n: usize, changes: &[Change], old: &[u32], new: &mut [u32]) {
     }
 }
 
+/// Takes the links out that are up at one end only.
+fn cut_half_links(n: usize, metric: &mut [u32]) {
+    for (i, j) in pairs(n) {
+        if metric[at(i, j)] == UNUSED {
+            metric[at(j, i)] = UNUSED;
+        }
+    }
+}
+
 fn fresh_record(n: usize, changes: &[Change], t: &Tables, flaw: Flaw) -> Record {
-    let root = root(changes, flaw).expect("the list has been judged");
-    let direction = direction(t.old, changes).expect("the list has been judged");
+    let root = root(&deciding(n, t.old, changes, flaw), flaw).expect("the list has been judged");
+    let direction = direction(n, t.old, changes, flaw).expect("the list has been judged");
     let mut record = Record {
         n: n as u8,
         root,

@@ -51,11 +51,12 @@ pub fn small_areas(comparison: &mut Comparison, seed: u64, amount: &Amount) -> R
 
 /// Router 1 has nothing due: it uses router 2 towards router 3 before and after the change. Router 0 uses router 1
 /// before, and router 2 uses router 0 after. If router 1 does not wait for router 0, then 0, 1, 2 is a cycle until
-/// router 0 has written.
+/// router 0 has written. The other directions, which each link needs, are dear.
 pub fn unchanged_between() -> (Area, Vec<u8>) {
     let mut metric = vec![UNUSED; CELLS];
     for (i, j, m) in [(0, 1, 1), (1, 2, 1), (2, 3, 1), (2, 0, 1), (0, 3, 9)] {
         metric[at(i, j)] = m;
+        metric[at(j, i)] = 9;
     }
     (
         Area { n: 4, metric },

@@ -1,5 +1,6 @@
-//! The printed rehearsal and the small areas C1 to C13 of 01, by the root of 02, No. 2, and running sheets of them: the
-//! model must give what is worked out there by hand, and the library the same.
+//! The printed rehearsal and the small areas C1 to C13 of 01, by the root of 02, No. 2, with the other directions of
+//! No. 4, running sheets of them, and links that are up at one end only: the model must give what is worked out by hand,
+//! and the library the same.
 
 use crate::areas::Area;
 use crate::changes::bytes_of;
@@ -10,7 +11,7 @@ use crate::flaw::Flaw;
 use crate::lent::{RIGHT_SIZES, SixTables};
 use crate::ofib::{Answer, CELLS, Record};
 use crate::paths::{UNUSED, at, paths};
-use crate::plan::{Change, plan};
+use crate::plan::{Change, FALL, RISE, plan};
 use crate::random::Random;
 use crate::sheet::sheet;
 use crate::step::step;
@@ -40,6 +41,10 @@ end
 
 const FIRST_LINKS: [Link; 6] = [(0, 1, 1), (1, 0, 1), (1, 2, 1), (2, 1, 1), (0, 2, 3), (2, 0, 3)];
 const FIRST_CHANGES: [Link; 2] = [(1, 2, UNUSED), (2, 1, UNUSED)];
+const SIXTH_LINKS: [Link; 2] = [(0, 1, UNUSED - 1), (1, 0, 1)];
+const NINTH_LINKS: [Link; 4] = [(0, 1, 1), (1, 0, 1), (2, 3, 1), (3, 2, 1)];
+const NINTH_CHANGES: [Link; 2] = [(0, 1, 2), (2, 3, 2)];
+const LAST_LINKS: [Link; 4] = [(0, 1, 1), (1, 0, 1), (1, 2, UNUSED - 1), (2, 1, 1)];
 
 /// The examples on the model alone.
 pub fn check_model() -> Result<(), String> {
@@ -53,6 +58,7 @@ pub fn check_model() -> Result<(), String> {
     orders()?;
     path_examples()?;
     refusals()?;
+    half_links()?;
     printed_steps()?;
     sheets()
 }
@@ -136,8 +142,18 @@ fn path_examples() -> Result<(), String> {
     let [_, _, _, _, old_hops, new_hops] = &tables.tables;
     same("C3", (old_hops.cells()[at(0, 2)], new_hops.cells()[at(0, 2)]), (6, 4))?;
     same("C5", path(2, &[(0, 1, UNUSED)], 0, 1), (u32::MAX, 0))?;
-    same("C6", path(2, &[(0, 1, UNUSED - 1)], 0, 1), (16_777_214, 2))?;
-    same("C13", path(3, &[(0, 1, 1), (1, 2, UNUSED - 1)], 0, 2), (16_777_215, 2))?;
+    same("C6", path(2, &SIXTH_LINKS, 0, 1), (16_777_214, 2))?;
+    same(
+        "C6 without the other direction",
+        path(2, &SIXTH_LINKS[..1], 0, 1),
+        (u32::MAX, 0),
+    )?;
+    same(
+        "C6, the other direction alone",
+        path(2, &SIXTH_LINKS[1..], 1, 0),
+        (u32::MAX, 0),
+    )?;
+    same("C13", path(3, &LAST_LINKS, 0, 2), (16_777_215, 2))?;
     same(
         "the largest distance",
         path(32, &longest_chain(), 0, 31),
@@ -147,7 +163,9 @@ fn path_examples() -> Result<(), String> {
 
 /// All 32 routers one behind the other, with the largest metric that is used.
 fn longest_chain() -> Vec<Link> {
-    (0..31).map(|i| (i, i + 1, UNUSED - 1)).collect()
+    (0..31)
+        .flat_map(|i| [(i, i + 1, UNUSED - 1), (i + 1, i, UNUSED - 1)])
+        .collect()
 }
 
 fn path(n: usize, links: &[Link], i: usize, j: usize) -> (u32, u32) {
@@ -161,10 +179,52 @@ fn refusals() -> Result<(), String> {
     let answer = |n, links: &[Link], changes: &[Link]| planned(n, links, changes).0;
     same("C7", answer(2, &[(0, 1, 2)], &[(0, 1, 2)]), 11)?;
     same("C8", answer(2, &[(0, 1, 2), (1, 0, 2)], &[(0, 1, 3), (1, 0, 1)]), 12)?;
-    same("C9", answer(4, &[(0, 1, 1), (2, 3, 1)], &[(0, 1, 2), (2, 3, 2)]), 13)?;
+    same("C9", answer(4, &NINTH_LINKS, &NINTH_CHANGES), 13)?;
     same("C10", answer(3, &FIRST_LINKS, &[]), 10)?;
     same("5 and then 4", answer(3, &FIRST_LINKS, &[(1, 1, 5), (3, 0, 5)]), 5)?;
     same("4 and then 5", answer(3, &FIRST_LINKS, &[(3, 0, 5), (1, 1, 5)]), 4)
+}
+
+/// Links that are up at one end only, and entries without effect (02, No. 4).
+fn half_links() -> Result<(), String> {
+    let of = |n, links: &[Link], changes: &[Link]| {
+        let (answer, record, tables) = planned(n, links, changes);
+        (answer, record.root, record.direction, tables)
+    };
+    let answer = |n, links: &[Link], changes: &[Link]| {
+        let (answer, root, direction, _) = of(n, links, changes);
+        (answer, root, direction)
+    };
+    let link = [(0, 1, 5), (1, 0, 5)];
+    same("half a link comes up alone", answer(2, &[], &[(0, 1, 5)]), (11, 0, 0))?;
+    same(
+        "the other half comes up",
+        answer(2, &link[..1], &[(1, 0, 5)]),
+        (0, 0, FALL),
+    )?;
+    same(
+        "the reverse goes down",
+        answer(2, &link, &[(0, 1, 3), (1, 0, UNUSED)]),
+        (0, 0, RISE),
+    )?;
+    let (number, _, direction, tables) = of(2, &link, &[(0, 1, UNUSED)]);
+    same("one end goes down", (number, direction), (0, RISE))?;
+    let [_, new, old_dist, new_dist, ..] = &tables.tables;
+    same("one end down, the table", new.cells()[at(1, 0)], 5)?;
+    let reverse = (old_dist.cells()[at(1, 0)], new_dist.cells()[at(1, 0)]);
+    same("one end down, the reverse", reverse, (5, u32::MAX))?;
+    let root = answer(3, &FIRST_LINKS, &[(1, 2, 5), (2, 0, 3)]);
+    same("root by an entry without effect", root, (0, 2, RISE))?;
+    let none = answer(3, &FIRST_LINKS, &[(1, 2, 5), (2, 1, 5), (1, 0, 1), (0, 2, 3)]);
+    same("13 by an entry without effect", none, (13, 0, 0))?;
+    let unknown = answer(3, &FIRST_LINKS, &[(0, 2, 3), (3, 0, 5)]);
+    same("an equal entry, and then 4", unknown, (4, 0, 0))?;
+    let halves = [NINTH_LINKS[0], NINTH_LINKS[2]];
+    same(
+        "C9 without the other directions",
+        answer(4, &halves, &NINTH_CHANGES),
+        (11, 0, 0),
+    )
 }
 
 /// C11 and C12: answers to the printed steps.
@@ -195,17 +255,13 @@ fn sheets() -> Result<(), String> {
         of(4, &links, &[(2, 3, 2), (1, 3, 2)]),
         places(&[0, 1, 2, 3]),
     )?;
-    same(
-        "C9, sheet",
-        of(4, &[(0, 1, 1), (2, 3, 1)], &[(0, 1, 2), (2, 3, 2)]),
-        [0; 32],
-    )
+    same("C9, sheet", of(4, &NINTH_LINKS, &NINTH_CHANGES), [0; 32])
 }
 
 /// The examples as bench files.
 fn files() -> Vec<Vec<u8>> {
     let chain = longest_chain();
-    let examples: [(usize, &[Link], &[Link]); 9] = [
+    let examples: [(usize, &[Link], &[Link]); 12] = [
         (
             3,
             &[(0, 1, 1), (1, 0, 1), (0, 2, 3), (2, 0, 3)],
@@ -213,11 +269,14 @@ fn files() -> Vec<Vec<u8>> {
         ),
         (3, &FIRST_LINKS, &[(2, 1, UNUSED), (1, 2, UNUSED)]),
         (2, &[(0, 1, UNUSED)], &[(0, 1, UNUSED - 1)]),
+        (2, &SIXTH_LINKS[1..], &SIXTH_LINKS[..1]),
+        (2, &SIXTH_LINKS, &[(1, 0, UNUSED), (0, 1, 1)]),
         (2, &[(0, 1, 2)], &[(0, 1, 2)]),
         (2, &[(0, 1, 2), (1, 0, 2)], &[(0, 1, 3), (1, 0, 1)]),
-        (4, &[(0, 1, 1), (2, 3, 1)], &[(0, 1, 2), (2, 3, 2)]),
+        (4, &NINTH_LINKS, &NINTH_CHANGES),
+        (4, &[NINTH_LINKS[0], NINTH_LINKS[2]], &NINTH_CHANGES),
         (3, &FIRST_LINKS, &[]),
-        (3, &[(0, 1, 1), (1, 2, UNUSED - 1)], &[(0, 1, 2)]),
+        (3, &LAST_LINKS, &[(0, 1, 2)]),
         (32, &chain, &[(30, 31, UNUSED)]),
     ];
     let file = |(n, links, changes): (usize, &[Link], &[Link])| {

@@ -52,7 +52,7 @@ tooMany = 9
 abbrev pub noChange : ℕ
 noChange = 10
 
--- the new metric of a link is the old one
+-- no usable metric differs
 abbrev pub sameMetric : ℕ
 sameMetric = 11
 

@@ -17,7 +17,7 @@ lowerEnd l = min (from l 0) (to l 0)
 abbrev pub upperEnd : (l : List ℕ) → ℕ
 upperEnd l = max (from l 0) (to l 0)
 
--- The lower end of the first change where it is an end of every change, and else the upper end. RootLaws.antt: where any
--- router is an end of every change, this one is (`common-root`), and none with a lower number is (`root-least`).
+-- The lower end of the first change where it is an end of every change, and else the upper end. RootLaws.antt: where
+-- any router is an end of every change, this one is (`common-root`), and none with a lower number is (`root-least`).
 unfoldable pub root : (l : List ℕ) → ℕ
 root l = pick (isCommon l (lowerEnd l)) (lowerEnd l) (upperEnd l)

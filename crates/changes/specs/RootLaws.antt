@@ -29,7 +29,11 @@ module _ (l : List ℕ) where
         ⊎-elim (λ t. inl (eqb-true (from l e) c t)) (λ t. inr (eqb-true (to l e) c t))
         (or-cases (eqb (from l e) c) (eqb (to l e) c) is-end)
 
-  pub root-of : {lower upper : ℕ} → lower ≡ lowerEnd l → upper ≡ upperEnd l → pick (isCommon l lower) lower upper ≡ root l
+  pub root-of :
+      {lower upper : ℕ}
+      → lower ≡ lowerEnd l
+      → upper ≡ upperEnd l
+      → pick (isCommon l lower) lower upper ≡ root l
   unfolding root
   root-of a b = ap₂ (λ (x y : ℕ). pick (isCommon l x) x y) a b
 

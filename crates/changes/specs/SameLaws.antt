@@ -1,7 +1,6 @@
 -- Laws of two lists l and k that have the same changes.
 --     joined-same      two lists of whole entries, joined in either order, are such lists
 --     common-same, root-same       they have the same common routers, and the same root
---     rise-same, fall-same         they go the same way
 --     given-same       where neither has a pair twice, they give every pair the same metric
 --     once-same, sound-same        where they are as many, and l has no pair twice and no fault, nor has k
 -- The root is the lowest common router (`root-least`), so it is not decided by which change comes first.
@@ -12,18 +11,15 @@ use mathlib.Core.Logic.{_≢_, _⊎_, inl, inr}
 use mathlib.Core.List.{List, _++_}
 use native.Mathlib.Decide.{decLt}
 use native.Mathlib.Omega.{arith}
-use lib.Dec.{ltb, eqb}
+use lib.Dec.{eqb}
 use lib.ListN.{length}
-use Rattle.area.specs.Limits.{width}
 use Rattle.area.specs.Tests.{all}
 use Rattle.area.specs.TestLaws.{look, same-test, all-at, all-true}
 use Rattle.area.specs.PigeonholeLaws.{onto}
-use Rattle.area.specs.Tables.{cell}
 use Rattle.entries.specs.declared.Entry.{Entry}
 use Rattle.entries.specs.Entries.{entryCount, entryOf, from, to, metric, isForPair, listedMetric}
 use Rattle.entries.specs.EntryLaws.{read-from, read-to, read-metric, of-pair, pair-of, free-true, free-other}
 use Rattle.entries.specs.EntryLaws.{Given, given-cases, given-at, joined-count, joined-left, joined-right}
-use Rattle.changes.specs.Changes.{isRise, isFall}
 use Rattle.changes.specs.Root.{isCommon, root}
 use Rattle.changes.specs.SameChanges.{Within, SameChanges, Once}
 use Rattle.changes.specs.ChangeLaws.{Sound}
@@ -78,14 +74,6 @@ module _ (l k : List ℕ) (s : SameChanges l k) where
   pub common-same : (c : ℕ) → isCommon l c ≡ isCommon k c
   unfolding isCommon
   common-same c = each-same l k (λ x. eqb (x .from) c || eqb (x .to) c) s
-
-  pub rise-same : (m : List ℕ) → isRise m l ≡ isRise m k
-  unfolding isRise
-  rise-same m = each-same l k (λ x. ltb (cell width m (x .from) (x .to)) (x .metric)) s
-
-  pub fall-same : (m : List ℕ) → isFall m l ≡ isFall m k
-  unfolding isFall
-  fall-same m = each-same l k (λ x. ltb (x .metric) (cell width m (x .from) (x .to))) s
 
   -- ---- the root
   pub root-same : 0 < entryCount l → 0 < entryCount k → isCommon l (root l) ≡ true → root l ≡ root k
@@ -194,8 +182,8 @@ module _ (l k : List ℕ) (s : SameChanges l k) (many : entryCount k ≡ entryCo
           absurd (let z : ⊥ = omega (arith, met) in z)
 
   -- none of them has a fault
-  pub sound-same : (n : ℕ) (m : List ℕ) → Sound n m l → Sound n m k
-  sound-same n m sound e b =
+  pub sound-same : (n : ℕ) → Sound n l → Sound n k
+  sound-same n sound e b =
       let x = s .1 e b in
       let c = sound (x .0) (x .1) in
       record {
@@ -204,5 +192,4 @@ module _ (l k : List ℕ) (s : SameChanges l k) (many : entryCount k ≡ entryCo
         apart = subst (λ (y : Entry). y .from ≢ y .to) (x .2) (c .apart);
         some = subst (λ (y : Entry). y .metric ≢ 0) (x .2) (c .some);
         new = once-same e b;
-        differs = subst (λ (y : Entry). y .metric ≢ cell width m (y .from) (y .to)) (x .2) (c .differs);
       }

@@ -1,5 +1,4 @@
 // Faulty changes.
-use crate::old_metric::old_metric;
 use area::refusal::Refusal;
 use area::refusal::Verdict;
 use entries::check;
@@ -8,17 +7,15 @@ use entries::decode;
 ghost use mathlib.Core.Path.{_≡_};
 ghost use Rattle.area.specs.Refusals.{verdictNumber};
 ghost use Rattle.area.specs.Tests.{first};
-ghost use Rattle.entries.specs.Entries.{entryCount, isFirst};
-ghost use Rattle.changes.specs.Changes.{changeRefusal};
+ghost use Rattle.entries.specs.Entries.{entryCount, isFirst, listedRefusal};
 
 // The refusal of the first faulty change.
-pub fn first_refusal(n: usize, old: &[u32], list: &[u8]) -> Verdict
+pub fn first_refusal(n: usize, list: &[u8]) -> Verdict
     ensures answer { λ r. ⌜
-        verdictNumber r
-        ≡ first (entryCount (now (list .entry))) (changeRefusal n (now (old .entry)) (now (list .entry))) ⌝ }
+        verdictNumber r ≡ first (entryCount (now (list .entry))) (listedRefusal n (now (list .entry))) ⌝ }
 {
     for e in 0..count(list) {
-        let answer = refusal(n, old, list, e);
+        let answer = refusal(n, list, e);
         if !answer.is_accepted() {
             return answer;
         }
@@ -27,8 +24,8 @@ pub fn first_refusal(n: usize, old: &[u32], list: &[u8]) -> Verdict
 }
 
 // The refusal of change e.
-fn refusal(n: usize, old: &[u32], list: &[u8], e: usize) -> Verdict
-    ensures { λ r. ⌜ verdictNumber r ≡ changeRefusal n (now (old .entry)) (now (list .entry)) e ⌝ }
+fn refusal(n: usize, list: &[u8], e: usize) -> Verdict
+    ensures { λ r. ⌜ verdictNumber r ≡ listedRefusal n (now (list .entry)) e ⌝ }
 {
     let change = decode(list, e);
     let answer = check(n, change);
@@ -37,9 +34,6 @@ fn refusal(n: usize, old: &[u32], list: &[u8], e: usize) -> Verdict
     }
     if !is_new(list, e) {
         return Verdict::Refused(Refusal::Repeated);
-    }
-    if change.metric == old_metric(old, change) {
-        return Verdict::Refused(Refusal::SameMetric);
     }
     Verdict::Accepted
 }

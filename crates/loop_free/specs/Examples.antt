@@ -27,10 +27,10 @@ use Rattle.topology.specs.NextHops.{isNext, nextHops}
 use Rattle.area.specs.Lists.{Distinct}
 use Rattle.paths.specs.Paths.{isMetric, areMetrics}
 use Rattle.ranks.specs.Rank.{greatest, above, longest, rank}
-use Rattle.changes.specs.Changes.{changeRefusal, isRise, isFall}
 use Rattle.changes.specs.Root.{isCommon, root}
 use Rattle.plan.specs.declared.Record.{Record}
 use Rattle.plan.specs.NewMetrics.{newCell, newMetrics}
+use Rattle.plan.specs.Direction.{areAtMost, isSame, isRise, isFall}
 use Rattle.plan.specs.Waiting.{oldHops, newHops, waiting, telling, due}
 use Rattle.plan.specs.Plan.{Tables, asTables, areTables, planRefusal, isPlanned, fresh, recordOf, tablesOf}
 use Rattle.convergence.specs.Pointers.{pointers, Along}
@@ -70,8 +70,8 @@ lent = asTables metricsUp metricsUp metricsUp metricsUp metricsUp
 abbrev three : ℕ → ℕ → ℕ → List ℕ
 three x y z = x ∷ y ∷ z ∷ replicate (width - 3) 0
 
--- the records: 1 waits for 0 and 2 in the rise, and both wait for 1 in the fall; destination 2 is due at 0 and at 1, and
--- both others are due at 2
+-- the records: 1 waits for 0 and 2 in the rise, and both wait for 1 in the fall; destination 2 is due at 0 and at 1,
+-- and both others are due at 2
 beforeRise : Record
 beforeRise =
     record {
@@ -109,7 +109,7 @@ planned : Accepts metricsUp goesDown beforeRise × Accepts metricsDown comesUp b
 unfolding metricsDown metricsUp goesDown comesUp lent beforeRise beforeFall recordOf isPlanned fresh perRouter build
     rank longest above greatest waiting telling due oldHops newHops nextHops isNext bit setOf distance sums least
     topology isLink newMetrics tabulate newCell listedMetric planRefusal areTables isTable isRouterCount areMetrics
-    isMetric all changeRefusal first listedRefusal entryRefusal isFree isRise isFall isCommon root entryCount
+    isMetric all first listedRefusal entryRefusal isFree areAtMost isSame isRise isFall isCommon root entryCount
     entryOf
 planned = (record { accepted = refl; given = refl }, record { accepted = refl; given = refl })
 

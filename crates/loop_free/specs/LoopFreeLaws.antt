@@ -27,10 +27,10 @@ use Rattle.topology.specs.TopologyLaws.{topology-graph}
 use Rattle.topology.specs.Distance.{distance}
 use Rattle.topology.specs.DistanceLaws.{distance-top}
 use Rattle.topology.specs.NextHops.{Next}
-use Rattle.changes.specs.Changes.{isRise}
 use Rattle.changes.specs.Root.{root}
 use Rattle.plan.specs.declared.Record.{Record}
 use Rattle.plan.specs.NewMetrics.{newMetrics}
+use Rattle.plan.specs.Direction.{isRise}
 use Rattle.plan.specs.Waiting.{oldHops, newHops, waiting}
 use Rattle.plan.specs.Plan.{Tables, areTables, planRefusal, fresh, recordOf}
 use Rattle.plan.specs.WaitingLaws.{old-next, new-next, waits-rise, waits-fall, waits-inside, due-at}
@@ -76,7 +76,7 @@ module _ (n : ℕ) (m l : List ℕ) (p : Plan n m l) where
   most : n ≤ width
   most = p .ready .most
 
-  rises : isRise m l ≡ true → Change n (root l) (topology n m) (topology n (newMetrics n m l))
+  rises : isRise n m l ≡ true → Change n (root l) (topology n m) (topology n (newMetrics n m l))
   rises t = record {
     lo-graph = topology-graph n m most;
     hi-graph = topology-graph n (newMetrics n m l) most;
@@ -84,7 +84,7 @@ module _ (n : ℕ) (m l : List ℕ) (p : Plan n m l) where
     elsewhere = plan-elsewhere n m l p;
   }
 
-  falls : isRise m l ≡ false → Change n (root l) (topology n (newMetrics n m l)) (topology n m)
+  falls : isRise n m l ≡ false → Change n (root l) (topology n (newMetrics n m l)) (topology n m)
   falls f = record {
     lo-graph = topology-graph n (newMetrics n m l) most;
     hi-graph = topology-graph n m most;
@@ -157,14 +157,14 @@ module _ (n : ℕ) (m l : List ℕ) (p : Plan n m l) where
       Demand = Safe n d (topology n m) (topology n (newMetrics n m l)) (pointsTo n m l (fresh n m l) calls d)
 
       safe : Demand
-      safe = ⊎-elim by-rise by-fall (look (isRise m l))
+      safe = ⊎-elim by-rise by-fall (look (isRise n m l))
         where
-          by-rise : isRise m l ≡ true → Demand
+          by-rise : isRise n m l ≡ true → Demand
           by-rise t =
               rise (rises t) d-in (exact-sets (old-exact d) (new-exact d))
               (ordered (WaitsRise n (root l) (topology n m)) (λ r w. waits-rise n m l most t r w .1))
 
-          by-fall : isRise m l ≡ false → Demand
+          by-fall : isRise n m l ≡ false → Demand
           by-fall f =
               let waits = WaitsFall n (root l) (topology n (newMetrics n m l)) in
               swapped (fall (falls f) d-in (exact-sets (new-exact d) (old-exact d))

@@ -65,7 +65,7 @@ module _ (n : ℕ) (m l : List ℕ) where
     cell-kept : isForPair l k i j ≡ false → cellAfter n m l (k + 1) i j ≡ cellAfter n m l k i j
     cell-kept e = rw (add-one, given-kept l k i j (cell width m i j) e) refl
 
-  module _ (k : ℕ) (most : n ≤ width) (c : Change n m l k) (t : List ℕ) (done : Applied n m l k t) where
+  module _ (k : ℕ) (most : n ≤ width) (c : Change n l k) (t : List ℕ) (done : Applied n m l k t) where
     put :
         (i j : ℕ) → i < width → j < width
         → cell width (set t (width * from l k + to l k) (metric l k)) i j ≡ cellAfter n m l (k + 1) i j

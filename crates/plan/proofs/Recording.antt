@@ -20,7 +20,7 @@ use Rattle.topology.specs.Cells.{hopCell}
 use Rattle.topology.specs.CellLaws.{hops-in}
 use Rattle.order.specs.Order.{waitingBy, tellingBy, dueBy, orderOf}
 use Rattle.order.specs.OrderLaws.{telling-same, ranks-same, order-waiting, order-telling, order-ranks, order-due}
-use Rattle.changes.specs.Changes.{isRise}
+use Rattle.plan.specs.Direction.{isRise}
 use Rattle.changes.specs.Root.{root}
 use Rattle.plan.specs.NewMetrics.{newMetrics}
 use Rattle.plan.specs.Waiting.{oldHops, newHops, waiting, telling, due}
@@ -56,12 +56,12 @@ module _
 
   -- whom the tables say that a router waits for
   abbrev waitsFor : ℕ → ℕ
-  waitsFor = waitingBy n (root l) (isRise m l) (cell width old) (cell width new)
+  waitsFor = waitingBy n (root l) (isRise n m l) (cell width old) (cell width new)
 
   waiting-at : (r : ℕ) → r < n → waitsFor r ≡ waiting n m l r
   unfolding waiting
   waiting-at r a =
-      ap₂ (λ (x y : ℕ). pick (isRise m l) x y)
+      ap₂ (λ (x y : ℕ). pick (isRise n m l) x y)
       (setOf-same n
       (λ s. bit (cell width old s (root l)) r)
       (λ s. bit (oldHops n m s (root l)) r)
@@ -83,15 +83,15 @@ module _
   pub fresh-is :
       (k : ℕ) (rising : Bool)
       → k ≡ root l
-      → rising ≡ isRise m l
+      → rising ≡ isRise n m l
       → started n k rising (orderOf n k rising old new) ≡ fresh n m l
   unfolding fresh
   fresh-is k rising at direction =
       let low : root l < width = omega arith in
       let waits-is = per-same width n waitsFor (waiting n m l) most waiting-at in
       let ranks-is = ranks-same width n waitsFor (waiting n m l) most waiting-at in
-      let w = order-waiting n (root l) old new (isRise m l) most low old-size new-size ∙ waits-is in
-      let t = order-telling n (root l) old new (isRise m l) most low old-size new-size ∙ telling-of in
-      let r = order-ranks n (root l) old new (isRise m l) most low old-size new-size ∙ ranks-is in
-      let d = order-due n (root l) old new (isRise m l) most low old-size new-size ∙ due-of in
+      let w = order-waiting n (root l) old new (isRise n m l) most low old-size new-size ∙ waits-is in
+      let t = order-telling n (root l) old new (isRise n m l) most low old-size new-size ∙ telling-of in
+      let r = order-ranks n (root l) old new (isRise n m l) most low old-size new-size ∙ ranks-is in
+      let d = order-due n (root l) old new (isRise n m l) most low old-size new-size ∙ due-of in
       rw (at, direction, w, t, r, d) refl

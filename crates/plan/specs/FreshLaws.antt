@@ -1,63 +1,45 @@
 -- What the layer above knows of an input that is planned, and of the record that it starts from.
 --     plan-root, plan-fall, plan-not-both      the root is a router; a plan is a rise or a fall, and not both
---     plan-differs, plan-larger, plan-smaller      metrics differ only in pairs with the root as an end, and all the
---                                              same way
---     plan-elsewhere, plan-rises, plan-falls   the same of the two topologies
+--     plan-elsewhere, plan-rises, plan-falls   usable metrics differ only at links of the root, and all the same way
+--     plan-differs, plan-larger, plan-smaller  the same of one that differs
 --     fresh-count, fresh-size, fresh-states-size, fresh-waiting-size, fresh-rank, fresh-waiting, fresh-telling,
 --     fresh-due, fresh-state, fresh-written, fresh-beyond      the fresh record's sizes and entries
 use Prim.Native.Nat.{ℕ, _≤_, _<_}
 use mathlib.Core.Path.{_≡_, refl, sym, _∙_}
 use mathlib.Core.Bool.{true, false, false≢true}
-use mathlib.Core.Logic.{_≢_, _⊎_, ⊎-elim}
+use mathlib.Core.Logic.{_≢_, _⊎_, inl, inr, ⊎-elim}
 use mathlib.Core.List.{List}
+use native.Mathlib.Decide.{ℕ-discrete}
 use native.Mathlib.Omega.{arith}
 use lib.ListN.{length, getD, length-replicate}
 use Rattle.area.specs.Limits.{width}
-use Rattle.area.specs.TestLaws.{look}
-use Rattle.area.specs.Tables.{cell}
+use Rattle.area.specs.TestLaws.{look, and-true}
 use Rattle.area.specs.PerRouterLaws.{per-length, per-at, per-beyond, zeros-at}
 use Rattle.topology.specs.Topology.{topology}
 use Rattle.ranks.specs.Rank.{rank}
-use Rattle.changes.specs.Changes.{isRise, isFall}
 use Rattle.changes.specs.Root.{root}
-use Rattle.changes.specs.ChangeLaws.{rise-at, fall-at}
 use Rattle.changes.specs.RootLaws.{root-in}
 use Rattle.plan.specs.NewMetrics.{newMetrics}
+use Rattle.plan.specs.Direction.{isRise, isFall}
 use Rattle.plan.specs.Waiting.{waiting, telling, due}
 use Rattle.plan.specs.Plan.{fresh}
-use Rattle.plan.specs.MetricLaws.{differs-common, differs-rise, differs-fall}
-use Rattle.plan.specs.MetricLaws.{topology-elsewhere, topology-rise, topology-fall}
+use Rattle.plan.specs.MetricLaws.{topology-elsewhere}
+use Rattle.plan.specs.DirectionLaws.{rise-at, fall-at, same-both}
 use Rattle.plan.specs.PlanLaws.{Plan}
 
 module _ (n : ℕ) (m l : List ℕ) (p : Plan n m l) where
   pub plan-root : root l < n
   plan-root = let first = p .sound 0 (p .some) in root-in n l (first .from-in) (first .to-in)
 
-  pub plan-fall : isRise m l ≡ false → isFall m l ≡ true
+  pub plan-fall : isRise n m l ≡ false → isFall n m l ≡ true
   plan-fall f = ⊎-elim (λ t. absurd (false≢true (sym f ∙ t))) (λ t. t) (p .way)
 
-  -- the first change cannot go both ways
-  pub plan-not-both : isRise m l ≡ true → isFall m l ≡ false
-  plan-not-both r = ⊎-elim (λ t. absurd (both t)) (λ f. f) (look (isFall m l))
+  -- some usable metric differs
+  pub plan-not-both : isRise n m l ≡ true → isFall n m l ≡ false
+  plan-not-both r = ⊎-elim (λ t. absurd (both t)) (λ f. f) (look (isFall n m l))
     where
-      both : isFall m l ≡ true → ⊥
-      both t =
-          let a = rise-at m l 0 (p .some) r in
-          let b = fall-at m l 0 (p .some) t in
-          omega arith
-
-  -- ---- the metrics of two different routers
-  module _
-      (i j : ℕ) (a : i < n) (b : j < n) (f : i ≢ j)
-      (d : cell width (newMetrics n m l) i j ≢ cell width m i j) where
-    pub plan-differs : (i ≡ root l) ⊎ (j ≡ root l)
-    plan-differs = differs-common n m l (p .ready .most) (root l) (p .common) i j a b f d
-
-    pub plan-larger : isRise m l ≡ true → cell width m i j < cell width (newMetrics n m l) i j
-    plan-larger r = differs-rise n m l (p .ready .most) r i j a b f d
-
-    pub plan-smaller : isRise m l ≡ false → cell width (newMetrics n m l) i j < cell width m i j
-    plan-smaller r = differs-fall n m l (p .ready .most) (plan-fall r) i j a b f d
+      both : isFall n m l ≡ true → ⊥
+      both t = false≢true (sym (p .effect) ∙ same-both n m l ∙ and-true (isRise n m l) (isFall n m l) r t)
 
   -- ---- the topologies
   pub plan-elsewhere :
@@ -67,11 +49,27 @@ module _ (n : ℕ) (m l : List ℕ) (p : Plan n m l) where
       → topology n (newMetrics n m l) i j ≡ topology n m i j
   plan-elsewhere = topology-elsewhere n m l (p .ready .most) (root l) (p .common)
 
-  pub plan-rises : isRise m l ≡ true → (i j : ℕ) → topology n m i j ≤ topology n (newMetrics n m l) i j
-  plan-rises r = topology-rise n m l (p .ready) r
+  pub plan-rises : isRise n m l ≡ true → (i j : ℕ) → topology n m i j ≤ topology n (newMetrics n m l) i j
+  plan-rises = rise-at n m l
 
-  pub plan-falls : isRise m l ≡ false → (i j : ℕ) → topology n (newMetrics n m l) i j ≤ topology n m i j
-  plan-falls r = topology-fall n m l (p .ready .most) (p .sound) (plan-fall r)
+  pub plan-falls : isRise n m l ≡ false → (i j : ℕ) → topology n (newMetrics n m l) i j ≤ topology n m i j
+  plan-falls r = fall-at n m l (plan-fall r)
+
+  -- ---- the usable metrics that differ
+  module _ (i j : ℕ) (d : topology n (newMetrics n m l) i j ≢ topology n m i j) where
+    pub plan-differs : (i ≡ root l) ⊎ (j ≡ root l)
+    plan-differs = by-ends (ℕ-discrete i (root l)) (ℕ-discrete j (root l))
+      where
+        by-ends : Dec (i ≡ root l) → Dec (j ≡ root l) → (i ≡ root l) ⊎ (j ≡ root l)
+        by-ends (yes e) b = inl e
+        by-ends (no x) (yes e) = inr e
+        by-ends (no x) (no y) = absurd (d (plan-elsewhere i j x y))
+
+    pub plan-larger : isRise n m l ≡ true → topology n m i j < topology n (newMetrics n m l) i j
+    plan-larger r = omega (arith, plan-rises r i j)
+
+    pub plan-smaller : isRise n m l ≡ false → topology n (newMetrics n m l) i j < topology n m i j
+    plan-smaller r = omega (arith, plan-falls r i j)
 
 -- ---- the fresh record, router by router
 module _ (n : ℕ) (m l : List ℕ) where

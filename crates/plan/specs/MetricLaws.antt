@@ -2,16 +2,16 @@
 --     cell-pair, cell-own, cell-beyond     the three kinds of cells of the new table
 --     cell-copied          the cell of a pair where nothing is changed
 --     new-cell, new-ready      the new table, and that Paths accepts it
---     differs-common, differs-rise, differs-fall      which metrics differ, and which way
---     topology-elsewhere, topology-rise, topology-fall     the same of the two topologies
--- The metric of a pair of routers is that of a change of this pair, or the old one (`pair-cases`). A change has the
--- root as an end, and goes the way that all of them go: so does every metric that differs, and so does the topology.
+--     Pair, pair-of    what can be of a pair: a change is of it, or of its reverse, or its usable metric stays
+--     topology-elsewhere       it stays where no common router is an end
+-- The metric of a pair of routers is that of a change of this pair, or the old one (`pair-cases`). A usable metric goes
+-- by both directions, so a change can touch its own pair and the reverse.
 use Prim.Native.Nat.{ℕ, _*_, _/_, _%_, _≤_, _<_}
 use mathlib.Core.Path.{_≡_, refl, sym, ap, _∙_}
 use mathlib.Core.Bool.{true, false, _||_}
 use mathlib.Core.Logic.{_≢_, _⊎_, inl, inr, ⊎-elim}
 use mathlib.Core.List.{List, []}
-use native.Mathlib.Decide.{ℕ-discrete}
+use native.Mathlib.Decide.{decLt, ℕ-discrete}
 use native.Mathlib.Omega.{arith}
 use lib.Dec.{ltb, eqb}
 use lib.ListN.{length, getD}
@@ -24,11 +24,9 @@ use Rattle.entries.specs.Entries.{entryCount, from, to, metric, listedMetric}
 use Rattle.entries.specs.EntryLaws.{entry-count-is, of-pair, given-start, given-cases}
 use Rattle.paths.specs.Paths.{isMetric}
 use Rattle.topology.specs.Topology.{topology}
-use Rattle.topology.specs.TopologyLaws.{topology-le, topology-same}
+use Rattle.topology.specs.TopologyLaws.{topology-same}
 use Rattle.paths.specs.PathsLaws.{Ready, metric-own, metric-good, metrics-at, metrics-true}
-use Rattle.changes.specs.Changes.{isRise, isFall}
 use Rattle.changes.specs.Root.{isCommon}
-use Rattle.changes.specs.ChangeLaws.{Sound, rise-at, fall-at}
 use Rattle.changes.specs.RootLaws.{common-at}
 use Rattle.plan.specs.NewMetrics.{newCell, newMetrics}
 
@@ -122,78 +120,43 @@ module _ (n : ℕ) (m l : List ℕ) where
       good i j a b (yes e) = metric-own (newMetrics n m l) i j e
       good i j a b (no f) = let v = range i j a b f in metric-good (newMetrics n m l) i j (v .0) (v .1)
 
--- ---- the old table and the new one
+-- ---- the two topologies
+-- what can be of a pair (i, j): a change is of it; or its metric in the table stays, and a change is of its reverse; or
+-- its usable metric stays
+pub data Pair (n : ℕ) (m l : List ℕ) (i j : ℕ) : Type 0 where
+  listed : (e : ℕ) → e < entryCount l → from l e ≡ i → to l e ≡ j → Pair n m l i j
+  reversed :
+      (e : ℕ) → e < entryCount l → from l e ≡ j → to l e ≡ i
+      → cell width (newMetrics n m l) i j ≡ cell width m i j
+      → Pair n m l i j
+  untouched : topology n (newMetrics n m l) i j ≡ topology n m i j → Pair n m l i j
+
 module _ (n : ℕ) (m l : List ℕ) (most : n ≤ width) where
-  -- a pair of routers whose metric differs has a common router as an end
-  module _ (c : ℕ) (common : isCommon l c ≡ true) where
-    pub differs-common :
-        (i j : ℕ) → i < n → j < n → i ≢ j
-        → cell width (newMetrics n m l) i j ≢ cell width m i j
-        → (i ≡ c) ⊎ (j ≡ c)
-    differs-common i j a b f d =
-        ⊎-elim
-        (λ h.
-        ⊎-elim (λ e. inl (sym (h .2) ∙ e)) (λ e. inr (sym (h .3) ∙ e)) (common-at l c common (h .0) (h .1)))
-        (λ e. absurd (d e))
-        (pair-cases n m l most a b f)
+  pub pair-of : (i j : ℕ) → Pair n m l i j
+  pair-of i j = by-pair (decLt i n) (decLt j n) (ℕ-discrete i j)
+    where
+      by-pair : Dec (i < n) → Dec (j < n) → Dec (i ≡ j) → Pair n m l i j
+      by-pair (no a) b e = untouched (topology-same n (newMetrics n m l) m i j (λ x y z. absurd (a x)))
+      by-pair (yes a) (no b) e = untouched (topology-same n (newMetrics n m l) m i j (λ x y z. absurd (b y)))
+      by-pair (yes a) (yes b) (yes e) = untouched (topology-same n (newMetrics n m l) m i j (λ x y z. absurd (z e)))
+      by-pair (yes a) (yes b) (no f) =
+          ⊎-elim
+          (λ h. listed (h .0) (h .1) (h .2) (h .3))
+          (λ there. ⊎-elim
+          (λ h. reversed (h .0) (h .1) (h .2) (h .3) there)
+          (λ back. untouched (topology-same n (newMetrics n m l) m i j (λ x y z. (there, back))))
+          (pair-cases n m l most b a (λ e. f (sym e))))
+          (pair-cases n m l most a b f)
 
-    pub topology-elsewhere :
-        (i j : ℕ) → i ≢ c → j ≢ c → topology n (newMetrics n m l) i j ≡ topology n m i j
-    topology-elsewhere i j x y =
-        topology-same n (newMetrics n m l) m i j
-        (λ a b f. by-metric a b f (ℕ-discrete (cell width (newMetrics n m l) i j) (cell width m i j)))
-      where
-        by-metric :
-            i < n → j < n → i ≢ j
-            → Dec (cell width (newMetrics n m l) i j ≡ cell width m i j)
-            → cell width (newMetrics n m l) i j ≡ cell width m i j
-        by-metric a b f (yes e) = e
-        by-metric a b f (no d) = absurd (⊎-elim x y (differs-common i j a b f d))
-
-  -- a metric that differs is larger in a rise, and smaller in a fall
-  module _ (rise : isRise m l ≡ true) (i j : ℕ) (a : i < n) (b : j < n) (f : i ≢ j) where
-    rises : cell width m i j ≤ cell width (newMetrics n m l) i j
-    rises =
-        ⊎-elim
-        (λ h. let x = rw (h .2, h .3) at (rise-at m l (h .0) (h .1) rise) in omega (arith, h .4))
-        (λ e. omega (arith, e))
-        (pair-cases n m l most a b f)
-
-    pub differs-rise :
-        cell width (newMetrics n m l) i j ≢ cell width m i j
-        → cell width m i j < cell width (newMetrics n m l) i j
-    differs-rise d = omega (arith, rises)
-
-  module _ (fall : isFall m l ≡ true) (i j : ℕ) (a : i < n) (b : j < n) (f : i ≢ j) where
-    falls : cell width (newMetrics n m l) i j ≤ cell width m i j
-    falls =
-        ⊎-elim
-        (λ h. let x = rw (h .2, h .3) at (fall-at m l (h .0) (h .1) fall) in omega (arith, h .4))
-        (λ e. omega (arith, e))
-        (pair-cases n m l most a b f)
-
-    pub differs-fall :
-        cell width (newMetrics n m l) i j ≢ cell width m i j
-        → cell width (newMetrics n m l) i j < cell width m i j
-    differs-fall d = omega (arith, falls)
-
--- An old metric of 0 would not be used, and a rise from it would be a fall of the topology: hence `Ready`.
-pub topology-rise :
-    (n : ℕ) (m l : List ℕ)
-    → Ready n m
-    → isRise m l ≡ true
-    → (i j : ℕ) → topology n m i j ≤ topology n (newMetrics n m l) i j
-topology-rise n m l ready rise i j =
-    topology-le n m (newMetrics n m l) i j (rises n m l (ready .most) rise i j)
-    (λ a b f h. metrics-at n m (ready .metrics) i j a b (λ e. f (sym e)) .0)
-
-module _ (n : ℕ) (m l : List ℕ) (most : n ≤ width) (each : Sound n m l) where
-  pub topology-fall :
-      isFall m l ≡ true
-      → (i j : ℕ) → topology n (newMetrics n m l) i j ≤ topology n m i j
-  topology-fall fall i j =
-      topology-le n (newMetrics n m l) m i j (falls n m l most fall i j)
-      (λ a b f h. ⊎-elim
-      (λ c. let x = each (c .0) (c .1) .some in omega (arith, c .4))
-      (λ e. omega (arith, e))
-      (pair-cases n m l most a b f))
+  -- the usable metric of a pair with no common router as an end stays
+  pub topology-elsewhere :
+      (c : ℕ) → isCommon l c ≡ true
+      → (i j : ℕ) → i ≢ c → j ≢ c → topology n (newMetrics n m l) i j ≡ topology n m i j
+  topology-elsewhere c common i j x y = by-case (pair-of i j)
+    where
+      by-case : Pair n m l i j → topology n (newMetrics n m l) i j ≡ topology n m i j
+      by-case (listed e b f t) =
+          absurd (⊎-elim (λ q. x (sym f ∙ q)) (λ q. y (sym t ∙ q)) (common-at l c common e b))
+      by-case (reversed e b f t same) =
+          absurd (⊎-elim (λ q. y (sym f ∙ q)) (λ q. x (sym t ∙ q)) (common-at l c common e b))
+      by-case (untouched same) = same

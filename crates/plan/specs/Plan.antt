@@ -8,18 +8,18 @@ use lib.Dec.{ltb, eqb}
 use lib.ListN.{length, replicate}
 use Rattle.area.specs.Limits.{width, mostChanges}
 use Rattle.area.specs.Refusals.{routerCount, tableSize, badMetric, incomplete, tooMany}
-use Rattle.area.specs.Refusals.{noChange, mixed, noCommonRouter}
+use Rattle.area.specs.Refusals.{noChange, sameMetric, mixed, noCommonRouter}
 use Rattle.area.specs.Tests.{pick, orThen, first}
 use Rattle.area.specs.Tables.{tabulate, perRouter}
 use Rattle.area.specs.Sizes.{isRouterCount, isTable}
 use Rattle.paths.specs.Paths.{areMetrics}
 use Rattle.topology.specs.Cells.{distanceCell, hopCell}
 use Rattle.ranks.specs.Rank.{rank}
-use Rattle.entries.specs.Entries.{entryCount}
-use Rattle.changes.specs.Changes.{changeRefusal, isRise, isFall}
+use Rattle.entries.specs.Entries.{entryCount, listedRefusal}
 use Rattle.changes.specs.Root.{isCommon, root}
 use Rattle.plan.specs.declared.Record.{Record}
 use Rattle.plan.specs.NewMetrics.{newMetrics}
+use Rattle.plan.specs.Direction.{isSame, isRise, isFall}
 use Rattle.plan.specs.Waiting.{waiting, telling, due}
 
 -- the tables that Plan is lent and fills
@@ -45,7 +45,8 @@ areTables m t =
 
 -- The number of the first refusal that applies; 0 where the input is planned. 01 has them in this order: the three that
 -- Paths has too, then the length of the list and the number of its entries, then that of the first faulty entry
--- (`changeRefusal`), and last those of the changes together. `sized` says that the tables have the right size.
+-- (`listedRefusal`), and last those of the changes together, of which 02, No. 4, has put 11 first. `sized` says that
+-- the tables have the right size.
 unfoldable pub planRefusal : (n : ℕ) (m l : List ℕ) (sized : Bool) → ℕ
 planRefusal n m l sized =
     pick (not (isRouterCount n)) routerCount
@@ -54,10 +55,11 @@ planRefusal n m l sized =
     (pick (not (eqb (length l % 5) 0)) incomplete
     (pick (ltb mostChanges (entryCount l)) tooMany
     (pick (eqb (entryCount l) 0) noChange
-    (orThen (first (entryCount l) (changeRefusal n m l))
-    (pick (not (isRise m l || isFall m l)) mixed
+    (orThen (first (entryCount l) (listedRefusal n l))
+    (pick (isSame n m l) sameMetric
+    (pick (not (isRise n m l || isFall n m l)) mixed
     (pick (not (isCommon l (root l))) noCommonRouter
-    0))))))))
+    0)))))))))
 
 -- the input is planned, that is, none of the refusals is given
 unfoldable pub isPlanned : (n : ℕ) (m l : List ℕ) (t : Tables) → Bool
@@ -73,7 +75,7 @@ fresh n m l =
     record {
       n = n;
       root = root l;
-      direction = pick (isRise m l) 1 2;
+      direction = pick (isRise n m l) 1 2;
       ranks = perRouter width n (rank n (waiting n m l));
       waiting = perRouter width n (waiting n m l);
       telling = perRouter width n (telling n m l);

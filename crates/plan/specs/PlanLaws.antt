@@ -1,7 +1,7 @@
 -- Laws of what Plan answers, hands back and fills in: those by which the code is proved, and those that callers use.
 --     plan-count, plan-tables, plan-metrics        the refusals of the input, each where it is given: of n and tables,
 --     plan-cut, plan-many, plan-none, Listed       of the list's length,
---     plan-faulty, plan-mixed, plan-apart          of its changes
+--     plan-faulty, plan-same, plan-mixed, plan-apart       of its changes
 --     Plan, planned-is     an input is planned exactly where none of 01's conditions for a refusal holds
 --     record-planned, record-refused, refused-count, tables-planned, tables-refused    what is handed back and left
 --     filled-size      the tables that are filled have the right size
@@ -18,20 +18,20 @@ use lib.ListN.{length}
 use borrow.Author.Tests.{eqb-true, lt-ltb, le-ltb, eq-eqb, ne-eqb}
 use Rattle.area.specs.Limits.{width, mostChanges}
 use Rattle.area.specs.Refusals.{routerCount, tableSize, badMetric, incomplete, tooMany}
-use Rattle.area.specs.Refusals.{noChange, mixed, noCommonRouter}
+use Rattle.area.specs.Refusals.{noChange, sameMetric, mixed, noCommonRouter}
 use Rattle.area.specs.Tests.{pick, orThen, first}
 use Rattle.area.specs.TableLaws.{length-tabulate}
 use Rattle.area.specs.TestLaws.{look, both-true, or-cases, or-left, or-right, then-some, then-none}
 use Rattle.area.specs.Sizes.{isRouterCount, isTable}
 use Rattle.area.specs.SizeLaws.{router-count-true, table-true, table-size}
-use Rattle.entries.specs.Entries.{entryCount}
+use Rattle.entries.specs.Entries.{entryCount, listedRefusal}
 use Rattle.paths.specs.Paths.{areMetrics}
 use Rattle.topology.specs.Cells.{distanceCell, hopCell}
 use Rattle.paths.specs.PathsLaws.{Ready, area-ready, area-metrics}
-use Rattle.changes.specs.Changes.{changeRefusal, isRise, isFall}
 use Rattle.changes.specs.Root.{isCommon, root}
 use Rattle.changes.specs.ChangeLaws.{Sound, sound-of, of-sound}
 use Rattle.plan.specs.NewMetrics.{newCell, newMetrics}
+use Rattle.plan.specs.Direction.{isSame, isRise, isFall}
 use Rattle.plan.specs.Plan.{Tables, areTables, planRefusal, isPlanned, fresh, blank, filled, recordOf, tablesOf}
 
 -- ---- the refusals of the input
@@ -79,9 +79,11 @@ pub record Listed (n : ℕ) (m l : List ℕ) : Type 0 where
 module _ (n : ℕ) (m l : List ℕ) (listed : Listed n m l) where
   -- the refusals of the changes together
   abbrev together : ℕ
-  together = pick (not (isRise m l || isFall m l)) mixed (pick (not (isCommon l (root l))) noCommonRouter 0)
+  together =
+      pick (isSame n m l) sameMetric
+      (pick (not (isRise n m l || isFall n m l)) mixed (pick (not (isCommon l (root l))) noCommonRouter 0))
 
-  plan-changes : planRefusal n m l true ≡ orThen (first (entryCount l) (changeRefusal n m l)) together
+  plan-changes : planRefusal n m l true ≡ orThen (first (entryCount l) (listedRefusal n l)) together
   unfolding planRefusal
   plan-changes =
       rw (router-count-true n (listed .ready .some) (listed .ready .most), listed .ready .metrics)
@@ -89,23 +91,27 @@ module _ (n : ℕ) (m l : List ℕ) (listed : Listed n m l) where
       (rw (ne-eqb (entryCount l) 0 (listed .some)) refl))
 
   pub plan-faulty :
-      first (entryCount l) (changeRefusal n m l) ≢ 0
-      → planRefusal n m l true ≡ first (entryCount l) (changeRefusal n m l)
-  plan-faulty f = plan-changes ∙ then-some (first (entryCount l) (changeRefusal n m l)) together f
+      first (entryCount l) (listedRefusal n l) ≢ 0
+      → planRefusal n m l true ≡ first (entryCount l) (listedRefusal n l)
+  plan-faulty f = plan-changes ∙ then-some (first (entryCount l) (listedRefusal n l)) together f
 
-  module _ (z : first (entryCount l) (changeRefusal n m l) ≡ 0) where
+  module _ (z : first (entryCount l) (listedRefusal n l) ≡ 0) where
     plan-together : planRefusal n m l true ≡ together
-    plan-together = plan-changes ∙ then-none (first (entryCount l) (changeRefusal n m l)) together z
+    plan-together = plan-changes ∙ then-none (first (entryCount l) (listedRefusal n l)) together z
 
-    pub plan-mixed : (isRise m l || isFall m l) ≡ false → planRefusal n m l true ≡ mixed
-    plan-mixed a = plan-together ∙ rw a refl
+    pub plan-same : isSame n m l ≡ true → planRefusal n m l true ≡ sameMetric
+    plan-same a = plan-together ∙ rw a refl
 
-    module _ (way : (isRise m l || isFall m l) ≡ true) where
-      pub plan-apart : isCommon l (root l) ≡ false → planRefusal n m l true ≡ noCommonRouter
-      plan-apart a = plan-together ∙ rw (way, a) refl
+    module _ (effect : isSame n m l ≡ false) where
+      pub plan-mixed : (isRise n m l || isFall n m l) ≡ false → planRefusal n m l true ≡ mixed
+      plan-mixed a = plan-together ∙ rw (effect, a) refl
 
-      pub plan-accepted : isCommon l (root l) ≡ true → planRefusal n m l true ≡ 0
-      plan-accepted a = plan-together ∙ rw (way, a) refl
+      module _ (way : (isRise n m l || isFall n m l) ≡ true) where
+        pub plan-apart : isCommon l (root l) ≡ false → planRefusal n m l true ≡ noCommonRouter
+        plan-apart a = plan-together ∙ rw (effect, way, a) refl
+
+        pub plan-accepted : isCommon l (root l) ≡ true → planRefusal n m l true ≡ 0
+        plan-accepted a = plan-together ∙ rw (effect, way, a) refl
 
 -- ---- the sizes of the tables
 pub record Sized (m : List ℕ) (t : Tables) : Type 0 where
@@ -139,8 +145,9 @@ pub record Plan (n : ℕ) (m l : List ℕ) : Type 0 where
   pub whole : length l % 5 ≡ 0
   pub most : entryCount l ≤ mostChanges
   pub some : 0 < entryCount l
-  pub sound : Sound n m l
-  pub way : (isRise m l ≡ true) ⊎ (isFall m l ≡ true)
+  pub sound : Sound n l
+  pub effect : isSame n m l ≡ false
+  pub way : (isRise n m l ≡ true) ⊎ (isFall n m l ≡ true)
   pub common : isCommon l (root l) ≡ true
 
 module _ (n : ℕ) (m l : List ℕ) where
@@ -184,28 +191,32 @@ module _ (n : ℕ) (m l : List ℕ) where
   -- .. and those of its changes
   together-of : Listed n m l → planRefusal n m l true ≡ 0 → Plan n m l
   together-of listed z =
-      by-tests (ℕ-discrete (first (entryCount l) (changeRefusal n m l)) 0) (look (isRise m l || isFall m l))
-      (look (isCommon l (root l)))
+      by-tests (ℕ-discrete (first (entryCount l) (listedRefusal n l)) 0) (look (isSame n m l))
+      (look (isRise n m l || isFall n m l)) (look (isCommon l (root l)))
     where
       never : {A : Type 0} (k : ℕ) → k ≢ 0 → planRefusal n m l true ≡ k → A
       never k f q = absurd (f (sym q ∙ z))
 
       by-tests :
-          Dec (first (entryCount l) (changeRefusal n m l) ≡ 0)
-          → ((isRise m l || isFall m l) ≡ true) ⊎ ((isRise m l || isFall m l) ≡ false)
+          Dec (first (entryCount l) (listedRefusal n l) ≡ 0)
+          → (isSame n m l ≡ true) ⊎ (isSame n m l ≡ false)
+          → ((isRise n m l || isFall n m l) ≡ true) ⊎ ((isRise n m l || isFall n m l) ≡ false)
           → (isCommon l (root l) ≡ true) ⊎ (isCommon l (root l) ≡ false)
           → Plan n m l
-      by-tests (no a) b c = never _ a (plan-faulty n m l listed a)
-      by-tests (yes a) (inr b) c = never mixed (λ q. let x : ⊥ = omega arith in x) (plan-mixed n m l listed a b)
-      by-tests (yes a) (inl b) (inr c) =
-          never noCommonRouter (λ q. let x : ⊥ = omega arith in x) (plan-apart n m l listed a b c)
-      by-tests (yes a) (inl b) (inl c) = record {
+      by-tests (no a) d b c = never _ a (plan-faulty n m l listed a)
+      by-tests (yes a) (inl d) b c = never sameMetric (λ q. let x : ⊥ = omega arith in x) (plan-same n m l listed a d)
+      by-tests (yes a) (inr d) (inr b) c =
+          never mixed (λ q. let x : ⊥ = omega arith in x) (plan-mixed n m l listed a d b)
+      by-tests (yes a) (inr d) (inl b) (inr c) =
+          never noCommonRouter (λ q. let x : ⊥ = omega arith in x) (plan-apart n m l listed a d b c)
+      by-tests (yes a) (inr d) (inl b) (inl c) = record {
         ready = listed .ready;
         whole = listed .whole;
         most = listed .most;
         some = let f = listed .some in omega arith;
-        sound = sound-of n m l a;
-        way = or-cases (isRise m l) (isFall m l) b;
+        sound = sound-of n l a;
+        effect = d;
+        way = or-cases (isRise n m l) (isFall n m l) b;
         common = c;
       }
 
@@ -221,8 +232,8 @@ module _ (n : ℕ) (m l : List ℕ) where
     of-plan b p =
         let some : entryCount l ≢ 0 = λ q. let s = p .some in let x : ⊥ = omega arith in x in
         let listed : Listed n m l = record { ready = p .ready; whole = p .whole; most = p .most; some = some } in
-        let way = ⊎-elim (or-left (isRise m l) (isFall m l)) (or-right (isRise m l) (isFall m l)) (p .way) in
-        ap (planRefusal n m l) b ∙ plan-accepted n m l listed (of-sound n m l (p .sound)) way (p .common)
+        let way = ⊎-elim (or-left (isRise n m l) (isFall n m l)) (or-right (isRise n m l) (isFall n m l)) (p .way) in
+        ap (planRefusal n m l) b ∙ plan-accepted n m l listed (of-sound n l (p .sound)) (p .effect) way (p .common)
 
     -- planned exactly where the tables have their sizes and none of the conditions on n, metrics and changes holds
     pub planned-is : (isPlanned n m l t ≡ true) ↔ ((areTables m t ≡ true) × Plan n m l)

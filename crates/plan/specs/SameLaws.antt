@@ -4,8 +4,8 @@
 --     same-accepted    where l is accepted, so is k if it is as long: the same changes in another order
 --     either-order     two reports, each of whole entries, give the same plan whichever comes first
 -- The number of a refusal is not among this: it is that of the first faulty change.
-use Prim.Native.Nat.{ℕ, _%_, _<_}
-use mathlib.Core.Path.{_≡_, refl, sym, ap, _∙_}
+use Prim.Native.Nat.{ℕ, _%_, _≤_, _<_}
+use mathlib.Core.Path.{_≡_, refl, sym, ap, ap₂, _∙_}
 use mathlib.Core.Bool.{true, not, _&&_}
 use mathlib.Core.Logic.{⊎-elim, inl, inr}
 use mathlib.Core.List.{List, _++_}
@@ -23,26 +23,29 @@ use Rattle.topology.specs.NextHops.{nextHops}
 use Rattle.order.specs.OrderLaws.{telling-same, ranks-same}
 use Rattle.entries.specs.Entries.{entryCount}
 use Rattle.entries.specs.EntryLaws.{entry-count-same}
-use Rattle.changes.specs.Changes.{isRise}
 use Rattle.changes.specs.Root.{isCommon, root}
 use Rattle.changes.specs.SameChanges.{SameChanges, Once}
+use Rattle.changes.specs.ChangeLaws.{Sound}
 use Rattle.changes.specs.RootLaws.{common-root}
-use Rattle.changes.specs.SameLaws.{joined-same, common-same, rise-same, fall-same, root-same, given-same, sound-same}
+use Rattle.changes.specs.SameLaws.{joined-same, common-same, root-same, given-same, sound-same}
 use Rattle.plan.specs.NewMetrics.{newCell, newMetrics}
+use Rattle.plan.specs.Direction.{areAtMost, isSame, isRise, isFall}
 use Rattle.plan.specs.Waiting.{oldHops, newHops, waiting, telling, due}
 use Rattle.plan.specs.Plan.{Tables, areTables, planRefusal, fresh, filled, recordOf, tablesOf}
-use Rattle.plan.specs.PlanLaws.{Plan, plan-of, of-plan, planned-true, planned-is, record-planned, tables-planned}
+use Rattle.plan.specs.DirectionLaws.{same-both}
+use Rattle.plan.specs.PlanLaws.{Plan, plan-of, of-plan, planned-true, planned-is}
+use Rattle.plan.specs.PlanLaws.{record-planned, tables-planned}
 
-plan-once : (n : ℕ) (m l : List ℕ) → Plan n m l → Once l
-plan-once n m l p e b = p .sound e b .new
+sound-once : (n : ℕ) (l : List ℕ) → Sound n l → Once l
+sound-once n l sound e b = sound e b .new
 
-module _ (n : ℕ) (m l k : List ℕ) (s : SameChanges l k) (p : Plan n m l) (q : Plan n m k) where
-  -- ---- the new tables
+-- ---- the new tables, and which way they go
+module _ (n : ℕ) (m l k : List ℕ) (s : SameChanges l k) (once-l : Once l) (once-k : Once k) where
   same-cell : (i j : ℕ) → newCell n m l i j ≡ newCell n m k i j
   unfolding newCell
   same-cell i j =
       ap (λ (x : ℕ). pick (ltb i n && (ltb j n && not (eqb i j))) x unused)
-      (given-same l k i j (cell width m i j) s (plan-once n m l p) (plan-once n m k q))
+      (given-same l k i j (cell width m i j) s once-l once-k)
 
   same-metrics : newMetrics n m l ≡ newMetrics n m k
   unfolding newMetrics
@@ -50,42 +53,50 @@ module _ (n : ℕ) (m l k : List ℕ) (s : SameChanges l k) (p : Plan n m l) (q 
       is-tabulate width (newCell n m k) (newMetrics n m l) (omega arith) (length-tabulate width (newCell n m l))
       (λ i j a b. cell-tabulate width (newCell n m l) i j a b ∙ same-cell i j)
 
+  same-rise : isRise n m l ≡ isRise n m k
+  unfolding isRise
+  same-rise = ap (areAtMost n m) same-metrics
+
+  same-fall : isFall n m l ≡ isFall n m k
+  unfolding isFall
+  same-fall = ap (λ (o : List ℕ). areAtMost n o m) same-metrics
+
+  same-effect : isSame n m l ≡ isSame n m k
+  same-effect = same-both n m l ∙ ap₂ _&&_ same-rise same-fall ∙ sym (same-both n m k)
+
   same-filled : filled n m l ≡ filled n m k
   unfolding filled
   same-filled = rw same-metrics refl
-
-  -- ---- the record, field by field
-  same-root : root l ≡ root k
-  same-root = root-same l k s (p .some) (q .some) (p .common)
 
   same-hops : (i j : ℕ) → newHops n m l i j ≡ newHops n m k i j
   unfolding newHops
   same-hops i j = ap (λ (t : List ℕ). nextHops width n (topology n t) i j) same-metrics
 
-  same-waiting : (r : ℕ) → waiting n m l r ≡ waiting n m k r
-  unfolding waiting
-  same-waiting r = rw (same-root, rise-same l k s m, same-hops r (root k)) refl
+  -- ---- the record, field by field
+  module _ (most : n ≤ width) (same-root : root l ≡ root k) where
+    same-waiting : (r : ℕ) → waiting n m l r ≡ waiting n m k r
+    unfolding waiting
+    same-waiting r = rw (same-root, same-rise, same-hops r (root k)) refl
 
-  same-due : (r : ℕ) → due n m l r ≡ due n m k r
-  unfolding due
-  same-due r =
-      setOf-same n
-      (λ d. not (eqb (oldHops n m r d) (newHops n m l r d)))
-      (λ d. not (eqb (oldHops n m r d) (newHops n m k r d)))
-      (λ d h. ap (λ (x : ℕ). not (eqb (oldHops n m r d) x)) (same-hops r d))
+    same-due : (r : ℕ) → due n m l r ≡ due n m k r
+    unfolding due
+    same-due r =
+        setOf-same n
+        (λ d. not (eqb (oldHops n m r d) (newHops n m l r d)))
+        (λ d. not (eqb (oldHops n m r d) (newHops n m k r d)))
+        (λ d h. ap (λ (x : ℕ). not (eqb (oldHops n m r d) x)) (same-hops r d))
 
-  same-telling : perRouter width n (telling n m l) ≡ perRouter width n (telling n m k)
-  unfolding telling
-  same-telling = telling-same width n (waiting n m l) (waiting n m k) (p .ready .most) (λ r h. same-waiting r)
+    same-telling : perRouter width n (telling n m l) ≡ perRouter width n (telling n m k)
+    unfolding telling
+    same-telling = telling-same width n (waiting n m l) (waiting n m k) most (λ r h. same-waiting r)
 
-  same-fresh : fresh n m l ≡ fresh n m k
-  unfolding fresh
-  same-fresh =
-      let most = p .ready .most in
-      let waits = per-same width n (waiting n m l) (waiting n m k) most (λ r h. same-waiting r) in
-      let ranks = ranks-same width n (waiting n m l) (waiting n m k) most (λ r h. same-waiting r) in
-      let dues = per-same width n (due n m l) (due n m k) most (λ r h. same-due r) in
-      rw (same-root, rise-same l k s m, waits, same-telling, ranks, dues) refl
+    same-fresh : fresh n m l ≡ fresh n m k
+    unfolding fresh
+    same-fresh =
+        let waits = per-same width n (waiting n m l) (waiting n m k) most (λ r h. same-waiting r) in
+        let ranks = ranks-same width n (waiting n m l) (waiting n m k) most (λ r h. same-waiting r) in
+        let dues = per-same width n (due n m l) (due n m k) most (λ r h. same-due r) in
+        rw (same-root, same-rise, waits, same-telling, ranks, dues) refl
 
 module _ (n : ℕ) (m l k : List ℕ) (t : Tables) (s : SameChanges l k) where
   pub same-plan :
@@ -96,9 +107,13 @@ module _ (n : ℕ) (m l k : List ℕ) (t : Tables) (s : SameChanges l k) where
       let p = plan-of n m l t a in
       let q = plan-of n m k t b in
       let x = planned-true n m l t a in
-      let y = planned-true n m k t b in (
-        record-planned n m l t x ∙ same-fresh n m l k s p q ∙ sym (record-planned n m k t y),
-        tables-planned n m l t x ∙ same-filled n m l k s p q ∙ sym (tables-planned n m k t y),
+      let y = planned-true n m k t b in
+      let once-l = sound-once n l (p .sound) in
+      let once-k = sound-once n k (q .sound) in
+      let roots = root-same l k s (p .some) (q .some) (p .common) in
+      let records = same-fresh n m l k s once-l once-k (p .ready .most) roots in (
+        record-planned n m l t x ∙ records ∙ sym (record-planned n m k t y),
+        tables-planned n m l t x ∙ same-filled n m l k s once-l once-k ∙ sym (tables-planned n m k t y),
       )
 
   -- ---- whether a list is accepted
@@ -112,6 +127,15 @@ module _ (n : ℕ) (m l k : List ℕ) (t : Tables) (s : SameChanges l k) where
     some : 0 < entryCount k
     some = omega (arith, many, p .some)
 
+    once-l : Once l
+    once-l = sound-once n l (p .sound)
+
+    sound : Sound n k
+    sound = sound-same l k s many once-l n (p .sound)
+
+    once-k : Once k
+    once-k = sound-once n k sound
+
     common : isCommon k (root k) ≡ true
     common = common-root k some (root l) (sym (common-same l k s (root l)) ∙ p .common)
 
@@ -121,8 +145,12 @@ module _ (n : ℕ) (m l k : List ℕ) (t : Tables) (s : SameChanges l k) where
       whole = ap (λ (x : ℕ). x % 5) long ∙ p .whole;
       most = omega (arith, many, p .most);
       some = some;
-      sound = sound-same l k s many (plan-once n m l p) n m (p .sound);
-      way = ⊎-elim (λ r. inl (sym (rise-same l k s m) ∙ r)) (λ f. inr (sym (fall-same l k s m) ∙ f)) (p .way);
+      sound = sound;
+      effect = sym (same-effect n m l k s once-l once-k) ∙ p .effect;
+      way = ⊎-elim
+          (λ r. inl (sym (same-rise n m l k s once-l once-k) ∙ r))
+          (λ f. inr (sym (same-fall n m l k s once-l once-k) ∙ f))
+          (p .way);
       common = common;
     })
 

@@ -6,9 +6,9 @@ use Rattle.area.specs.Limits.{width}
 use Rattle.topology.specs.Topology.{topology}
 use Rattle.topology.specs.NextHops.{nextHops}
 use Rattle.order.specs.Order.{waitingBy, tellingBy, dueBy}
-use Rattle.changes.specs.Changes.{isRise}
 use Rattle.changes.specs.Root.{root}
 use Rattle.plan.specs.NewMetrics.{newMetrics}
+use Rattle.plan.specs.Direction.{isRise}
 
 -- the next hops from i to j before the change, and after it
 unfoldable pub oldHops : (n : ℕ) (m : List ℕ) (i j : ℕ) → ℕ
@@ -20,7 +20,7 @@ newHops n m l i j = nextHops width n (topology n (newMetrics n m l)) i j
 -- The routers that r waits for, those that it tells, and the destinations that are due at it: crate order defines them
 -- by next hops.
 unfoldable pub waiting : (n : ℕ) (m l : List ℕ) (r : ℕ) → ℕ
-waiting n m l r = waitingBy n (root l) (isRise m l) (oldHops n m) (newHops n m l) r
+waiting n m l r = waitingBy n (root l) (isRise n m l) (oldHops n m) (newHops n m l) r
 
 unfoldable pub telling : (n : ℕ) (m l : List ℕ) (r : ℕ) → ℕ
 telling n m l r = tellingBy n (waiting n m l) r

@@ -29,9 +29,9 @@ use Rattle.topology.specs.NextHopLaws.{bit-next, next-set, next-nearer}
 use Rattle.area.specs.Lists.{Distinct}
 use Rattle.ranks.specs.Rank.{Chain, routers, rank, IsRank}
 use Rattle.ranks.specs.RankLaws.{chain-distinct, rank-is, rank-less}
-use Rattle.changes.specs.Changes.{isRise}
 use Rattle.changes.specs.Root.{root}
 use Rattle.plan.specs.NewMetrics.{newMetrics}
+use Rattle.plan.specs.Direction.{isRise}
 use Rattle.plan.specs.Waiting.{oldHops, newHops, waiting, telling, due}
 
 -- the members of a set, where the test holds of none beyond its width
@@ -68,7 +68,7 @@ module _ (n : ℕ) (m l : List ℕ) (most : n ≤ width) where
   -- ---- who waits for whom
   -- in a rise r waits for s exactly if r is a next hop from s to the root in the old topology
   pub waits-rise :
-      isRise m l ≡ true
+      isRise n m l ≡ true
       → (r s : ℕ) → (bit (waiting n m l r) s ≡ true) ↔ Next n (topology n m) s (root l) r
   unfolding waiting
   waits-rise rise r s =
@@ -79,7 +79,7 @@ module _ (n : ℕ) (m l : List ℕ) (most : n ≤ width) where
 
   -- otherwise, in a fall, exactly if s is a next hop from r to the root in the new one
   pub waits-fall :
-      isRise m l ≡ false
+      isRise n m l ≡ false
       → (r s : ℕ) → (bit (waiting n m l r) s ≡ true) ↔ Next n (topology n (newMetrics n m l)) r (root l) s
   unfolding waiting
   waits-fall fall r s = rw fall (new-next r (root l) s)
@@ -88,7 +88,7 @@ module _ (n : ℕ) (m l : List ℕ) (most : n ≤ width) where
   waits-inside r s e =
       ⊎-elim (λ t. let b = next-inside n m most s (root l) r (waits-rise t r s .0 e) in (b .1, b .0))
       (λ f. next-inside n (newMetrics n m l) most r (root l) s (waits-fall f r s .0 e))
-      (look (isRise m l))
+      (look (isRise n m l))
 
   -- ---- s tells t exactly when t waits for s
   pub tells-waits : (s t : ℕ) → (bit (telling n m l s) t ≡ true) ↔ (bit (waiting n m l t) s ≡ true)
@@ -99,7 +99,7 @@ module _ (n : ℕ) (m l : List ℕ) (most : n ≤ width) where
   -- Waiting goes away from the root in a rise, and towards it in a fall: in both it comes down in this measure.
   abbrev measure : ℕ → ℕ
   measure r =
-      pick (isRise m l)
+      pick (isRise n m l)
       (unreached - distance n (topology n m) r (root l))
       (distance n (topology n (newMetrics n m l)) r (root l))
 
@@ -110,7 +110,7 @@ module _ (n : ℕ) (m l : List ℕ) (most : n ≤ width) where
       let nearer = next-nearer (topology-graph n m most) (waits-rise t r s .0 e) in
       rw t (omega (arith, nearer, distance-top n (topology n m) s (root l))))
       (λ f. rw f (next-nearer (topology-graph n (newMetrics n m l) most) (waits-fall f r s .0 e)))
-      (look (isRise m l))
+      (look (isRise n m l))
 
   -- waiting never goes round in a circle
   pub waiting-distinct : {r : ℕ} (c : Chain (waiting n m l) r) → Distinct (routers c)

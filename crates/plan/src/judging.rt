@@ -1,27 +1,27 @@
 // Whether an input is planned: Plan's refusals, in the order of 01.
 //     judge            3, 8 and 6, as Paths has them
 //     judge_list       1, 9 and 10, of the list's length
-//     judge_changes    that of the first faulty change, and then 12 and 13
-// Each ends with a call of the next, so that the first refusal is the answer. All three promise `Judges`
+//     judge_changes    that of the first faulty change
+//     judge_together   11, 12 and 13, of the changes together
+// Each ends with a call of the next, so that the first refusal is the answer. All four promise `Judges`
 // (specs/Parts.antt), by the ladder of specs/Plan.antt.
+use crate::direction::direction_of;
 use area::limits::ENTRY;
 use area::limits::MOST_CHANGES;
 use area::limits::WIDTH;
 use area::refusal::Refusal;
 use area::refusal::Verdict;
 use changes::checks::first_refusal;
-use changes::direction::is_fall;
-use changes::direction::is_rise;
 use changes::root;
 use entries::count;
 use paths::is_area;
 ghost use mathlib.Core.Path.{_≡_};
-ghost use mathlib.Core.Bool.{true, _||_};
+ghost use mathlib.Core.Bool.{true, _&&_, _||_};
 ghost use Prim.Native.Nat.{_*_};
 ghost use lib.ListN.{length};
 ghost use Rattle.area.specs.Limits.{width};
 ghost use Rattle.paths.specs.PathsLaws.{Ready};
-ghost use Rattle.changes.specs.Changes.{isFall};
+ghost use Rattle.changes.specs.ChangeLaws.{Sound};
 ghost use Rattle.plan.specs.PlanLaws.{Listed};
 ghost use Rattle.plan.specs.Parts.{Judges};
 
@@ -76,12 +76,25 @@ fn judge_changes(n: usize, old: &[u32], list: &[u8]) -> Judged
     requires { ⌜ Listed n (now old) (now list) ⌝ }
     ensures { λ r. ⌜ Judges n (now (old .entry)) (now (list .entry)) true r ⌝ }
 {
-    let answer = first_refusal(n, old, list);
+    let answer = first_refusal(n, list);
     if !answer.is_accepted() {
         return refused(answer);
     }
-    let rising = is_rise(old, list);
-    if !is_one_way(old, list, rising) {
+    judge_together(n, old, list)
+}
+
+// The same, where no change has a fault either.
+fn judge_together(n: usize, old: &[u32], list: &[u8]) -> Judged
+    requires { ⌜ Listed n (now old) (now list) × Sound n (now list) ⌝ }
+    ensures { λ r. ⌜ Judges n (now (old .entry)) (now (list .entry)) true r ⌝ }
+{
+    let way = direction_of(n, old, list);
+    let rising = way.rising;
+    let falling = way.falling;
+    if both(rising, falling) {
+        return refused(Verdict::Refused(Refusal::SameMetric));
+    }
+    if !either(rising, falling) {
         return refused(Verdict::Refused(Refusal::Mixed));
     }
     let root = root::root(list);
@@ -89,17 +102,22 @@ fn judge_changes(n: usize, old: &[u32], list: &[u8]) -> Judged
         return refused(Verdict::Refused(Refusal::NoCommonRouter));
     }
     Judged {
-        answer,
+        answer: Verdict::Accepted,
         root,
         rising,
     }
 }
 
-// Is every change a fall, where `rising` does not say that every change is a rise?
-fn is_one_way(old: &[u32], list: &[u8], rising: bool) -> bool
-    ensures { λ r. ⌜ r ≡ (rising || isFall (now (old .entry)) (now (list .entry))) ⌝ }
+fn both(a: bool, b: bool) -> bool
+    ensures { λ r. ⌜ r ≡ (a && b) ⌝ }
 {
-    if rising { true } else { is_fall(old, list) }
+    if a { b } else { false }
+}
+
+fn either(a: bool, b: bool) -> bool
+    ensures { λ r. ⌜ r ≡ (a || b) ⌝ }
+{
+    if a { true } else { b }
 }
 
 fn refused(answer: Verdict) -> Judged

@@ -1,12 +1,15 @@
 // The plan of one change: root, direction, who waits for whom, ranks, and what is due.
 //     plan       Plan: what it refuses, and what it hands back and fills
 //     judging    its refusals, in the order of 01; with them the root and the direction are found
+//     direction  which way the usable metrics go
 //     metrics    the metric table after the change
 //     fill       the tables, by Paths over the old metrics and the new ones, and from them the record
 //     fresh      the record, by the order of crate order
-// What Plan promises is specs/Plan.antt, with specs/NewMetrics.antt and specs/Waiting.antt; what the functions below
-// promise to each other is specs/Parts.antt. The argument is in specs/PlanLaws.antt for the refusals, in
-// proofs/Applying.antt for the metrics, in proofs/Filling.antt for the tables and proofs/Recording.antt for the record.
+// What Plan promises is specs/Plan.antt, with specs/NewMetrics.antt, specs/Direction.antt and specs/Waiting.antt; what
+// the functions below promise to each other is specs/Parts.antt. The argument is in specs/PlanLaws.antt for the
+// refusals, in specs/DirectionLaws.antt for the direction, in proofs/Applying.antt for the metrics, in
+// proofs/Filling.antt for the tables and proofs/Recording.antt for the record.
+mod direction;
 mod judging;
 mod metrics;
 
@@ -21,8 +24,8 @@ ghost use Prim.Native.Nat.{_≤_, _<_};
 ghost use Rattle.area.specs.Limits.{width};
 ghost use Rattle.area.specs.Refusals.{verdictNumber};
 ghost use Rattle.order.specs.Order.{orderOf};
-ghost use Rattle.changes.specs.Changes.{isRise};
 ghost use Rattle.changes.specs.Root.{root};
+ghost use Rattle.plan.specs.Direction.{isRise};
 ghost use Rattle.plan.specs.Plan.{asTables, areTables, planRefusal, fresh, blank, filled, recordOf, tablesOf};
 ghost use Rattle.plan.specs.PlanLaws.{Plan, Sized};
 ghost use Rattle.plan.specs.Parts.{started};
@@ -120,7 +123,7 @@ fn fill(
     new_hops: &mut [u32],
 ) -> Record
     requires { ⌜ Plan n (now old) (now list) ⌝ }
-    requires { ⌜ (c ≡ root (now list)) × (rising ≡ isRise (now old) (now list)) ⌝ }
+    requires { ⌜ (c ≡ root (now list)) × (rising ≡ isRise n (now old) (now list)) ⌝ }
     requires { ⌜
         Sized (now old)
         (asTables (now new) (now «old_dist») (now «new_dist») (now «old_hops») (now «new_hops»)) ⌝ }

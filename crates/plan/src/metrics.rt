@@ -16,7 +16,7 @@ ghost use Rattle.plan.specs.NewMetrics.{newCell, newMetrics};
 // The new metrics: the old ones, with every change put in.
 pub(crate) fn apply(n: usize, old: &[u32], list: &[u8], new: &mut [u32])
     requires { ⌜ (n ≤ width) × (length (now old) ≡ width * width) × (length (now new) ≡ width * width) ⌝ }
-    requires { ⌜ Sound n (now old) (now list) ⌝ }
+    requires { ⌜ Sound n (now list) ⌝ }
     ensures { λ _. ⌜ now (new .exit) ≡ newMetrics n (now (old .entry)) (now (list .entry)) ⌝ }
 {
     copy(n, old, new);

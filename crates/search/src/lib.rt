@@ -16,12 +16,12 @@ use area::limits::WIDTH;
 use nearest::nearest;
 use offers::first_hop;
 use offers::offer;
+use topology::usable;
 ghost use mathlib.Core.Path.{_≡_};
 ghost use Prim.Native.Nat.{ℕ, _+_, _*_, _<_, _≤_};
 ghost use lib.ListN.{length, getD};
 ghost use Rattle.area.specs.Limits.{width, unused, unreached};
 ghost use Rattle.area.specs.Tables.{build};
-ghost use Rattle.topology.specs.Topology.{topology};
 ghost use Rattle.topology.specs.Cells.{distanceCell, hopCell};
 ghost use Rattle.search.specs.Rows.{areSizes, distanceRow, hopRow};
 ghost use Rattle.search.specs.Search.{RowsRelaxed};
@@ -115,29 +115,10 @@ fn relax(n: usize, metric: &[u32], source: usize, q: usize, dist: &mut [u32], ho
     let base = dist[q];
     let own = hops[q];
     for j in 0..n {
-        let m = link(n, metric, q, j);
+        let m = usable(n, metric, q, j);
         if m < UNUSED {
             let by = first_hop(source, q, own, j);
             offer(base + m, by, j, dist, hops);
         }
     }
-}
-
-// The metric of the link from q to j, and UNUSED where there is no used one.
-fn link(n: usize, metric: &[u32], q: usize, j: usize) -> u32
-    requires { ⌜ (n ≤ width) × (length (now metric) ≡ width * width) ⌝ }
-    requires { ⌜ (q < n) × (j < n) ⌝ }
-    ensures { λ r. ⌜ r ≡ topology n (now (metric .entry)) q j ⌝ }
-{
-    if q == j {
-        return UNUSED;
-    }
-    let m = metric[WIDTH * q + j];
-    if m < 1 {
-        return UNUSED;
-    }
-    if UNUSED < m {
-        return UNUSED;
-    }
-    m
 }

@@ -15,10 +15,10 @@ use Rattle.topology.specs.NextHops.{isNext, nextHops}
 use Rattle.paths.specs.Paths.{isMetric, areMetrics, pathsRefusal, distancesOf, hopsOf}
 use Rattle.topology.specs.Cells.{distanceCell, hopCell}
 use Rattle.ranks.specs.Rank.{greatest, above, longest, rank}
-use Rattle.changes.specs.Changes.{changeRefusal, isRise, isFall}
 use Rattle.changes.specs.Root.{isCommon}
 use Rattle.plan.specs.declared.Record.{Record}
 use Rattle.plan.specs.NewMetrics.{newCell, newMetrics}
+use Rattle.plan.specs.Direction.{areAtMost, isSame, isRise, isFall}
 use Rattle.plan.specs.Waiting.{oldHops, newHops, waiting, telling, due}
 use Rattle.plan.specs.Plan.{Tables, asTables, areTables, planRefusal, isPlanned, fresh, blank, filled, recordOf}
 use Rattle.plan.specs.Plan.{tablesOf}
@@ -107,7 +107,7 @@ unfolding readRefusal fileRefusal mostLinks linkRefusal restRefusal contentsOf c
     all first bit setOf added removed subset isRouterCount isTable build tabulate perRouter entryCount entryOf
     isFree entryRefusal listedRefusal listedMetric isLink topology sums least
     Rattle.topology.specs.Distance.distance isNext nextHops isMetric areMetrics pathsRefusal distanceCell hopCell
-    distancesOf hopsOf changeRefusal isRise isFall isCommon Rattle.changes.specs.Root.root newCell newMetrics
+    distancesOf hopsOf areAtMost isSame isRise isFall isCommon Rattle.changes.specs.Root.root newCell newMetrics
     oldHops newHops waiting telling due greatest above longest rank areTables planRefusal isPlanned fresh blank
     filled recordOf tablesOf learn release ready write finish listens deliver isSound isKind readsB areRouters
     callOf stepOf callsOf replies lowest placed sheetOf digits decimal field line

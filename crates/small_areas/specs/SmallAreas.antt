@@ -3,6 +3,7 @@
 --     C1 .. C13        the rows of 01's table, each drawn above it
 --     sheets           after them, running sheets (02, No. 1)
 --     orders           lists of changes in several orders (02, No. 2)
+--     halfLinks        links that are up at one end only (02, No. 4)
 --     rehearsed        and all that the rehearsal replies and prints
 --     agreed           the theorem
 use Prim.Native.Nat.{ℕ, _/_, _%_}
@@ -171,12 +172,13 @@ C5 =
 -- C6: the largest metric of a used link.
 --
 --        0 --16,777,214-> 1
+--        0 <-1----------- 1
 abbrev C6 : Case
 C6 =
-    case (bench 2 (link 0 1 16_777_214) [] [])
+    case (bench 2 (link 0 1 16_777_214 ++ link 1 0 1) [] [])
     (distance 0 1 is 16_777_214 ∷ set 0 1 is 2 ∷ [])
 
--- C7: a change to the metric that is there.
+-- C7: a change to the metric that is there; with no link back it is not usable, and differs in nothing.
 --
 --        0 --2-> 1          0 --2-> 1
 abbrev C7 : Case
@@ -191,10 +193,12 @@ C8 = case (bench 2 (both 0 1 2) (link 0 1 3 ++ link 1 0 1) []) (refusal is 12 �
 
 -- C9: two changes that share no router.
 --
---        0 --1-> 1          0 --2-> 1
---        2 --1-> 3          2 --2-> 3
+--        0 --1-- 1          0 --2-> 1
+--                           0 <-1-- 1
+--        2 --1-- 3          2 --2-> 3
+--                           2 <-1-- 3
 abbrev C9 : Case
-C9 = case (bench 4 (link 0 1 1 ++ link 2 3 1) (link 0 1 2 ++ link 2 3 2) []) (refusal is 13 ∷ [])
+C9 = case (bench 4 (both 0 1 1 ++ both 2 3 1) (link 0 1 2 ++ link 2 3 2) []) (refusal is 13 ∷ [])
 
 -- C10: C1's links, and no change.
 abbrev C10 : Case
@@ -210,10 +214,11 @@ C12 = case rehearsal (step 8 is ok ∷ step 9 is ignored ∷ [])
 
 -- C13: a distance that equals the metric of a link that is not used; there is no link from 0 to 2.
 --
---        0 --1-> 1 --16,777,214-> 2
+--        0 --1-- 1 --16,777,214-> 2
+--                1 <-1----------- 2
 abbrev C13 : Case
 C13 =
-    case (bench 3 (link 0 1 1 ++ link 1 2 16_777_214) [] [])
+    case (bench 3 (both 0 1 1 ++ link 1 2 16_777_214 ++ link 2 1 1) [] [])
     (distance 0 2 is 16_777_215 ∷ set 0 2 is 2 ∷ [])
 
 -- ---- running sheets (02, No. 1)
@@ -260,8 +265,8 @@ threeChanges changes =
     case (bench 3 (both 0 1 2 ++ both 1 2 2) changes [])
     (root is 1 ∷ ranks is (1 ∷ 0 ∷ 1 ∷ []) ∷ waits is (2 ∷ 0 ∷ 2 ∷ []) ∷ [])
 
--- The number of a refusal is that of the first faulty change, so it does depend on the order: 0→1 is at 1 already, and
--- there is no link from 1 to itself.
+-- The number of a refusal is that of the first faulty change, so it does depend on the order: there is no link from 1
+-- to itself, and there is no router 3.
 abbrev twoFaults : (changes : List ℕ) (number : ℕ) → Case
 twoFaults changes number = case (bench 3 (triangle 3) changes []) (refusal is number ∷ [])
 
@@ -269,9 +274,68 @@ abbrev orders : List Case
 orders =
     threeChanges (link 1 2 1 ++ link 1 0 1 ++ link 0 1 1)
     ∷ threeChanges (link 0 1 1 ++ link 1 2 1 ++ link 1 0 1)
-    ∷ twoFaults (link 0 1 1 ++ link 1 1 2) 11
-    ∷ twoFaults (link 1 1 2 ++ link 0 1 1) 5
+    ∷ twoFaults (link 1 1 2 ++ link 3 0 2) 5
+    ∷ twoFaults (link 3 0 2 ++ link 1 1 2) 4
     ∷ []
+
+-- ---- links that are up at one end only (02, No. 4)
+-- One direction has a metric and the other has none: the link carries nothing, either way.
+--
+--        0 --5-> 1
+abbrev halfLink : Case
+halfLink =
+    case (bench 2 (link 0 1 5) [] [])
+    (distance 0 1 is 4_294_967_295 ∷ set 0 1 is 0 ∷ distance 1 0 is 4_294_967_295 ∷ set 1 0 is 0 ∷ [])
+
+-- One direction comes up alone: nothing is usable that was not.
+abbrev halfComesUp : Case
+halfComesUp = case (bench 2 [] (link 0 1 5) []) (refusal is 11 ∷ [])
+
+-- The other one comes up too, and it alone is listed: a fall, and both directions are usable.
+abbrev otherComesUp : Case
+otherComesUp =
+    case (bench 2 (link 0 1 5) (link 1 0 7) [])
+    (refusal is 0 ∷ oldSet 0 1 is 0 ∷ newSet 0 1 is 2 ∷ newSet 1 0 is 1 ∷ [])
+
+-- One direction goes down, and with it the other, which is not listed.
+abbrev halfGoesDown : Case
+halfGoesDown =
+    case (bench 2 (both 0 1 5) (link 0 1 down) [])
+    (refusal is 0 ∷ oldSet 1 0 is 1 ∷ newSet 1 0 is 0 ∷ [])
+
+-- One direction gets a smaller metric and the other goes down: neither is usable any longer, so it is a rise, and 1
+-- waits for 0 in it.
+abbrev smallerAndDown : Case
+smallerAndDown =
+    case (bench 3 (both 0 1 5 ++ both 1 2 1) (link 1 2 3 ++ link 2 1 down) [])
+    (refusal is 0 ∷ root is 1 ∷ waits is (0 ∷ 5 ∷ 0 ∷ []) ∷ [])
+
+-- 2→0 has no link back, so it has no effect; beside 1→0, which has one, it is allowed, and is listed: the root is 0,
+-- the only router in common. With 2→3 there is none.
+abbrev withoutEffect : Case
+withoutEffect = case (bench 3 (both 0 1 5) (link 1 0 7 ++ link 2 0 4) []) (refusal is 0 ∷ root is 0 ∷ [])
+
+abbrev withoutCommon : Case
+withoutCommon = case (bench 4 (both 0 1 5) (link 0 1 7 ++ link 2 3 4) []) (refusal is 13 ∷ [])
+
+-- Where no usable metric differs it is 11, after the faults of all entries, and before 13: C9 without its links back.
+abbrev afterEntries : Case
+afterEntries = case (bench 2 [] (link 0 1 5 ++ link 0 9 5) []) (refusal is 4 ∷ [])
+
+abbrev beforeCommon : Case
+beforeCommon = case (bench 4 (link 0 1 1 ++ link 2 3 1) (link 0 1 2 ++ link 2 3 2) []) (refusal is 11 ∷ [])
+
+-- A usable metric rises and another falls; one that falls in the table alone does not count.
+abbrev mixed : Case
+mixed = case (bench 3 (both 0 1 5 ++ both 0 2 5) (link 0 1 7 ++ link 0 2 3) []) (refusal is 12 ∷ [])
+
+abbrev notMixed : Case
+notMixed = case (bench 3 (both 0 1 5 ++ link 0 2 5) (link 0 1 7 ++ link 0 2 3) []) (refusal is 0 ∷ [])
+
+abbrev halfLinks : List Case
+halfLinks =
+    halfLink ∷ halfComesUp ∷ otherComesUp ∷ halfGoesDown ∷ smallerAndDown ∷ withoutEffect ∷ withoutCommon
+    ∷ afterEntries ∷ beforeCommon ∷ mixed ∷ notMixed ∷ []
 
 -- ---- the rehearsal, with the lines that 01 has below its file, as they are since 02, No. 2
 abbrev routerLines : List ℕ
@@ -301,7 +365,7 @@ rehearsed = replied ∷ wholeText ∷ []
 cases : List Case
 cases =
     C1 ∷ C2 ∷ C3 ∷ C4 ∷ C5 ∷ C6 ∷ C7 ∷ C8 ∷ C9 ∷ C10 ∷ C11 ∷ C12 ∷ C13
-    ∷ sheets ++ orders ++ rehearsed
+    ∷ sheets ++ orders ++ halfLinks ++ rehearsed
 
 -- the questions of a row, with the definitions' answers
 abbrev answered : (c : Case) → List Result
@@ -312,10 +376,14 @@ abbrev Agree : (cs : List Case) → Type 0
 Agree [] = Unit {0}
 Agree (c ∷ cs) = (answered c ≡ c .results) × Agree cs
 
--- The definitions agree with the list: both sides are computed, in each of its 24 rows.
-others : Agree (sheets ++ orders ++ rehearsed)
+-- The definitions agree with the list: both sides are computed, in each of its 35 rows.
+last-rows : Agree (halfLinks ++ rehearsed)
 unfolding answer
-others = (refl, (refl, (refl, (refl, (refl, (refl, (refl, (refl, (refl, (refl, (refl, tt)))))))))))
+last-rows = (refl, (refl, (refl, (refl, (refl, (refl, (refl, (refl, (refl, (refl, (refl, (refl, (refl, tt)))))))))))))
+
+others : Agree (sheets ++ orders ++ halfLinks ++ rehearsed)
+unfolding answer
+others = (refl, (refl, (refl, (refl, (refl, (refl, (refl, (refl, (refl, last-rows)))))))))
 
 agreed : Agree cases
 unfolding cases answer

@@ -18,7 +18,7 @@ use lib.ListN.{length}
 use borrow.Author.Tests.{eqb-true, eq-eqb}
 use Rattle.area.specs.Limits.{width, unused}
 use Rattle.area.specs.Tests.{pick}
-use Rattle.area.specs.TestLaws.{look, or-cases}
+use Rattle.area.specs.TestLaws.{look, or-cases, or-right}
 use Rattle.area.specs.Tables.{cell, tabulate}
 use Rattle.area.specs.TableLaws.{length-tabulate, cell-tabulate}
 use Rattle.topology.specs.Topology.{Topology, topology}
@@ -42,6 +42,10 @@ chainMetrics = tabulate width chainMetric
 metric-next : (i : ℕ) → chainMetric i (i + 1) ≡ largestMetric
 unfolding chainMetric
 metric-next i = rw (eq-eqb (i + 1) (i + 1) refl) refl
+
+metric-back : (i : ℕ) → chainMetric (i + 1) i ≡ largestMetric
+unfolding chainMetric
+metric-back i = rw (or-right (eqb i (i + 1 + 1)) (eqb (i + 1) (i + 1)) (eq-eqb (i + 1) (i + 1) refl)) refl
 
 -- a used link leads at most one router further
 metric-used : (i j : ℕ) → chainMetric i j < unused → (j ≤ i + 1) × (chainMetric i j ≡ largestMetric)
@@ -91,12 +95,15 @@ link-used i k u =
 link-next : (i : ℕ) → i + 1 < width → chainTopology i (i + 1) ≡ largestMetric
 link-next i h =
     let same = chain-cell i (i + 1) (omega arith) h ∙ metric-next i in
+    let back = chain-cell (i + 1) i h (omega arith) ∙ metric-back i in
     let l : Link width chainMetrics i (i + 1) = record {
       from = omega arith;
       to = h;
       other = λ e. let x : ⊥ = omega arith in x;
       positive = omega arith;
       used = omega arith;
+      back-positive = omega arith;
+      back-used = omega arith;
     } in
     link-metric l ∙ same
 

@@ -1,6 +1,7 @@
--- Distances and next hops, as 01 means them. No code: `search` and `paths` compute what is defined here.
+-- Distances and next hops, as 01 means them. `search` and `paths` compute what is defined here.
 -- The definitions, in reading order:
 --     Topology         the links of an area, read off its metric table
+--     Usable           the metric of one link, as the code of this crate reads it
 --     Walk             walks over used links, and their sums
 --     Distance         the least sum
 --     NextHops         the first links of the least walks
@@ -14,6 +15,7 @@
 --     CellLaws         the cells of two routers, and the others
 --     LargestLaws      an area that has the largest real distance
 pub mod Topology
+pub mod Usable
 pub mod Walk
 pub mod Distance
 pub mod NextHops

@@ -1,13 +1,13 @@
 -- The loop has offered the way by q to the routers below j, and the cells of the others are as they were (`Swept`). A
 -- turn offers where there is a link, and changes nothing where there is none; no link goes to a router from n on.
-use mathlib.Core.Path.{refl}
+use mathlib.Core.Path.{refl, _∙_}
 use mathlib.Core.Logic.{⊎-elim}
 use Prim.Native.Nat.{_-_, _≤_}
 use native.Mathlib.Omega.{arith}
 use native.Mathlib.Decide.{decLt}
 use denote.Ref.{now}
 use Rattle.topology.specs.Topology.{topology}
-use Rattle.topology.specs.TopologyLaws.{metric-link}
+use Rattle.topology.specs.TopologyLaws.{metric-link, usable-is}
 use Rattle.search.specs.Offers.{firstHop}
 use Rattle.search.specs.Search.{Relaxed, no-link, linked}
 use Rattle.search.proofs.Sweep.{Swept, swept-none, swept-more, swept-same}
@@ -37,8 +37,8 @@ slice-read-own c = omega arith
 loop-holds : tie.Need-loop-holds Inv-loop μ-loop
 loop-holds c = (omega arith, swept-none _ _ _)
 
-link-requires : tie.Need-link-requires Inv-loop μ-loop
-link-requires c κs = omega arith
+usable-requires : tie.Need-usable-requires Inv-loop μ-loop
+usable-requires c κs = omega arith
 
 first-hop-requires : tie.Need-first-hop-requires Inv-loop μ-loop
 first-hop-requires c κs = omega arith
@@ -60,7 +60,9 @@ loop-again c =
     let at-loop = c .before .before .before in
     let at = at-loop .loop in
     let s = at .inv .1 in
-    let is-link = c .before .link .ensures in (
+    let a = at-loop .before .before .before .before .before .before .args in
+    let is-topology = usable-is (a .n) (now (a .metric)) (a .q) (at .j) (omega arith) (omega arith) in
+    let is-link = c .before .usable .ensures ∙ is-topology in (
       omega arith,
       ⊎-elim
           (λ w.
@@ -108,7 +110,7 @@ relax-spec =
     mul-own
     slice-read-own
     loop-holds
-    link-requires
+    usable-requires
     first-hop-requires
     add-offer
     offer-requires

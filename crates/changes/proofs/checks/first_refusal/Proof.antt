@@ -7,17 +7,16 @@ use borrow.Author.Tests.{eqb-true, eqb-false, not-true, not-false}
 use denote.Ref.{now}
 use Rattle.area.specs.Refusals.{verdictNumber}
 use Rattle.area.specs.TestLaws.{first-none, first-fault}
-use Rattle.entries.specs.Entries.{entryCount}
-use Rattle.changes.specs.Changes.{changeRefusal}
+use Rattle.entries.specs.Entries.{entryCount, listedRefusal}
 use Rattle.changes.proofs.checks.first_refusal.Statement.{statement}
 use Rattle.changes.proofs.checks.first_refusal.Tie as tie
 
 abbrev Inv-loop : tie.InvT-loop
-Inv-loop n old list e₀ e-end e =
-    (e-end ≡ entryCount list) × (e ≤ e-end) × ((k : ℕ) → k < e → changeRefusal n old list k ≡ 0)
+Inv-loop n list e₀ e-end e =
+    (e-end ≡ entryCount list) × (e ≤ e-end) × ((k : ℕ) → k < e → listedRefusal n list k ≡ 0)
 
 abbrev μ-loop : tie.MeasureT-loop
-μ-loop n old list e₀ e-end e = e-end - e
+μ-loop n list e₀ e-end e = e-end - e
 
 count-requires : tie.Need-count-requires Inv-loop μ-loop
 count-requires c κs = omega arith
@@ -34,8 +33,8 @@ is-accepted-requires c κs = omega arith
 returns : tie.Need-returns Inv-loop μ-loop
 returns c =
     let at-loop = c .before .before .before .before .loop in
-    let a = c .before .before .before .before .before .before .before .before .args in
-    let f = changeRefusal (a .n) (now (a .old)) (now (a .list)) in
+    let a = c .before .before .before .before .before .before .before .args in
+    let f = listedRefusal (a .n) (now (a .list)) in
     let is = c .before .before .refusal .ensures in
     let first-is = first-fault f (at-loop .e) (entryCount (now (a .list))) (omega arith) (at-loop .inv .2) in
     let refused = eqb-false _ 0 (sym (c .before .is-accepted .ensures) ∙ not-true _ (c .if1 .taken)) in
@@ -58,8 +57,8 @@ loop-again c =
 returns-2 : tie.Need-returns-2 Inv-loop μ-loop
 returns-2 c =
     let at-loop = c .before .loop in
-    let a = c .before .before .before .before .before .args in
-    let f = changeRefusal (a .n) (now (a .old)) (now (a .list)) in
+    let a = c .before .before .before .before .args in
+    let f = listedRefusal (a .n) (now (a .list)) in
     sym (first-none f (entryCount (now (a .list))) (λ k l. at-loop .inv .2 k (omega arith)))
 
 pub first-refusal-spec : {M : Type 1} → statement M
