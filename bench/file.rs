@@ -64,6 +64,9 @@ fn put_links(n: usize, file: &[u8], links: usize, table: &mut [u32]) -> Result<(
         let bytes = file.get(at..at + ENTRY).ok_or(Refusal::Incomplete)?;
         let link = Entry::decode(bytes);
         link.check(n)?;
+        if link.metric == UNUSED {
+            return Err(Refusal::DeadLink);
+        }
         if !seen.insert(&link) {
             return Err(Refusal::Repeated);
         }

@@ -24,6 +24,7 @@ pub enum Refusal {
     Unwritten = 26,
     NotDone = 27,
     NotTold = 28,
+    DeadLink = 30,
 }
 
 impl Refusal {

@@ -112,7 +112,9 @@ enum {
     OFIB_NOT_DUE = 25,       // destination b is not due at router a, or is written already
     OFIB_UNWRITTEN = 26,     // something due at router a is not written
     OFIB_NOT_DONE = 27,      // router a, which sends the message, is not done
-    OFIB_NOT_TOLD = 28       // router a does not tell router b
+    OFIB_NOT_TOLD = 28,      // router a does not tell router b
+    // Of ofib_read.
+    OFIB_DEAD_LINK = 30 // a link of the file has the metric OFIB_UNUSED; a change may have it
 };
 
 // ---- The functions.
@@ -120,7 +122,7 @@ enum {
 // Read: a bench file, as bytes. `table` gets the metrics of its links and OFIB_UNUSED elsewhere, and `contents` what
 // the file says of itself, each number at its name above.
 // Gives OFIB_OK, or OFIB_TABLE_SIZE, which leaves the table as it was, or the first fault of the file: 1, 2, 3, 4, 5,
-// 6, 7 or 9, where every cell becomes OFIB_UNUSED. With any refusal `contents` becomes all 0.
+// 6, 7, 9 or 30, where every cell becomes OFIB_UNUSED. With any refusal `contents` becomes all 0.
 uint8_t ofib_read(
     const uint8_t *OFIB_ALONE file, size_t file_len,
     uint32_t *OFIB_ALONE table, size_t table_len,

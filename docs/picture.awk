@@ -30,7 +30,23 @@ function leads(from, to,    i, n, part) {
     return 0
 }
 
+# Does a box stand between two of its band? An arrow goes over it.
+function between(from, to,    k, c) {
+    for (k = 1; k <= placed; k++) {
+        c = crates[k]
+        if (row[c] == row[from] && (col[c] - col[from]) * (col[c] - col[to]) < 0) return 1
+    }
+    return 0
+}
+
 function arrow(from, to,    fx, tx, fy, ty, side, lx) {
+    if (row[from] == row[to] && between(from, to)) {
+        fx = x(col[from]) + (col[from] < col[to] ? 60 : -60)
+        tx = x(col[to]) - (col[from] < col[to] ? 60 : -60)
+        fy = y(row[from]) + 16
+        line(sprintf("M %d %d C %d %d %d %d %d %d", fx, fy, fx, fy - 16, tx, fy - 16, tx, fy - 2))
+        return
+    }
     if (row[from] == row[to]) {
         side = col[from] < col[to] ? 1 : -1
         fy = y(row[from]) + 51
@@ -61,9 +77,11 @@ BEGIN {
     at("rehearse", 0, 0, "the program", "")
     at("routes", 0, 1, "the program", "")
     at("exports", 0, 2, "a static library", "for Rust or C")
+    at("rewrite", 0, 3, "the program", "")
     at("unhex", 0, 4, "the program", "")
     at("small_areas", 1, 0, "C1 to C13 agree", "with the definitions")
     at("report", 1, 1, "the text for a file", "is one definition")
+    at("rewriting", 1, 2, "stored files without", "their dead links")
     at("text", 1, 3, "words and numbers", "in a lent buffer")
     at("hex", 1, 4, "hexadecimal", "to bytes")
     at("prepare", 2, 2, "Read, and then Plan", "")

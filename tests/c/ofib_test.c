@@ -144,6 +144,20 @@ static void one_read(const char *what, size_t file_len, size_t table_len, uint8_
     cells(what, tables.new_, metrics, OFIB_CELLS);
 }
 
+// The second link of the file is made another one with the pair of the first. That it is a dead link is seen before
+// that its pair is listed twice.
+static void test_bad_link(const size_t nothing[6], const uint32_t *unused)
+{
+    static const uint8_t dead[] = {0, 1, 255, 255, 255}, repeated[] = {0, 1, 255, 255, 254};
+    uint8_t *second = file.bytes + 3 + OFIB_ENTRY, before[OFIB_ENTRY];
+    memcpy(before, second, OFIB_ENTRY);
+    memcpy(second, dead, OFIB_ENTRY);
+    one_read("ofib_read, a dead link", file.len, OFIB_CELLS, OFIB_DEAD_LINK, nothing, unused);
+    memcpy(second, repeated, OFIB_ENTRY);
+    one_read("ofib_read, a pair twice", file.len, OFIB_CELLS, OFIB_REPEATED, nothing, unused);
+    memcpy(second, before, OFIB_ENTRY);
+}
+
 static void test_read(void)
 {
     static const size_t nothing[6], wanted[6] = {
@@ -159,6 +173,7 @@ static void test_read(void)
     one_read("ofib_read, a byte more", file.len + 1, OFIB_CELLS, OFIB_TRAILING, nothing, unused);
     one_read("ofib_read, 1,023 cells", file.len, OFIB_CELLS - 1, OFIB_TABLE_SIZE, nothing, untouched.new_);
     one_read("ofib_read, no cell", file.len, 0, OFIB_TABLE_SIZE, nothing, untouched.new_);
+    test_bad_link(nothing, unused);
 }
 
 // One call of ofib_paths, with the lengths of its three tables.

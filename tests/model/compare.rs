@@ -8,7 +8,8 @@ use crate::lent::{Lent, RIGHT_SIZES, SixTables};
 use crate::ofib::{self, Answer, CELLS, Contents, Record, Tables, WIDTH};
 use crate::paths::{self, UNUSED};
 use crate::random::Random;
-use crate::{changes, plan, read, sheet, step, steps, text};
+use crate::read::Format;
+use crate::{changes, plan, read, rewriting, sheet, step, steps, text};
 
 /// Room for every text.
 pub const ROOM: usize = 147_456;
@@ -215,7 +216,7 @@ impl Comparison {
         table.compare(&model_table, "of Read")?;
         self.counts.read[usize::from(answer)] += 1;
         if size == CELLS
-            && let Err(fault) = read::judge(file, &mut [UNUSED; CELLS])
+            && let Err(fault) = read::judge(file, &mut [UNUSED; CELLS], Format::New, Flaw::None)
         {
             self.counts.read_section(fault);
         }
@@ -272,13 +273,60 @@ impl Comparison {
         Ok(text)
     }
 
-    /// Read, rehearsal and routes of one file, with all the room they need.
+    /// Read, rehearsal and routes of one file, with all the room they need, and the file as a stored one.
     pub fn file(&mut self, random: &mut Random, file: &[u8]) -> Result<String, String> {
-        self.read(random, file, CELLS)?;
+        let (answer, _) = self.read(random, file, CELLS)?;
         let text = self.rehearsal(random, file, RIGHT_SIZES, ROOM)?;
         self.routes(random, file, RIGHT_SIZES, ROOM)?;
+        self.stored(random, file, answer)?;
         self.counts.files += 1;
         Ok(text)
+    }
+
+    /// The old reader refuses what Read does, but for 30, which it never gives. The file as the model rewrites it is
+    /// accepted by the library's Read and gives the table that the old reader gave; its changes and steps are the old
+    /// ones (02, No. 5).
+    fn stored(&mut self, random: &mut Random, file: &[u8], answer: u8) -> Result<(), String> {
+        let (refused, table) = rewriting::old_reader(file, self.flaw);
+        if answer != 30 {
+            same("Read's answer beside the old reader's", answer, refused)?;
+        } else if refused == 30 {
+            return Err("the old reader refuses a dead link".to_string());
+        }
+        self.counts.rewriting[usize::from(refused)] += 1;
+        if refused != 0 {
+            return Ok(());
+        }
+        let rewritten = rewriting::rewritten(file, self.flaw);
+        if !rewriting::has_dead_link(file) {
+            self.counts.without_dead_links += 1;
+            return files(
+                "a file without dead links, and as the model rewrites it",
+                file,
+                &rewritten,
+            );
+        }
+        self.counts.with_dead_links += 1;
+        self.rewritten(random, file, &rewritten, &table)
+    }
+
+    fn rewritten(&mut self, random: &mut Random, file: &[u8], rewritten: &[u8], table: &[u32]) -> Result<(), String> {
+        let mut read = Lent::filled(random, CELLS);
+        let mut old = read.clone();
+        old.cells_mut().copy_from_slice(table);
+        let (answer, contents) = ofib::read(rewritten, read.cells_mut());
+        same("Read's answer to the rewritten file", answer, 0)?;
+        read.compare(&old, "of Read of the rewritten file")?;
+        let behind = &rewritten[contents.changes_at - 1..];
+        let old_behind = &file[file.len() - behind.len()..];
+        files(
+            "the stored file from the change count on, and as rewritten",
+            old_behind,
+            behind,
+        )?;
+        self.rehearsal(random, rewritten, RIGHT_SIZES, ROOM)?;
+        self.routes(random, rewritten, RIGHT_SIZES, ROOM)?;
+        Ok(())
     }
 }
 
@@ -330,7 +378,7 @@ pub fn texts(name: &str, library: &[u8], model: &[u8]) -> Result<(), String> {
     if library == model {
         return Ok(());
     }
-    let shared = library.iter().zip(model).take_while(|(x, y)| x == y).count();
+    let shared = shared(library, model);
     let start = model[..shared]
         .iter()
         .rposition(|&byte| byte == b'\n')
@@ -347,6 +395,25 @@ pub fn texts(name: &str, library: &[u8], model: &[u8]) -> Result<(), String> {
         line(library),
         line(model)
     ))
+}
+
+/// Two files, byte for byte; names the place from which on they differ.
+pub fn files(name: &str, library: &[u8], model: &[u8]) -> Result<(), String> {
+    if library == model {
+        return Ok(());
+    }
+    let place = shared(library, model);
+    let from_there = |file: &[u8]| format!("{:?} of {} bytes", &file[place..file.len().min(place + 5)], file.len());
+    Err(format!(
+        "{name}, byte {place}: library {}, model {}",
+        from_there(library),
+        from_there(model)
+    ))
+}
+
+/// How many bytes are the same before the first that differs.
+fn shared(library: &[u8], model: &[u8]) -> usize {
+    library.iter().zip(model).take_while(|(x, y)| x == y).count()
 }
 
 /// Counts a text by the refusal that it tells of, or as one of an accepted file.

@@ -69,6 +69,12 @@ pub struct Counts {
     pub files: u64,
     pub short_texts: u64,
     pub processes: u64,
+    /// The old reader's answers to the files, and how many it took with and without dead links.
+    pub rewriting: Numbers,
+    pub with_dead_links: u64,
+    pub without_dead_links: u64,
+    /// Runs of the program that rewrites stored files.
+    pub rewrites: u64,
     pub records: u64,
     pub walks: u64,
     pub small_plans: [u64; 5],
@@ -82,7 +88,7 @@ pub struct Counts {
     /// For each refusal of a change list's entry, how often it came up at each place.
     list_places: [[u64; MOST_CHANGES]; 16],
     /// For each refusal of Read, how often its cause lay in each section.
-    read_sections: [[u64; 8]; 16],
+    read_sections: [[u64; 8]; 31],
 }
 
 impl Counts {
@@ -100,6 +106,10 @@ impl Counts {
             files: 0,
             short_texts: 0,
             processes: 0,
+            rewriting: [0; 256],
+            with_dead_links: 0,
+            without_dead_links: 0,
+            rewrites: 0,
             records: 0,
             walks: 0,
             small_plans: [0; 5],
@@ -111,7 +121,7 @@ impl Counts {
             routes: [0; 256],
             steps: [[0; 256]; 6],
             list_places: [[0; MOST_CHANGES]; 16],
-            read_sections: [[0; 8]; 16],
+            read_sections: [[0; 8]; 31],
         }
     }
 
@@ -180,6 +190,12 @@ impl Counts {
         require(&mut missing, self.other_numbers, || {
             "refusal with another number in another order".to_string()
         });
+        require(&mut missing, self.with_dead_links, || {
+            "stored file with dead links".to_string()
+        });
+        require(&mut missing, self.without_dead_links, || {
+            "stored file without dead links".to_string()
+        });
         for (seen, (_, what)) in self.usable.iter().zip(USABLE) {
             require(&mut missing, *seen, || what.to_string());
         }
@@ -187,13 +203,14 @@ impl Counts {
     }
 
     fn missing_numbers(&self, missing: &mut Vec<String>) {
-        let of_texts: &[usize] = &[0, 1, 2, 3, 4, 5, 6, 7, 8, 9, 10, 11, 12, 13];
+        let of_texts: &[usize] = &[0, 1, 2, 3, 4, 5, 6, 7, 8, 9, 10, 11, 12, 13, 30];
         let of_plan: &[usize] = &[0, 1, 3, 4, 5, 6, 7, 8, 9, 10, 11, 12, 13];
-        let calls: [(&str, &Numbers, &[usize]); 6] = [
+        let calls: [(&str, &Numbers, &[usize]); 7] = [
             ("Paths", &self.paths, &[0, 3, 6, 8]),
             ("Plan", &self.plan, of_plan),
             ("the sheet", &self.sheet, of_plan),
-            ("Read", &self.read, &[0, 1, 2, 3, 4, 5, 6, 7, 8, 9]),
+            ("Read", &self.read, &[0, 1, 2, 3, 4, 5, 6, 7, 8, 9, 30]),
+            ("the old reader", &self.rewriting, &[0, 1, 2, 3, 4, 5, 6, 7, 9]),
             ("rehearsal", &self.rehearsal, of_texts),
             ("routes", &self.routes, of_texts),
         ];
@@ -231,7 +248,7 @@ impl Counts {
                 require(missing, seen, || format!("Plan refusing {number} at entry {place}"));
             }
         }
-        let wanted: [(usize, &[usize]); 8] = [
+        let wanted: [(usize, &[usize]); 9] = [
             (1, &[0, 1, 2, 3, 4, 5, 6]),
             (2, &[7]),
             (3, &[0]),
@@ -240,6 +257,7 @@ impl Counts {
             (6, &[2]),
             (7, &[2]),
             (9, &[1, 3, 5]),
+            (30, &[2]),
         ];
         for (number, sections) in wanted {
             for &section in sections {
@@ -279,6 +297,11 @@ impl Counts {
         println!(
             "files: {}, texts cut short {}, runs of the program {}",
             self.files, self.short_texts, self.processes
+        );
+        println!("the old reader: {}", answers(&self.rewriting));
+        println!(
+            "stored files: {} with dead links, {} without, runs of the program that rewrites them {}",
+            self.with_dead_links, self.without_dead_links, self.rewrites
         );
         let [_, _, two, three, four] = self.small_plans;
         println!("reachable records: {}, walks {}", self.records, self.walks);

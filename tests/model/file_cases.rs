@@ -1,4 +1,4 @@
-//! Bench files: Read, the texts of the rehearsal and of the routes, and the program itself.
+//! Bench files: Read, the texts of the rehearsal and of the routes, the rewriting of stored files, and both programs.
 
 use std::path::PathBuf;
 
@@ -15,7 +15,7 @@ const PART: u64 = 3;
 /// Files up to this size are cut after every byte.
 const SMALL: usize = 120;
 
-/// How many files there are to be, and how many of them the program is run with.
+/// How many files there are to be, and how many of them the programs are run with.
 #[derive(Clone)]
 pub struct Amount {
     pub cases: u64,
@@ -24,11 +24,26 @@ pub struct Amount {
     pub program: Option<PathBuf>,
     /// From one file that the program is run with to the next.
     pub program_stride: u64,
+    /// The program that rewrites stored files, and from one file that it is run with to the next.
+    pub rewrite: Option<PathBuf>,
+    pub rewrite_stride: u64,
+}
+
+impl Amount {
+    /// The same, and the programs are run with every file.
+    pub fn with_each_file(&self) -> Amount {
+        Amount {
+            program_stride: 1,
+            rewrite_stride: 1,
+            ..self.clone()
+        }
+    }
 }
 
 pub fn file_cases(comparison: &mut Comparison, seed: u64, amount: &Amount) -> Result<(), Difference> {
     let mut random = Random::for_case(seed, PART, u64::MAX);
     largest_file(comparison, &mut random, amount)?;
+    dead_links(comparison, &mut random, amount)?;
     for (n, stride) in [(2, 1), (5, 1), (32, amount.link_stride)] {
         link_faults(comparison, &mut random, n, stride, amount)?;
     }
@@ -38,17 +53,17 @@ pub fn file_cases(comparison: &mut Comparison, seed: u64, amount: &Amount) -> Re
     Ok(())
 }
 
-/// One faultless file, sometimes with all that can be cut off it, or one file with faults.
+/// One file that the old reader takes, sometimes with all that can be cut off it, or one file with faults.
 pub fn file_case(comparison: &mut Comparison, seed: u64, number: u64, amount: &Amount) -> Result<(), Difference> {
     let mut random = Random::for_case(seed, PART, number);
     let most_routers = random.pick(&[2, 3, 4, 8, 16, 32]);
     match random.below(40) {
         0 => {
-            let parts = files::faultless(&mut random, most_routers);
+            let parts = files::stored(&mut random, most_routers);
             cut_and_lengthened(comparison, &mut random, &parts, amount)
         }
         1..=24 => {
-            let file = files::faultless(&mut random, most_routers).bytes();
+            let file = files::stored(&mut random, most_routers).bytes();
             compare_file(comparison, &mut random, &file, amount)
         }
         25..=33 => {
@@ -56,7 +71,7 @@ pub fn file_case(comparison: &mut Comparison, seed: u64, number: u64, amount: &A
             compare_file(comparison, &mut random, &file, amount)
         }
         34..=37 => {
-            let mut file = files::faultless(&mut random, most_routers).bytes();
+            let mut file = files::stored(&mut random, most_routers).bytes();
             files::alter(&mut random, &mut file);
             compare_file(comparison, &mut random, &file, amount)
         }
@@ -108,12 +123,7 @@ fn largest_file(comparison: &mut Comparison, random: &mut Random, amount: &Amoun
     let parts = files::largest(random);
     let file = parts.bytes();
     assert_eq!(file.len(), LARGEST, "size of the largest file");
-    let always = Amount {
-        cases: 0,
-        link_stride: 1,
-        program: amount.program.clone(),
-        program_stride: 1,
-    };
+    let always = amount.with_each_file();
     for more in [0, 1, 2, 3, 20_000] {
         let mut longer = file.clone();
         longer.extend(random.bytes(more));
@@ -121,6 +131,16 @@ fn largest_file(comparison: &mut Comparison, random: &mut Random, amount: &Amoun
     }
     for length in lengths(random, &parts, file.len()) {
         compare_file(comparison, random, &file[..length], &always)?;
+    }
+    Ok(())
+}
+
+/// Dead links at chosen places, in areas of some sizes and in the largest: half of its 992 links, among others.
+fn dead_links(comparison: &mut Comparison, random: &mut Random, amount: &Amount) -> Result<(), Difference> {
+    for n in [2, 3, 5, 17, 32] {
+        for parts in files::dead_on_purpose(random, n) {
+            compare_file(comparison, random, &parts.bytes(), &amount.with_each_file())?;
+        }
     }
     Ok(())
 }
@@ -134,7 +154,7 @@ fn link_faults(
     amount: &Amount,
 ) -> Result<(), Difference> {
     let area = areas::full_mesh(random, n);
-    let links = files::links_of(random, &area);
+    let links = files::links_of(random, &area, 0);
     let parts = Parts::new(n, links, vec![0, 1, 0, 0, 1], Vec::new());
     for place in (0..parts.links.len()).step_by(stride) {
         for fault in LINK_FAULTS {
@@ -165,13 +185,24 @@ pub fn compare_file(
             let room = random.below(most);
             comparison.routes(random, file, RIGHT_SIZES, room)?;
         }
-        match &amount.program {
-            Some(program) if comparison.counts.files % amount.program_stride == 0 => {
-                comparison.counts.processes += 1;
-                process::compare(random, program, file)
-            }
-            _ => Ok(()),
-        }
+        run_programs(comparison, random, file, amount)
     };
     compare().map_err(|what| Difference::in_file(what, file))
+}
+
+fn run_programs(comparison: &mut Comparison, random: &mut Random, file: &[u8], amount: &Amount) -> Result<(), String> {
+    let number = comparison.counts.files;
+    if let Some(program) = &amount.program
+        && number % amount.program_stride == 0
+    {
+        comparison.counts.processes += 1;
+        process::compare(random, program, file)?;
+    }
+    if let Some(program) = &amount.rewrite
+        && number % amount.rewrite_stride == 0
+    {
+        comparison.counts.rewrites += 1;
+        process::compare_rewriting(random, program, file, comparison.flaw)?;
+    }
+    Ok(())
 }

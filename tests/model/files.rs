@@ -60,12 +60,33 @@ impl Parts {
 
 /// A file without a fault of Read's; its changes may be ones that Plan refuses.
 pub fn faultless(random: &mut Random, most_routers: usize) -> Parts {
+    with_dead_links(random, most_routers, 0)
+}
+
+/// A file without a fault of the old reader's, now and then with dead links: of pairs that were not used anyway, or of
+/// pairs that were.
+pub fn stored(random: &mut Random, most_routers: usize) -> Parts {
+    let percent = random.pick(&[0, 0, 0, 0, 0, 0, 20, 100]);
+    let mut parts = with_dead_links(random, most_routers, percent);
+    if random.chance(8) {
+        let percent = random.pick(&[5, 50, 100]);
+        for link in &mut parts.links {
+            if random.chance(percent) {
+                link.metric = UNUSED;
+            }
+        }
+    }
+    parts
+}
+
+/// A file that lists such a part of the pairs that are not used.
+fn with_dead_links(random: &mut Random, most_routers: usize, percent: usize) -> Parts {
     let n = random.between(1, most_routers);
     let mut area = areas::area_of_size(random, n);
     let mut list = changes::list(random, &mut area);
     list.truncate(list.len().min(5 * MOST_CHANGES) / 5 * 5);
     let steps = steps_for(random, &area, &list);
-    Parts::new(n, links_of(random, &area), list, steps)
+    Parts::new(n, links_of(random, &area, percent), list, steps)
 }
 
 /// The largest file that can be accepted: all links, all changes of a router, all steps.
@@ -80,12 +101,11 @@ pub fn largest(random: &mut Random) -> Parts {
     });
     let list = changes::bytes_of(&down.collect::<Vec<Change>>());
     let steps = calls(random, &area, &list, MOST_STEPS);
-    Parts::new(WIDTH, links_of(random, &area), list, steps)
+    Parts::new(WIDTH, links_of(random, &area, 0), list, steps)
 }
 
-/// The area's links in any order; some that are not used are listed as well.
-pub fn links_of(random: &mut Random, area: &Area) -> Vec<Change> {
-    let percent = random.pick(&[0, 0, 20, 100]);
+/// The area's links in any order; such a part of the pairs that are not used is listed as well.
+pub fn links_of(random: &mut Random, area: &Area, percent: usize) -> Vec<Change> {
     let link = |(i, j)| Change {
         from: i as u8,
         to: j as u8,
@@ -132,20 +152,64 @@ fn calls(random: &mut Random, area: &Area, list: &[u8], count: usize) -> Vec<u8>
     bytes
 }
 
+/// Files that list all pairs of n routers: dead are the first link, the last, the one in the middle, all, every second
+/// one, and any; then a dead link is listed twice.
+pub fn dead_on_purpose(random: &mut Random, n: usize) -> Vec<Parts> {
+    let area = areas::full_mesh(random, n);
+    let links = links_of(random, &area, 0);
+    let (middle, last) = (links.len() / 2, links.len() - 1);
+    let any = random.next();
+    let is_dead: [&dyn Fn(usize) -> bool; 7] = [
+        &|place| place == 0,
+        &|place| place == last,
+        &|place| place == middle,
+        &|_| true,
+        &|place| place % 2 == 0,
+        &|place| place % 2 == 1,
+        &|place| any >> (place % 64) & 1 == 1,
+    ];
+    let change = Change {
+        from: 0,
+        to: 1,
+        metric: UNUSED,
+    };
+    let whole = Parts::new(n, links, change.to_bytes().to_vec(), vec![1, 0, 0]);
+    let mut files: Vec<Parts> = is_dead.iter().map(|dead| with_dead(&whole, dead)).collect();
+    let mut twice = with_dead(&whole, |place| place == 0 || place == last);
+    twice.links[last] = twice.links[0];
+    files.push(twice);
+    files
+}
+
+fn with_dead(whole: &Parts, is_dead: impl Fn(usize) -> bool) -> Parts {
+    let mut parts = whole.clone();
+    for (place, link) in parts.links.iter_mut().enumerate() {
+        if is_dead(place) {
+            link.metric = UNUSED;
+        }
+    }
+    parts
+}
+
 /// What can be wrong in one link entry.
 #[derive(Clone, Copy, Debug)]
 pub enum LinkFault {
     UnknownRouter,
     SameRouter,
     ZeroMetric,
+    Dead,
     Repeated,
+    /// A dead link whose pair is listed before it.
+    RepeatedDead,
 }
 
-pub const LINK_FAULTS: [LinkFault; 4] = [
+pub const LINK_FAULTS: [LinkFault; 6] = [
     LinkFault::UnknownRouter,
     LinkFault::SameRouter,
     LinkFault::ZeroMetric,
+    LinkFault::Dead,
     LinkFault::Repeated,
+    LinkFault::RepeatedDead,
 ];
 
 /// Puts a fault into the link at the place. The first link repeats none.
@@ -158,14 +222,21 @@ pub fn spoil_link(random: &mut Random, parts: &mut Parts, fault: LinkFault, plac
         LinkFault::UnknownRouter => link.to = unknown,
         LinkFault::SameRouter => link.to = link.from,
         LinkFault::ZeroMetric => link.metric = 0,
-        LinkFault::Repeated if place > 0 => (link.from, link.to) = (earlier.from, earlier.to),
-        LinkFault::Repeated => {}
+        LinkFault::Dead => link.metric = UNUSED,
+        LinkFault::Repeated | LinkFault::RepeatedDead if place > 0 => {
+            (link.from, link.to) = (earlier.from, earlier.to);
+        }
+        LinkFault::Repeated | LinkFault::RepeatedDead => {}
+    }
+    let may_be_dead = !matches!(fault, LinkFault::ZeroMetric);
+    if matches!(fault, LinkFault::RepeatedDead) || may_be_dead && random.chance(10) {
+        link.metric = UNUSED;
     }
 }
 
 /// A file with one to three faults, sometimes cut or lengthened as well.
 pub fn faulty(random: &mut Random, most_routers: usize) -> Vec<u8> {
-    let mut parts = faultless(random, most_routers);
+    let mut parts = stored(random, most_routers);
     for _ in 0..random.between(1, 3) {
         spoil(random, &mut parts);
     }

@@ -7,6 +7,16 @@ pub enum Flaw {
     ReadTwoForOne,
     /// Read leaves the links it has read in the table when it refuses.
     ReadKeepsLinks,
+    /// 30 is tested after 7.
+    DeadAfterRepeated,
+    /// A change to the metric of a dead link is refused with 30.
+    DeadChangeRefused,
+    /// The old reader refuses a dead link with 30.
+    OldReaderDead,
+    /// The rewritten file has the link count of the stored one.
+    CountNotCorrected,
+    /// Only the dead links behind the last live one are dropped.
+    DeadAtEndOnly,
     /// The largest metric counts as a used link.
     MaximumUsed,
     /// A link is used whatever its reverse is.
@@ -61,9 +71,14 @@ pub enum Flaw {
     SheetKeptIfRefused,
 }
 
-pub const FLAWS: [Flaw; 28] = [
+pub const FLAWS: [Flaw; 33] = [
     Flaw::ReadTwoForOne,
     Flaw::ReadKeepsLinks,
+    Flaw::DeadAfterRepeated,
+    Flaw::DeadChangeRefused,
+    Flaw::OldReaderDead,
+    Flaw::CountNotCorrected,
+    Flaw::DeadAtEndOnly,
     Flaw::MaximumUsed,
     Flaw::ReverseNotRead,
     Flaw::OneNextHop,
@@ -91,3 +106,6 @@ pub const FLAWS: [Flaw; 28] = [
     Flaw::SheetByRank,
     Flaw::SheetKeptIfRefused,
 ];
+
+/// Those that what is written for a stored file shows.
+pub const REWRITING_FLAWS: [Flaw; 3] = [Flaw::OldReaderDead, Flaw::CountNotCorrected, Flaw::DeadAtEndOnly];

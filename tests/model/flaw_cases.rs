@@ -1,5 +1,8 @@
 //! Each mistake that the model can be given must show: in the comparison, where it breaks the order of the writes also
-//! in the walks along the pointers, and where the plan hangs on the order of the changes also beside another order.
+//! in the walks along the pointers, where the plan hangs on the order of the changes also beside another order, and
+//! where a stored file is rewritten also beside the program that does it.
+
+use std::path::Path;
 
 use crate::area_cases::area_case;
 use crate::areas::Area;
@@ -7,10 +10,12 @@ use crate::changes::in_another_order;
 use crate::compare::{Comparison, Planned, same_plan};
 use crate::difference::Difference;
 use crate::file_cases::{self, file_case};
-use crate::flaw::{FLAWS, Flaw};
+use crate::files;
+use crate::flaw::{FLAWS, Flaw, REWRITING_FLAWS};
 use crate::lent::{RIGHT_SIZES, SixTables};
 use crate::ofib::Record;
 use crate::plan::plan;
+use crate::process;
 use crate::random::Random;
 use crate::reachable::{search, small_area, unchanged_between};
 use crate::step::step;
@@ -20,7 +25,7 @@ const PART: u64 = 5;
 const MOST_CASES: u64 = 2000;
 const MOST_SEARCHES: u64 = 2000;
 
-pub fn flaw_cases(seed: u64) -> Result<(), String> {
+pub fn flaw_cases(seed: u64, rewrite: Option<&Path>) -> Result<(), String> {
     for flaw in FLAWS {
         let (cases, what) =
             first_difference(flaw, seed).ok_or(format!("flaw {flaw:?}: the comparison did not see it"))?;
@@ -37,6 +42,9 @@ pub fn flaw_cases(seed: u64) -> Result<(), String> {
     let flaw = Flaw::RootFarEnd;
     let (plans, what) = first_other_plan(flaw, seed).ok_or(format!("flaw {flaw:?}: no other order showed it"))?;
     println!("flaw {flaw:?}: caught by another order at plan {plans} ({what})");
+    if let Some(program) = rewrite {
+        rewriting_flaws(seed, program)?;
+    }
     match first_bad_walk(Flaw::None, seed).or(first_other_plan(Flaw::None, seed)) {
         None => Ok(()),
         Some((_, what)) => Err(format!("the model without a flaw: {what}")),
@@ -51,6 +59,8 @@ fn first_difference(flaw: Flaw, seed: u64) -> Option<(u64, String)> {
         link_stride: 1,
         program: None,
         program_stride: 1,
+        rewrite: None,
+        rewrite_stride: 1,
     };
     for number in 0..MOST_CASES {
         let outcome = area_case(&mut comparison, seed, number);
@@ -60,6 +70,25 @@ fn first_difference(flaw: Flaw, seed: u64) -> Option<(u64, String)> {
         }
     }
     None
+}
+
+/// What the program writes for stored files shows the mistakes of the rewriting.
+fn rewriting_flaws(seed: u64, program: &Path) -> Result<(), String> {
+    for flaw in REWRITING_FLAWS {
+        let mut random = Random::for_case(seed, PART, 0);
+        let stored = (1..=MOST_CASES).map(|number| (number, files::stored(&mut random, 8).bytes()));
+        let mut other = Random::for_case(seed, PART, 1);
+        let differs = |(number, file): (u64, Vec<u8>)| {
+            let outcome = process::compare_rewriting(&mut other, program, &file, flaw);
+            outcome.err().map(|what| (number, what))
+        };
+        let mut caught = stored.filter_map(differs);
+        let (files, what) = caught
+            .next()
+            .ok_or(format!("flaw {flaw:?}: the program did not show it"))?;
+        println!("flaw {flaw:?}: caught by the program at file {files} ({what})");
+    }
+    Ok(())
 }
 
 /// The walks over the flawed model by itself: after how many plans one goes wrong, and how.

@@ -23,6 +23,7 @@ mod process;
 mod random;
 mod reachable;
 mod read;
+mod rewriting;
 mod sheet;
 mod step;
 mod steps;
@@ -68,7 +69,7 @@ fn compare_all(options: &Options) -> Result<String, String> {
     let seed = options.seed;
     println!("model: seed {seed}");
     worked::check_model().map_err(|what| format!("the model contradicts the papers: {what}"))?;
-    flaw_cases::flaw_cases(seed)?;
+    flaw_cases::flaw_cases(seed, options.files.rewrite.as_deref())?;
     let mut comparison = Comparison::new(Flaw::None);
     compare_parts(&mut comparison, options).map_err(|difference| saved(options, &difference))?;
     comparison.counts.print();
@@ -130,11 +131,7 @@ fn replay(options: &Options, path: &Path) -> Result<String, String> {
         }
         None => {
             let mut random = Random::for_case(options.seed, 0, 0);
-            let amount = file_cases::Amount {
-                program_stride: 1,
-                ..options.files.clone()
-            };
-            file_cases::compare_file(&mut comparison, &mut random, &bytes, &amount)
+            file_cases::compare_file(&mut comparison, &mut random, &bytes, &options.files.with_each_file())
         }
     };
     outcome.map_err(|difference| format!("difference: {}", difference.what))?;

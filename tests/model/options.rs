@@ -31,6 +31,8 @@ impl Options {
                 link_stride: 1,
                 program: None,
                 program_stride: 97,
+                rewrite: None,
+                rewrite_stride: 19,
             },
             small: reachable::Amount {
                 stride: 1,
@@ -60,6 +62,7 @@ pub fn parse(mut words: impl Iterator<Item = String>) -> Result<Options, String>
             "--slice" => options.make_slice(),
             "--seed" => options.seed = value()?.parse().map_err(|_| "--seed needs a number".to_string())?,
             "--program" => options.files.program = Some(PathBuf::from(value()?)),
+            "--rewrite" => options.files.rewrite = Some(PathBuf::from(value()?)),
             "--out" => options.out = PathBuf::from(value()?),
             "--replay" => options.replay = Some(PathBuf::from(value()?)),
             _ => return Err(format!("no such option: {word}")),

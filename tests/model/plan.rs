@@ -91,6 +91,7 @@ fn refusal(n: usize, list: &[u8], t: &Tables, flaw: Flaw) -> u8 {
     let changes = changes_of(list);
     match first_fault(n, &changes) {
         Some((_, number)) => number,
+        None if flaw == Flaw::DeadChangeRefused && changes.iter().any(|change| change.metric == UNUSED) => 30,
         None => together(n, t.old, &changes, flaw),
     }
 }

@@ -1,14 +1,15 @@
-//! The rehearsal program, run as a process with a bench file as its standard input.
+//! The rehearsal program and the one that rewrites stored files, run as processes with a file as their standard input.
 
 use std::io::{self, ErrorKind, Write};
 use std::path::Path;
 use std::process::{Command, Stdio};
 use std::time::Duration;
 
-use crate::compare::texts;
+use crate::compare::{files, texts};
 use crate::flaw::Flaw;
 use crate::lent::{RIGHT_SIZES, SixTables};
 use crate::random::Random;
+use crate::rewriting::rewritten;
 use crate::text::rehearsal;
 
 /// How much of its input the program reads.
@@ -21,6 +22,14 @@ pub fn compare(random: &mut Random, program: &Path, file: &[u8]) -> Result<(), S
     let mut tables = SixTables::filled(random, RIGHT_SIZES);
     let text = rehearsal(&file[..file.len().min(READ)], &mut tables.lend(), Flaw::None);
     texts("output of the program", &output, text.as_bytes())
+}
+
+/// What the program writes for a stored file beside what the model does. The whole file counts, though no more of it
+/// need be read than of a bench file.
+pub fn compare_rewriting(random: &mut Random, program: &Path, file: &[u8], flaw: Flaw) -> Result<(), String> {
+    let in_pieces = random.chance(20);
+    let output = output(program, file, in_pieces).map_err(|error| format!("{}: {error}", program.display()))?;
+    files("output of the program that rewrites", &output, &rewritten(file, flaw))
 }
 
 /// The input is at most some 40,000 bytes, which a pipe takes at once, so all of it can be written before the output is

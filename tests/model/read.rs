@@ -1,4 +1,4 @@
-//! Read: the bench file (01, "The bench file").
+//! Read: the bench file (01, "The bench file"), and the old reader of stored files (02, No. 5).
 
 use crate::flaw::Flaw;
 use crate::ofib::{CELLS, Contents, WIDTH};
@@ -8,6 +8,13 @@ use crate::plan::{Change, MOST_CHANGES};
 pub const MOST_STEPS: usize = 4096;
 /// The size of the largest file.
 pub const LARGEST: usize = 17_564;
+
+/// Whose file it is: that of the old reader, which takes dead links, or that of Read.
+#[derive(Clone, Copy, Debug, PartialEq, Eq)]
+pub enum Format {
+    Old,
+    New,
+}
 
 /// The part of the file in which a fault lies.
 #[derive(Clone, Copy, Debug, PartialEq, Eq)]
@@ -61,7 +68,7 @@ pub fn read(file: &[u8], table: &mut [u32], flaw: Flaw) -> (u8, Contents) {
         return (8, Contents::default());
     }
     table.fill(UNUSED);
-    match judge(file, table) {
+    match judge(file, table, Format::New, flaw) {
         Ok(contents) => (0, contents),
         Err(fault) => {
             if flaw != Flaw::ReadKeepsLinks {
@@ -78,7 +85,7 @@ pub fn read(file: &[u8], table: &mut [u32], flaw: Flaw) -> (u8, Contents) {
 }
 
 /// What the file says of itself, or its first fault in file order. The links go into the table, which has 1,024 cells.
-pub fn judge(file: &[u8], table: &mut [u32]) -> Result<Contents, Fault> {
+pub fn judge(file: &[u8], table: &mut [u32], format: Format, flaw: Flaw) -> Result<Contents, Fault> {
     let mut reader = Reader { file, at: 0 };
     let n = usize::from(reader.take(1, Section::Routers)?[0]);
     if n == 0 || n > WIDTH {
@@ -88,10 +95,9 @@ pub fn judge(file: &[u8], table: &mut [u32]) -> Result<Contents, Fault> {
         });
     }
     let links = reader.count(2, n * (n - 1), Section::LinkCount)?;
-    let mut listed = [false; CELLS];
+    let mut entered = Links::new(n, table, dead_test(format, flaw));
     for _ in 0..links {
-        let link = Change::from_bytes(reader.take(5, Section::Links)?);
-        enter(n, link, &mut listed, table)?;
+        entered.enter(Change::from_bytes(reader.take(5, Section::Links)?))?;
     }
     let changes = reader.count(1, MOST_CHANGES, Section::ChangeCount)?;
     let changes_at = reader.at;
@@ -115,28 +121,77 @@ pub fn judge(file: &[u8], table: &mut [u32]) -> Result<Contents, Fault> {
     })
 }
 
-/// Puts one link into the table. A pair that stands twice is a fault even where its first entry says "not used".
-fn enter(n: usize, link: Change, listed: &mut [bool; CELLS], table: &mut [u32]) -> Result<(), Fault> {
-    let (from, to) = (usize::from(link.from), usize::from(link.to));
-    let fault = |number| {
-        Err(Fault {
-            number,
-            section: Section::Links,
-        })
-    };
-    if from >= n || to >= n {
-        return fault(4);
+/// Where 30 stands among the tests of a link.
+#[derive(Clone, Copy, PartialEq, Eq)]
+enum DeadTest {
+    Nowhere,
+    BeforeRepeated,
+    AfterRepeated,
+}
+
+fn dead_test(format: Format, flaw: Flaw) -> DeadTest {
+    match (format, flaw) {
+        (Format::New, Flaw::DeadAfterRepeated) => DeadTest::AfterRepeated,
+        (Format::New, _) | (Format::Old, Flaw::OldReaderDead) => DeadTest::BeforeRepeated,
+        (Format::Old, _) => DeadTest::Nowhere,
     }
-    if from == to {
-        return fault(5);
+}
+
+/// The links of an area of n routers, as far as they are read.
+struct Links<'a> {
+    n: usize,
+    dead: DeadTest,
+    listed: [bool; CELLS],
+    table: &'a mut [u32],
+}
+
+impl<'a> Links<'a> {
+    fn new(n: usize, table: &'a mut [u32], dead: DeadTest) -> Links<'a> {
+        Links {
+            n,
+            dead,
+            listed: [false; CELLS],
+            table,
+        }
     }
-    if link.metric == 0 {
-        return fault(6);
+
+    /// Puts one link into the table. A pair that stands twice is a fault even where its first entry is a dead link.
+    fn enter(&mut self, link: Change) -> Result<(), Fault> {
+        match self.fault(link) {
+            0 => {
+                self.listed[link.cell()] = true;
+                self.table[link.cell()] = link.metric;
+                Ok(())
+            }
+            number => Err(Fault {
+                number,
+                section: Section::Links,
+            }),
+        }
     }
-    if listed[at(from, to)] {
-        return fault(7);
+
+    /// The first of 4, 5, 6, 30 and 7 that applies, or 0.
+    fn fault(&self, link: Change) -> u8 {
+        let (from, to) = (usize::from(link.from), usize::from(link.to));
+        if from >= self.n || to >= self.n {
+            return 4;
+        }
+        if from == to {
+            return 5;
+        }
+        if link.metric == 0 {
+            return 6;
+        }
+        let is_dead = link.metric == UNUSED;
+        if is_dead && self.dead == DeadTest::BeforeRepeated {
+            return 30;
+        }
+        if self.listed[at(from, to)] {
+            return 7;
+        }
+        if is_dead && self.dead == DeadTest::AfterRepeated {
+            return 30;
+        }
+        0
     }
-    listed[at(from, to)] = true;
-    table[at(from, to)] = link.metric;
-    Ok(())
 }

@@ -1,6 +1,6 @@
 //! The printed rehearsal and the small areas C1 to C13 of 01, by the root of 02, No. 2, with the other directions of
-//! No. 4, running sheets of them, and links that are up at one end only: the model must give what is worked out by hand,
-//! and the library the same.
+//! No. 4, running sheets of them, links that are up at one end only, and dead links: the model must give what is worked
+//! out by hand, and the library the same.
 
 use crate::areas::Area;
 use crate::changes::bytes_of;
@@ -13,6 +13,8 @@ use crate::ofib::{Answer, CELLS, Record};
 use crate::paths::{UNUSED, at, paths};
 use crate::plan::{Change, FALL, RISE, plan};
 use crate::random::Random;
+use crate::read::read;
+use crate::rewriting::rewritten;
 use crate::sheet::sheet;
 use crate::step::step;
 use crate::text::rehearsal;
@@ -60,6 +62,7 @@ pub fn check_model() -> Result<(), String> {
     refusals()?;
     half_links()?;
     printed_steps()?;
+    dead_links()?;
     sheets()
 }
 
@@ -83,7 +86,11 @@ fn compare_example(comparison: &mut Comparison, file: &[u8]) -> Result<(), Strin
 }
 
 fn input() -> Vec<u8> {
-    let digits: Vec<u8> = INPUT
+    bytes(INPUT)
+}
+
+fn bytes(hexadecimal: &str) -> Vec<u8> {
+    let digits: Vec<u8> = hexadecimal
         .chars()
         .filter_map(|c| c.to_digit(16))
         .map(|digit| digit as u8)
@@ -240,6 +247,49 @@ fn printed_steps() -> Result<(), String> {
     same("C12", (answers[7], answers[8]), (Answer::Ok, Answer::Ignored))
 }
 
+/// A file, Read's answer to it, and what is written for it as a stored file: the rewritten file, or the number of the
+/// old reader's refusal (02, No. 5).
+const DEAD_LINKS: [(&str, u8, Result<&str, u8>); 12] = [
+    ("02 0001 0001FFFFFF 00 0000", 30, Ok("02 0000 00 0000")),
+    ("02 0001 0001FFFFFE 00 0000", 0, Ok("02 0001 0001FFFFFE 00 0000")),
+    ("02 0000 01 0001FFFFFF 0000", 0, Ok("02 0000 01 0001FFFFFF 0000")),
+    (
+        "03 0003 0001FFFFFF 0102000001 0200FFFFFF 01 0102FFFFFF 0001 010100",
+        30,
+        Ok("03 0001 0102000001 01 0102FFFFFF 0001 010100"),
+    ),
+    (
+        "03 0003 0001000001 0102FFFFFF 0200000003 00 0000",
+        30,
+        Ok("03 0002 0001000001 0200000003 00 0000"),
+    ),
+    ("02 0002 0001FFFFFF 0001FFFFFF 00 0000", 30, Err(7)),
+    ("02 0002 0001000001 0001FFFFFF 00 0000", 30, Err(7)),
+    ("02 0002 0001FFFFFF 0100000000 00 0000", 30, Err(6)),
+    ("02 0002 0001000000 0100FFFFFF 00 0000", 6, Err(6)),
+    ("02 0001 0002FFFFFF 00 0000", 4, Err(4)),
+    ("02 0001 0101FFFFFF 00 0000", 5, Err(5)),
+    ("02 0001 0001FFFFFF", 30, Err(1)),
+];
+
+fn dead_links() -> Result<(), String> {
+    for (file, answer, written) in DEAD_LINKS {
+        let mut table = [0; CELLS];
+        let (number, _) = read(&bytes(file), &mut table, Flaw::None);
+        same(&format!("Read of {file}"), number, answer)?;
+        let written = match written {
+            Ok(other) => bytes(other),
+            Err(number) => format!("refused {number}\n").into_bytes(),
+        };
+        same(
+            &format!("{file} rewritten"),
+            rewritten(&bytes(file), Flaw::None),
+            written,
+        )?;
+    }
+    Ok(())
+}
+
 /// Running sheets: C1, C2, C4, an area whose order by rank is another one, and C9, which is refused.
 fn sheets() -> Result<(), String> {
     let of = |n, links: &[Link], changes: &[Link]| sheet(&planned(n, links, changes).1, [9; 32], Flaw::None);
@@ -261,7 +311,7 @@ fn sheets() -> Result<(), String> {
 /// The examples as bench files.
 fn files() -> Vec<Vec<u8>> {
     let chain = longest_chain();
-    let examples: [(usize, &[Link], &[Link]); 12] = [
+    let examples: [(usize, &[Link], &[Link]); 13] = [
         (
             3,
             &[(0, 1, 1), (1, 0, 1), (0, 2, 3), (2, 0, 3)],
@@ -269,6 +319,7 @@ fn files() -> Vec<Vec<u8>> {
         ),
         (3, &FIRST_LINKS, &[(2, 1, UNUSED), (1, 2, UNUSED)]),
         (2, &[(0, 1, UNUSED)], &[(0, 1, UNUSED - 1)]),
+        (2, &[], &[(0, 1, UNUSED - 1)]),
         (2, &SIXTH_LINKS[1..], &SIXTH_LINKS[..1]),
         (2, &SIXTH_LINKS, &[(1, 0, UNUSED), (0, 1, 1)]),
         (2, &[(0, 1, 2)], &[(0, 1, 2)]),
@@ -283,6 +334,7 @@ fn files() -> Vec<Vec<u8>> {
         Parts::new(n, entries(links), bytes_of(&entries(changes)), Vec::new()).bytes()
     };
     let mut files: Vec<Vec<u8>> = examples.into_iter().map(file).collect();
+    files.extend(DEAD_LINKS.map(|(file, ..)| bytes(file)));
     files.push(input());
     files
 }

@@ -13,13 +13,14 @@ use Rattle.area.specs.declared.refusal.Refusal.the-variants.{UnknownRout
 use Rattle.area.specs.declared.refusal.Refusal.the-variants.{TableSize, TooMany, NoChange, SameMetric}
 use Rattle.area.specs.declared.refusal.Refusal.the-variants.{Mixed, NoCommonRouter, Record, Kind, State}
 use Rattle.area.specs.declared.refusal.Refusal.the-variants.{Waiting, NotDue, Unwritten, NotDone, NotTold}
+use Rattle.area.specs.declared.refusal.Refusal.the-variants.{DeadLink}
 use Rattle.area.specs.declared.refusal.Verdict.{Verdict}
 use Rattle.area.specs.declared.refusal.Verdict.the-variants.{Accepted, Refused}
 use Rattle.area.specs.Tests.{pick}
 use Rattle.area.specs.Refusals.{refusalNumber, verdictNumber}
 use Rattle.area.specs.Refusals.{incomplete, trailing, routerCount, unknownRouter, selfLink, badMetric, repeated}
 use Rattle.area.specs.Refusals.{tableSize, tooMany, noChange, sameMetric, mixed, noCommonRouter, badRecord}
-use Rattle.area.specs.Refusals.{unknownKind, wrongState, stillWaiting, notDue, unwritten, notDone}
+use Rattle.area.specs.Refusals.{unknownKind, wrongState, stillWaiting, notDue, unwritten, notDone, notTold}
 
 -- the refusal of a number
 abbrev numbered : ℕ → Refusal
@@ -44,7 +45,8 @@ numbered n =
     (pick (eqb n notDue) NotDue
     (pick (eqb n unwritten) Unwritten
     (pick (eqb n notDone) NotDone
-    NotTold)))))))))))))))))))
+    (pick (eqb n notTold) NotTold
+    DeadLink))))))))))))))))))))
 
 of-number : (k : Refusal) → numbered (refusalNumber k) ≡ k
 of-number Incomplete = refl
@@ -68,6 +70,7 @@ of-number NotDue = refl
 of-number Unwritten = refl
 of-number NotDone = refl
 of-number NotTold = refl
+of-number DeadLink = refl
 
 pub refusal-positive : (k : Refusal) → 1 ≤ refusalNumber k
 refusal-positive Incomplete = omega arith
@@ -91,6 +94,7 @@ refusal-positive NotDue = omega arith
 refusal-positive Unwritten = omega arith
 refusal-positive NotDone = omega arith
 refusal-positive NotTold = omega arith
+refusal-positive DeadLink = omega arith
 
 pub same-refusal : (j k : Refusal) → refusalNumber j ≡ refusalNumber k → j ≡ k
 same-refusal j k e = sym (of-number j) ∙ ap numbered e ∙ of-number k

@@ -1,5 +1,5 @@
--- The refusals of 01: a name for the number of each, and when it is given. No two have the same number, and none has 0
--- (RefusalLaws.antt), so an equation on the number decides the answer.
+-- The refusals of 01, and one of 02: a name for the number of each, and when it is given. No two have the same number,
+-- and none has 0 (RefusalLaws.antt), so an equation on the number decides the answer.
 use Prim.Native.Nat.{ℕ}
 use Rattle.area.specs.declared.refusal.Refusal.{Refusal}
 use Rattle.area.specs.declared.refusal.Refusal.the-variants.{Incomplete, Trailing, RouterCount}
@@ -7,6 +7,7 @@ use Rattle.area.specs.declared.refusal.Refusal.the-variants.{UnknownRout
 use Rattle.area.specs.declared.refusal.Refusal.the-variants.{TableSize, TooMany, NoChange, SameMetric}
 use Rattle.area.specs.declared.refusal.Refusal.the-variants.{Mixed, NoCommonRouter, Record, Kind, State}
 use Rattle.area.specs.declared.refusal.Refusal.the-variants.{Waiting, NotDue, Unwritten, NotDone, NotTold}
+use Rattle.area.specs.declared.refusal.Refusal.the-variants.{DeadLink}
 use Rattle.area.specs.declared.refusal.Verdict.{Verdict}
 use Rattle.area.specs.declared.refusal.Verdict.the-variants.{Accepted, Refused}
 
@@ -97,6 +98,11 @@ notDone = 27
 abbrev pub notTold : ℕ
 notTold = 28
 
+-- ---- of Read (02, No. 5)
+-- a link of a bench file is dead: its metric is that of a link that is not used
+abbrev pub deadLink : ℕ
+deadLink = 30
+
 -- ---- of an answer of the code
 -- the number of a refusal; `Refusal` and `Verdict` are the enums of src/refusal.rt
 abbrev pub refusalNumber : (k : Refusal) → ℕ
@@ -121,6 +127,7 @@ refusalNumber NotDue = notDue
 refusalNumber Unwritten = unwritten
 refusalNumber NotDone = notDone
 refusalNumber NotTold = notTold
+refusalNumber DeadLink = deadLink
 
 -- the number of an answer: the refusal's, and 0 where the input is accepted
 abbrev pub verdictNumber : (v : Verdict) → ℕ

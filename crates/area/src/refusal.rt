@@ -1,4 +1,4 @@
-// Why a call is refused: a named case for each number of paper 01. When each is given, specs/Refusals.antt says.
+// Why a call is refused: a named case for each number of 01 and 02. When each is given, specs/Refusals.antt says.
 ghost use mathlib.Core.Path.{_≡_};
 ghost use lib.Dec.{eqb};
 ghost use Rattle.area.specs.Refusals.{refusalNumber, verdictNumber};
@@ -28,6 +28,8 @@ pub enum Refusal {
     Unwritten,
     NotDone,
     NotTold,
+    // Of Read: a link of a file that is not used.
+    DeadLink,
 }
 
 // What a call says of the input that it was handed.
@@ -63,6 +65,7 @@ impl Refusal {
             Refusal::Unwritten => 26,
             Refusal::NotDone => 27,
             Refusal::NotTold => 28,
+            Refusal::DeadLink => 30,
         }
     }
 }

@@ -18,17 +18,18 @@ use lib.Seq.{getD-set-same, getD-set-other}
 use borrow.Author.Tests.{eq-eqb, ne-eqb}
 use Rattle.area.specs.Limits.{width}
 use Rattle.area.specs.Refusals.{repeated}
-use Rattle.area.specs.Tests.{pick}
+use Rattle.area.specs.Tests.{pick, orThen}
 use Rattle.area.specs.PerRouterLaws.{zeros-at}
-use Rattle.area.specs.TestLaws.{look, or-none, or-right, then-some, then-none}
+use Rattle.area.specs.TestLaws.{look, or-none, or-right, then-some}
 use Rattle.sets.specs.Sets.{bit, added}
 use Rattle.sets.specs.SetLaws.{bit-zero, bit-added}
 use Rattle.entries.specs.declared.Entry.{Entry}
-use Rattle.entries.specs.Entries.{entryCount, entryOf, from, to, isForPair, isFree, entryRefusal, listedRefusal}
+use Rattle.entries.specs.Entries.{entryCount, entryOf, from, to, isForPair, isFree, isFirst, entryRefusal}
 use Rattle.entries.specs.EntryLaws.{read-from, of-pair, pair-of, free-none, free-taken, free-kept}
-use Rattle.entries.specs.EntryLaws.{faultless-of, listed-faulty, listed-free}
-use Rattle.bench_file.specs.Faults.{linkRefusal, seenRefusal}
-use Rattle.bench_file.specs.FaultLaws.{link-whole, link-sound}
+use Rattle.entries.specs.EntryLaws.{faultless-of}
+use Rattle.bench_file.specs.declared.Format.{Format}
+use Rattle.bench_file.specs.Faults.{deadRefusal, linkRefusal, seenRefusal}
+use Rattle.bench_file.specs.FaultLaws.{wholeRefusal, link-whole, link-sound}
 
 pub record Seen (l : List ℕ) (k : ℕ) (s : List ℕ) : Type 0 where
   pub size : length s ≡ width
@@ -94,39 +95,42 @@ not-free true n = refl
 not-free false n = refl
 
 pub seen-refusal :
-    (n : ℕ) (l : List ℕ) (k : ℕ) (s : List ℕ)
+    (format : Format) (n : ℕ) (l : List ℕ) (k : ℕ) (s : List ℕ)
     → n ≤ width
     → Seen l k s
-    → seenRefusal n (entryOf l k) s ≡ listedRefusal n l k
-seen-refusal n l k s most seen = by-entry (ℕ-discrete (entryRefusal n (entryOf l k)) 0)
+    → seenRefusal format n (entryOf l k) s ≡ wholeRefusal format n (entryOf l k) (isFirst l k)
+seen-refusal format n l k s most seen = by-entry (ℕ-discrete (entryRefusal n (entryOf l k)) 0)
   where
-    by-entry : Dec (entryRefusal n (entryOf l k) ≡ 0) → seenRefusal n (entryOf l k) s ≡ listedRefusal n l k
-    by-entry (no f) = then-some (entryRefusal n (entryOf l k)) _ f ∙ sym (listed-faulty n l k f)
+    by-entry :
+        Dec (entryRefusal n (entryOf l k) ≡ 0)
+        → seenRefusal format n (entryOf l k) s ≡ wholeRefusal format n (entryOf l k) (isFirst l k)
+    by-entry (no f) =
+        then-some (entryRefusal n (entryOf l k)) _ f
+        ∙ sym (then-some (entryRefusal n (entryOf l k)) _ f)
     by-entry (yes z) =
         let x = faultless-of n (entryOf l k) z in
         let told = seen .pairs (from l k) (to l k) (omega (arith, x .from-in)) (omega (arith, x .to-in)) in
-        then-none (entryRefusal n (entryOf l k)) _ z
-        ∙ rw told (not-free (isFree l k (from l k) (to l k)) repeated)
-        ∙ sym (listed-free n l k z)
+        ap (λ (y : ℕ). orThen (entryRefusal n (entryOf l k)) (orThen (deadRefusal format (entryOf l k)) y))
+        (rw told (not-free (isFirst l k) repeated))
 
 -- ---- a link that was read, with what was told of it
 module _
-    (n : ℕ) (l : List ℕ) (k : ℕ) (s : List ℕ) (most : n ≤ width) (seen : Seen l k s)
+    (format : Format) (n : ℕ) (l : List ℕ) (k : ℕ) (s : List ℕ) (most : n ≤ width) (seen : Seen l k s)
     (x : Entry) (is : x ≡ entryOf l k)
   where
-    pub link-told : k < entryCount l → seenRefusal n x s ≡ linkRefusal n l k
+    pub link-told : k < entryCount l → seenRefusal format n x s ≡ linkRefusal format n l k
     link-told h =
-        ap (λ (y : Entry). seenRefusal n y s) is
-        ∙ seen-refusal n l k s most seen
-        ∙ sym (link-whole n l k h)
+        ap (λ (y : Entry). seenRefusal format n y s) is
+        ∙ seen-refusal format n l k s most seen
+        ∙ sym (link-whole format n l k h)
 
     -- the sets with the pair of y
     abbrev Next : Entry → Type 0
     Next y = Seen l (suc k) (set s (y .from) (added width (getD s (y .from) 0) (y .to)))
 
-    module _ (z : linkRefusal n l k ≡ 0) where
+    module _ (z : linkRefusal format n l k ≡ 0) where
       ends : (from l k < width) × (to l k < width)
-      ends = let e = link-sound n l k z .entry in (omega (arith, e .from-in), omega (arith, e .to-in))
+      ends = let e = link-sound format n l k z .entry in (omega (arith, e .from-in), omega (arith, e .to-in))
 
       pub in-sets : x .from < width
       in-sets = omega (arith, read-from is, ends .0)

@@ -1,6 +1,8 @@
 -- Laws of the faults: those by which the code is proved, and what is known of a file that has none.
 --     read-changes, read-steps                 the counts that code has read
---     link-cut, link-whole, link-sound         the refusals of a link
+--     dead-taken, dead-told, live-passes       the refusal of a dead link, by the format
+--     link-cut, link-whole, link-passes        the refusals of a link
+--     link-sound, link-same                    what is known of a link that is not refused; the same link elsewhere
 --     rest-.., file-..                         the refusals of what follows the links, and of the file
 --     most-links-is, pairs-most                the limit of the links
 --     Accepted, accepted-of, of-accepted       a file is not refused exactly where all of this is known of it
@@ -9,8 +11,8 @@
 -- that is not refused is on no rung of either ladder: that gives `Accepted`, field by field.
 use Prim.Native.Nat.{ℕ, _+_, _-_, _*_, _≤_, _<_}
 use mathlib.Core.Path.{_≡_, refl, sym, ap, _∙_}
-use mathlib.Core.Bool.{true, false}
-use mathlib.Core.Logic.{_≢_, _⊎_, inl, inr}
+use mathlib.Core.Bool.{Bool, true, false, not}
+use mathlib.Core.Logic.{_≢_, _⊎_, inl, inr, ⊎-elim}
 use mathlib.Core.List.{List}
 use native.Mathlib.Nat.{mul-le-mul}
 use native.Mathlib.Decide.{decLt, ℕ-discrete}
@@ -19,14 +21,19 @@ use lib.Dec.{ltb}
 use lib.ListN.{length, getD}
 use borrow.Author.Tests.{lt-ltb, le-ltb}
 use Rattle.area.specs.Limits.{width, mostChanges, mostSteps}
-use Rattle.area.specs.Refusals.{incomplete, trailing, routerCount, tooMany}
-use Rattle.area.specs.TestLaws.{look, then-some, then-none, first-none, none-first}
+use Rattle.area.specs.Refusals.{incomplete, trailing, routerCount, repeated, tooMany, deadLink}
+use Rattle.area.specs.Tests.{pick, orThen}
+use Rattle.area.specs.TestLaws.{look, and-false, and-one, then-some, then-none, then-both, first-none, none-first}
 use Rattle.area.specs.Sizes.{isRouterCount}
-use Rattle.entries.specs.Entries.{entryCount, entryOf, isFirst, listedRefusal}
-use Rattle.entries.specs.EntryLaws.{Faultless, faultless, listed-passes, listed-sound}
+use Rattle.entries.specs.declared.Entry.{Entry}
+use Rattle.entries.specs.Entries.{entryCount, entryOf, from, to, isFree, isFirst, entryRefusal}
+use Rattle.entries.specs.EntryLaws.{Faultless, faultless, faultless-of, free-same}
+use Rattle.bench_file.specs.declared.Format.{Format}
+use Rattle.bench_file.specs.Formats.{takesDead}
 use Rattle.bench_file.specs.Sections.{two, routers, linkCount, links}
 use Rattle.bench_file.specs.Sections.{changeCount, changesAt, stepCount, stepsAt, end}
-use Rattle.bench_file.specs.Faults.{mostLinks, linkRefusal, linksRefusal, restRefusal, fileRefusal}
+use Rattle.bench_file.specs.Faults.{mostLinks, isDead, deadRefusal, linkRefusal, linksRefusal, restRefusal}
+use Rattle.bench_file.specs.Faults.{fileRefusal}
 
 -- ---- the counts that code has read, one after another
 module _ (f : List ℕ) {k : ℕ} (is : k ≡ linkCount f) {x : ℕ} (told : x ≡ getD f (3 + 5 * k) 0) where
@@ -36,29 +43,86 @@ module _ (f : List ℕ) {k : ℕ} (is : k ≡ linkCount f) {x : ℕ} (told : x �
   pub read-steps : {y : ℕ} → y ≡ two f (3 + 5 * k + 1 + 5 * x) → y ≡ stepCount f
   read-steps e = e ∙ ap (two f) (omega (arith, is, read-changes))
 
+-- ---- dead links
+-- the format of stored files takes them
+pub dead-taken : (format : Format) (x : Entry) → takesDead format ≡ true → deadRefusal format x ≡ 0
+unfolding deadRefusal
+dead-taken format x t = rw (and-false (isDead x) (not (takesDead format)) (rw t refl)) refl
+
+-- in the other one the metric tells
+pub dead-told :
+    (format : Format) (x : Entry)
+    → takesDead format ≡ false
+    → deadRefusal format x ≡ pick (isDead x) deadLink 0
+unfolding deadRefusal
+dead-told format x t = rw (t, and-one (isDead x)) refl
+
+-- and none refuses a link that is not dead
+pub live-passes : (format : Format) (x : Entry) → isDead x ≡ false → deadRefusal format x ≡ 0
+unfolding deadRefusal
+live-passes format x e = rw e refl
+
 -- ---- the links
-pub record Link (n : ℕ) (l : List ℕ) (e : ℕ) : Type 0 where
+pub record Link (format : Format) (n : ℕ) (l : List ℕ) (e : ℕ) : Type 0 where
   pub whole : e < entryCount l
   pub entry : Faultless n (entryOf l e)
+  pub taken : deadRefusal format (entryOf l e) ≡ 0
   pub new : isFirst l e ≡ true
 
-module _ (n : ℕ) (l : List ℕ) (e : ℕ) where
-  pub link-cut : entryCount l ≤ e → linkRefusal n l e ≡ incomplete
+-- the link x, whose bytes are all there, where `new` says whether its pair is
+abbrev pub wholeRefusal : (format : Format) (n : ℕ) (x : Entry) (new : Bool) → ℕ
+wholeRefusal format n x new = orThen (entryRefusal n x) (orThen (deadRefusal format x) (pick new 0 repeated))
+
+module _ (format : Format) (n : ℕ) (l : List ℕ) (e : ℕ) where
+  pub link-cut : entryCount l ≤ e → linkRefusal format n l e ≡ incomplete
   unfolding linkRefusal
   link-cut a = rw (le-ltb e (entryCount l) a) refl
 
-  pub link-whole : e < entryCount l → linkRefusal n l e ≡ listedRefusal n l e
+  pub link-whole : e < entryCount l → linkRefusal format n l e ≡ wholeRefusal format n (entryOf l e) (isFirst l e)
   unfolding linkRefusal
   link-whole a = rw (lt-ltb e (entryCount l) a) refl
 
-  pub link-sound : linkRefusal n l e ≡ 0 → Link n l e
+  pub link-passes : Link format n l e → linkRefusal format n l e ≡ 0
+  link-passes x =
+      let good = x .entry in
+      let faults = faultless n (entryOf l e) (good .from-in) (good .to-in) (good .apart) (good .some) in
+      link-whole (x .whole)
+      ∙ then-none (entryRefusal n (entryOf l e)) _ faults
+      ∙ then-none (deadRefusal format (entryOf l e)) _ (x .taken)
+      ∙ rw (x .new) refl
+
+  pub link-sound : linkRefusal format n l e ≡ 0 → Link format n l e
   link-sound z = by-length (decLt e (entryCount l))
     where
-      by-length : Dec (e < entryCount l) → Link n l e
+      never : isFirst l e ≡ false → pick (isFirst l e) 0 repeated ≡ 0 → ⊥
+      never f q = let seven : repeated ≡ 0 = rw f at q in omega (arith, seven)
+
+      by-length : Dec (e < entryCount l) → Link format n l e
       by-length (no a) = absurd (let cut = link-cut (omega arith) in let x : ⊥ = omega (arith, cut, z) in x)
       by-length (yes a) =
-          let s = listed-sound n l e (sym (link-whole a) ∙ z) in
-          record { whole = a; entry = s .0; new = s .1 }
+          let own = then-both (entryRefusal n (entryOf l e)) _ (sym (link-whole a) ∙ z) in
+          let rest = then-both (deadRefusal format (entryOf l e)) _ (own .1) in
+          record {
+            whole = a;
+            entry = faultless-of n (entryOf l e) (own .0);
+            taken = rest .0;
+            new = ⊎-elim (λ t. t) (λ f. absurd (never f (rest .1))) (look (isFirst l e));
+          }
+
+-- two lists with the same entries up to e
+pub link-same :
+    (format : Format) (n : ℕ) (l m : List ℕ) (e : ℕ)
+    → e < entryCount l
+    → e < entryCount m
+    → ((d : ℕ) → d ≤ e → entryOf l d ≡ entryOf m d)
+    → linkRefusal format n l e ≡ linkRefusal format n m e
+link-same format n l m e a b same =
+    let own = same e (omega arith) in
+    let free = free-same l m e (from m e) (to m e) (λ d h. same d (omega arith)) in
+    link-whole format n l e a
+    ∙ ap (λ (x : Entry). wholeRefusal format n x (isFree l e (x .from) (x .to))) own
+    ∙ ap (wholeRefusal format n (entryOf m e)) free
+    ∙ sym (link-whole format n m e b)
 
 -- ---- what follows the links
 module _ (f : List ℕ) where
@@ -122,8 +186,8 @@ most-links-is n = refl
 pub pairs-most : (n : ℕ) → n ≤ width → n * (n - 1) ≤ width * (width - 1)
 pairs-most n h = let less : n - 1 ≤ width - 1 = omega arith in mul-le-mul h less
 
-module _ (f : List ℕ) where
-  pub file-empty : length f < 1 → fileRefusal f ≡ incomplete
+module _ (format : Format) (f : List ℕ) where
+  pub file-empty : length f < 1 → fileRefusal format f ≡ incomplete
   unfolding fileRefusal
   file-empty a = rw (lt-ltb (length f) 1 a) refl
 
@@ -131,12 +195,12 @@ module _ (f : List ℕ) where
     some-byte : ltb (length f) 1 ≡ false
     some-byte = le-ltb (length f) 1 a
 
-    pub file-count : isRouterCount (routers f) ≡ false → fileRefusal f ≡ routerCount
+    pub file-count : isRouterCount (routers f) ≡ false → fileRefusal format f ≡ routerCount
     unfolding fileRefusal
     file-count b = rw (some-byte, b) refl
 
     module _ (b : isRouterCount (routers f) ≡ true) where
-      pub file-cut : length f < 3 → fileRefusal f ≡ incomplete
+      pub file-cut : length f < 3 → fileRefusal format f ≡ incomplete
       unfolding fileRefusal
       file-cut c = rw (some-byte, b, lt-ltb (length f) 3 c) refl
 
@@ -144,7 +208,7 @@ module _ (f : List ℕ) where
         three-bytes : ltb (length f) 3 ≡ false
         three-bytes = le-ltb (length f) 3 c
 
-        pub file-many : mostLinks (routers f) < linkCount f → fileRefusal f ≡ tooMany
+        pub file-many : mostLinks (routers f) < linkCount f → fileRefusal format f ≡ tooMany
         unfolding fileRefusal
         file-many d = rw (some-byte, b, three-bytes, lt-ltb (mostLinks (routers f)) (linkCount f) d) refl
 
@@ -152,19 +216,19 @@ module _ (f : List ℕ) where
           few-links : ltb (mostLinks (routers f)) (linkCount f) ≡ false
           few-links = le-ltb (mostLinks (routers f)) (linkCount f) d
 
-          pub file-link : linksRefusal f ≢ 0 → fileRefusal f ≡ linksRefusal f
+          pub file-link : linksRefusal format f ≢ 0 → fileRefusal format f ≡ linksRefusal format f
           unfolding fileRefusal
           file-link e = rw (some-byte, b, three-bytes, few-links) (then-some _ (restRefusal f) e)
 
-          pub file-rest : linksRefusal f ≡ 0 → fileRefusal f ≡ restRefusal f
+          pub file-rest : linksRefusal format f ≡ 0 → fileRefusal format f ≡ restRefusal f
           unfolding fileRefusal
           file-rest e = rw (some-byte, b, three-bytes, few-links) (then-none _ (restRefusal f) e)
 
 -- ---- a file that is not refused
-pub record Accepted (f : List ℕ) : Type 0 where
+pub record Accepted (format : Format) (f : List ℕ) : Type 0 where
   pub routers-in : isRouterCount (routers f) ≡ true
   pub most-links : linkCount f ≤ mostLinks (routers f)
-  pub each-link : (e : ℕ) → e < linkCount f → Link (routers f) (links f) e
+  pub each-link : (e : ℕ) → e < linkCount f → Link format (routers f) (links f) e
   pub most-changes : changeCount f ≤ mostChanges
   pub most-steps : stepCount f ≤ mostSteps
   pub size : length f ≡ end f
@@ -207,15 +271,15 @@ rest-of f z =
         (rest-more f (omega arith) (omega arith) (omega arith) (omega arith) (omega arith) g)
     by-tests (no a) (no b) (no c) (no d) (no e) (no g) = (omega arith, omega arith, omega arith)
 
-pub accepted-of : (f : List ℕ) → fileRefusal f ≡ 0 → Accepted f
-accepted-of f z =
+pub accepted-of : (format : Format) (f : List ℕ) → fileRefusal format f ≡ 0 → Accepted format f
+accepted-of format f z =
     by-tests
     (decLt (length f) 1)
     (look (isRouterCount (routers f)))
     (decLt (length f) 3)
     (decLt (mostLinks (routers f)) (linkCount f))
   where
-    never : {A : Type 0} (k : ℕ) → 1 ≤ k → fileRefusal f ≡ k → A
+    never : {A : Type 0} (k : ℕ) → 1 ≤ k → fileRefusal format f ≡ k → A
     never k p q = absurd (let x : ⊥ = omega arith in x)
 
     by-tests :
@@ -223,40 +287,35 @@ accepted-of f z =
         → (isRouterCount (routers f) ≡ true) ⊎ (isRouterCount (routers f) ≡ false)
         → Dec (length f < 3)
         → Dec (mostLinks (routers f) < linkCount f)
-        → Accepted f
-    by-tests (yes a) b c d = never incomplete (omega arith) (file-empty f a)
-    by-tests (no a) (inr b) c d = never routerCount (omega arith) (file-count f (omega arith) b)
-    by-tests (no a) (inl b) (yes c) d = never incomplete (omega arith) (file-cut f (omega arith) b c)
-    by-tests (no a) (inl b) (no c) (yes d) = never tooMany (omega arith) (file-many f (omega arith) b (omega arith) d)
+        → Accepted format f
+    by-tests (yes a) b c d = never incomplete (omega arith) (file-empty format f a)
+    by-tests (no a) (inr b) c d = never routerCount (omega arith) (file-count format f (omega arith) b)
+    by-tests (no a) (inl b) (yes c) d = never incomplete (omega arith) (file-cut format f (omega arith) b c)
+    by-tests (no a) (inl b) (no c) (yes d) =
+        never tooMany (omega arith) (file-many format f (omega arith) b (omega arith) d)
     by-tests (no a) (inl b) (no c) (no d) = record {
       routers-in = b;
       most-links = omega arith;
-      each-link = λ e h. link-sound (routers f) (links f) e (none-first _ (linkCount f) (both .0) e h);
+      each-link = λ e h. link-sound format (routers f) (links f) e (none-first _ (linkCount f) (both .0) e h);
       most-changes = rest-of f (both .1) .0;
       most-steps = rest-of f (both .1) .1;
       size = rest-of f (both .1) .2;
     }
       where
-        both : (linksRefusal f ≡ 0) × (restRefusal f ≡ 0)
+        both : (linksRefusal format f ≡ 0) × (restRefusal f ≡ 0)
         both =
-            elim (ℕ-discrete (linksRefusal f) 0) [
-              | yes e ↦ (e, sym (file-rest f (omega arith) b (omega arith) (omega arith) e) ∙ z)
-              | no g ↦ absurd (g (sym (file-link f (omega arith) b (omega arith) (omega arith) g) ∙ z))
+            elim (ℕ-discrete (linksRefusal format f) 0) [
+              | yes e ↦ (e, sym (file-rest format f (omega arith) b (omega arith) (omega arith) e) ∙ z)
+              | no g ↦ absurd (g (sym (file-link format f (omega arith) b (omega arith) (omega arith) g) ∙ z))
             ]
 
-pub of-accepted : (f : List ℕ) → Accepted f → fileRefusal f ≡ 0
-of-accepted f good =
+pub of-accepted : (format : Format) (f : List ℕ) → Accepted format f → fileRefusal format f ≡ 0
+of-accepted format f good =
     let size = good .size in
-    file-rest f (omega arith) (good .routers-in) (omega arith) (good .most-links) each-passes
+    file-rest format f (omega arith) (good .routers-in) (omega arith) (good .most-links) each-passes
     ∙ rest-passes f (omega arith) (good .most-changes) (omega arith) (good .most-steps) (omega arith) (omega arith)
   where
-    link-passes : (e : ℕ) → e < linkCount f → linkRefusal (routers f) (links f) e ≡ 0
-    link-passes e h =
-        let l = good .each-link e h in
-        let x = l .entry in
-        link-whole (routers f) (links f) e (l .whole)
-        ∙ listed-passes (routers f) (links f) e
-        (faultless (routers f) (entryOf (links f) e) (x .from-in) (x .to-in) (x .apart) (x .some)) (l .new)
-
-    each-passes : linksRefusal f ≡ 0
-    each-passes = first-none (linkRefusal (routers f) (links f)) (linkCount f) link-passes
+    each-passes : linksRefusal format f ≡ 0
+    each-passes =
+        first-none (linkRefusal format (routers f) (links f)) (linkCount f)
+        (λ e h. link-passes format (routers f) (links f) e (good .each-link e h))

@@ -1,13 +1,15 @@
--- Laws of Read, for its callers and its readers.
+-- Laws of Read and of the old reader, for their callers and their readers.
+--     links-most, accepted-largest, second-byte        a file that is accepted in either format: its links and its
+--                                                      bytes are so many at most, and its second byte is at most 3
 --     table-sized, file-passed, file-accepted          what is known where Read refuses nothing
 --     link-cell, other-cell, cell-link                 then the table holds the listed links, and nothing else
 --     file-size, file-largest                          the length of the file, by its counts, and at most
---     second-byte                                      its second byte is at most 3
 --     changes-length, steps-length, changes-count      the parts that Plan and Step get
---     contents-n, contents-changes, contents-steps     what the file says of itself
+--     contents-n, .. contents-steps                    what the file says of itself
 --     no-contents-n, no-contents-changes               and what is handed back with a refusal
 --     long-refused     a file that is longer than the largest is refused
---     first-bytes      the first bytes of a file, one more than the largest has, decide all that Read does
+--     first-refusal    the first bytes of a file, one more than the largest has, decide how it is refused
+--     first-bytes      and all that Read does
 --
 -- Why the first bytes decide: a file longer than `largest` is refused, and so is what is cut from it. Both have the
 -- same bytes up to `largest`; a count that is not refused leaves the next count below that place, so both go down the
@@ -29,12 +31,14 @@ use Rattle.area.specs.SizeLaws.{router-count-most}
 use Rattle.area.specs.Tables.{cell}
 use Rattle.area.specs.TableLaws.{cell-tabulate}
 use Rattle.entries.specs.Entries.{entryCount, entryOf, from, to, metric, isForPair, listedMetric}
-use Rattle.entries.specs.EntryLaws.{entry-count-is, entry-count-least, entry-same, listed-same}
+use Rattle.entries.specs.EntryLaws.{entry-count-is, entry-count-least, entry-same}
 use Rattle.entries.specs.EntryLaws.{given-none, given-cases, given-at}
 use Rattle.bench_file.specs.Sections.{two, routers, linkCount, links, changeCountAt, changeCount, changesAt}
 use Rattle.bench_file.specs.Sections.{changes, stepCountAt, stepCount, stepsAt, steps, largest}
+use Rattle.bench_file.specs.declared.Format.{Format}
+use Rattle.bench_file.specs.declared.Format.the-variants.{New}
 use Rattle.bench_file.specs.Faults.{mostLinks, linkRefusal, linksRefusal, restRefusal, fileRefusal}
-use Rattle.bench_file.specs.FaultLaws.{most-links-is, pairs-most, Accepted, accepted-of, link-whole}
+use Rattle.bench_file.specs.FaultLaws.{most-links-is, pairs-most, Accepted, accepted-of, link-same}
 use Rattle.bench_file.specs.FaultLaws.{rest-many-changes, rest-many-steps, rest-more}
 use Rattle.bench_file.specs.FaultLaws.{file-count, file-many, file-link, file-rest}
 use Rattle.bench_file.specs.Read.{readRefusal, contents, noContents, contentsOf, linked, metricsOf}
@@ -43,7 +47,7 @@ use Rattle.bench_file.specs.ReadLaws.{metrics-kept, metrics-refused, met
 
 -- ---- the largest file
 -- so many links there are at most, where their count is not refused
-links-most :
+pub links-most :
     (f : List ℕ)
     → isRouterCount (routers f) ≡ true
     → linkCount f ≤ mostLinks (routers f)
@@ -52,10 +56,14 @@ links-most f a b =
     let most = pairs-most (routers f) (router-count-most (routers f) a) in
     omega (arith, most-links-is (routers f))
 
-pub accepted-largest : (f : List ℕ) → Accepted f → length f ≤ largest
-accepted-largest f good =
+pub accepted-largest : (format : Format) (f : List ℕ) → Accepted format f → length f ≤ largest
+accepted-largest format f good =
     let few-links = links-most f (good .routers-in) (good .most-links) in
     omega (arith, good .size, good .most-changes, good .most-steps, few-links)
+
+-- the high byte of the link count, which is at most 992
+pub second-byte : (format : Format) (f : List ℕ) → Accepted format f → getD f 1 0 ≤ 3
+second-byte format f good = omega (arith, links-most f (good .routers-in) (good .most-links))
 
 -- ---- a file that Read does not refuse
 module _ (f t : List ℕ) (z : readRefusal f t ≡ 0) where
@@ -68,11 +76,11 @@ module _ (f t : List ℕ) (z : readRefusal f t ≡ 0) where
       ]
 
   -- the file by itself is not refused
-  pub file-passed : fileRefusal f ≡ 0
+  pub file-passed : fileRefusal New f ≡ 0
   file-passed = sym (read-file f t table-sized) ∙ z
 
-  pub file-accepted : Accepted f
-  file-accepted = accepted-of f file-passed
+  pub file-accepted : Accepted New f
+  file-accepted = accepted-of New f file-passed
 
   -- the cells of the table
   cells :
@@ -82,7 +90,7 @@ module _ (f t : List ℕ) (z : readRefusal f t ≡ 0) where
       → cell width (metricsOf f t) i j ≡ listedMetric (links f) (linkCount f) i j unused
   unfolding linked
   cells i j a b =
-      ap (λ (m : List ℕ). cell width m i j) (metrics-accepted f t table-sized file-passed)
+      ap (λ (m : List ℕ). cell width m i j) (metrics-accepted New f t table-sized file-passed)
       ∙ cell-tabulate width (λ i j. listedMetric (links f) (linkCount f) i j unused) i j a b
 
   -- The links that the file lists are what the table holds: the cell of each listed pair has the metric of its link,
@@ -126,11 +134,7 @@ module _ (f t : List ℕ) (z : readRefusal f t ≡ 0) where
   file-size = omega (arith, file-accepted .size)
 
   pub file-largest : length f ≤ largest
-  file-largest = accepted-largest f file-accepted
-
-  -- the high byte of the link count, which is at most 992
-  pub second-byte : getD f 1 0 ≤ 3
-  second-byte = omega (arith, links-most f (file-accepted .routers-in) (file-accepted .most-links))
+  file-largest = accepted-largest New f file-accepted
 
   -- The parts that Plan and Step get lie in the file: they are as long as their counts say.
   pub changes-length : length (changes f) ≡ 5 * changeCount f
@@ -151,6 +155,10 @@ module _ (f : List ℕ) where
   pub contents-n : contents f .n ≡ routers f
   unfolding contents
   contents-n = refl
+
+  pub contents-links : contents f .links ≡ linkCount f
+  unfolding contents
+  contents-links = refl
 
   pub contents-changes :
       (contents f .changes .at ≡ changesAt f)
@@ -174,18 +182,15 @@ unfolding noContents
 no-contents-changes = (refl, refl)
 
 -- ---- a file that is longer than the largest
-pub long-refused : (f : List ℕ) → largest < length f → fileRefusal f ≢ 0
-long-refused f long z = let most = accepted-largest f (accepted-of f z) in let x : ⊥ = omega arith in x
-
--- Read does the same with both files
-abbrev pub Alike : (f g t : List ℕ) → Type 0
-Alike f g t =
-    (readRefusal f t ≡ readRefusal g t)
-    × (contentsOf f t ≡ contentsOf g t)
-    × (metricsOf f t ≡ metricsOf g t)
+pub long-refused : (format : Format) (f : List ℕ) → largest < length f → fileRefusal format f ≢ 0
+long-refused format f long z =
+    let most = accepted-largest format f (accepted-of format f z) in
+    let x : ⊥ = omega arith in
+    x
 
 -- two such files, with the same bytes at every place up to `largest`
 module _
+    (format : Format)
     (f g : List ℕ)
     (long-f : largest < length f)
     (long-g : largest < length g)
@@ -215,17 +220,16 @@ module _
       same-link :
           (e : ℕ)
           → e < linkCount f
-          → linkRefusal (routers f) (links f) e ≡ linkRefusal (routers g) (links g) e
+          → linkRefusal format (routers f) (links f) e ≡ linkRefusal format (routers g) (links g) e
       same-link e h =
-          link-whole (routers f) (links f) e (whole f long-f e h)
-          ∙ listed-same (routers f) (links f) (links g) e (λ d b. same-entry d (omega arith))
-          ∙ sym (link-whole (routers f) (links g) e (whole g long-g e h))
-          ∙ ap (λ (n : ℕ). linkRefusal n (links g) e) same-routers
+          link-same format (routers f) (links f) (links g) e (whole f long-f e h) (whole g long-g e h)
+          (λ d b. same-entry d (omega arith))
+          ∙ ap (λ (n : ℕ). linkRefusal format n (links g) e) same-routers
 
-      same-first : linksRefusal f ≡ linksRefusal g
+      same-first : linksRefusal format f ≡ linksRefusal format g
       same-first =
-          first-same (linkCount f) (linkRefusal (routers f) (links f)) (linkRefusal (routers g) (links g)) same-link
-          ∙ ap (λ (k : ℕ). first k (linkRefusal (routers g) (links g))) same-count
+          first-same (linkCount f) (linkRefusal format (routers f) (links f)) _ same-link
+          ∙ ap (λ (k : ℕ). first k (linkRefusal format (routers g) (links g))) same-count
 
       same-changes : changeCount f ≡ changeCount g
       same-changes = same (changeCountAt f) (omega arith) ∙ ap (λ (k : ℕ). getD g (3 + 5 * k) 0) same-count
@@ -254,7 +258,7 @@ module _
               rest-more f (omega arith) (omega arith) (omega arith) (omega arith) (omega arith) (omega arith)
               ∙ sym (rest-more g (omega arith) (omega arith) (omega arith) (omega arith) (omega arith) (omega arith))
 
-    same-refusal : fileRefusal f ≡ fileRefusal g
+    same-refusal : fileRefusal format f ≡ fileRefusal format g
     same-refusal = by-tests (look (isRouterCount (routers f))) (decLt (mostLinks (routers f)) (linkCount f))
       where
         same-range : isRouterCount (routers g) ≡ isRouterCount (routers f)
@@ -266,13 +270,15 @@ module _
         by-tests :
             (isRouterCount (routers f) ≡ true) ⊎ (isRouterCount (routers f) ≡ false)
             → Dec (mostLinks (routers f) < linkCount f)
-            → fileRefusal f ≡ fileRefusal g
-        by-tests (inr b) d = file-count f (omega arith) b ∙ sym (file-count g (omega arith) (same-range ∙ b))
+            → fileRefusal format f ≡ fileRefusal format g
+        by-tests (inr b) d =
+            file-count format f (omega arith) b
+            ∙ sym (file-count format g (omega arith) (same-range ∙ b))
         by-tests (inl b) (yes d) =
             let many-g : mostLinks (routers g) < linkCount g = omega (arith, same-pairs, same-count) in
-            file-many f (omega arith) b (omega arith) d
-            ∙ sym (file-many g (omega arith) (same-range ∙ b) (omega arith) many-g)
-        by-tests (inl b) (no d) = by-links (ℕ-discrete (linksRefusal f) 0)
+            file-many format f (omega arith) b (omega arith) d
+            ∙ sym (file-many format g (omega arith) (same-range ∙ b) (omega arith) many-g)
+        by-tests (inl b) (no d) = by-links (ℕ-discrete (linksRefusal format f) 0)
           where
             few-f : linkCount f ≤ mostLinks (routers f)
             few-f = omega arith
@@ -283,40 +289,69 @@ module _
             most : linkCount f ≤ width * (width - 1)
             most = links-most f b few-f
 
-            by-links : Dec (linksRefusal f ≡ 0) → fileRefusal f ≡ fileRefusal g
+            by-links : Dec (linksRefusal format f ≡ 0) → fileRefusal format f ≡ fileRefusal format g
             by-links (yes e) =
-                file-rest f (omega arith) b (omega arith) few-f e
+                file-rest format f (omega arith) b (omega arith) few-f e
                 ∙ same-rest most
-                ∙ sym (file-rest g (omega arith) (same-range ∙ b) (omega arith) few-g (sym (same-first most) ∙ e))
+                ∙ sym
+                (file-rest format g (omega arith) (same-range ∙ b) (omega arith) few-g (sym (same-first most) ∙ e))
             by-links (no e) =
-                file-link f (omega arith) b (omega arith) few-f e
+                file-link format f (omega arith) b (omega arith) few-f e
                 ∙ same-first most
                 ∙ sym
-                (file-link g (omega arith) (same-range ∙ b) (omega arith) few-g (λ z. e (same-first most ∙ z)))
+                (file-link format g (omega arith) (same-range ∙ b) (omega arith) few-g
+                (λ z. e (same-first most ∙ z)))
 
-    same-read : (t : List ℕ) → Alike f g t
-    same-read t = by-size (ℕ-discrete (length t) (width * width))
-      where
-        same-contents :
-            readRefusal f t ≢ 0
-            → readRefusal f t ≡ readRefusal g t
-            → contentsOf f t ≡ contentsOf g t
-        same-contents bad r = contents-refused f t bad ∙ sym (contents-refused g t (λ z. bad (r ∙ z)))
+-- So the first bytes of an input are enough, if they are more than the largest file has: for its refusal,
+pub first-refusal :
+    (format : Format) (f : List ℕ) (k : ℕ)
+    → largest < k
+    → fileRefusal format (take k f) ≡ fileRefusal format f
+first-refusal format f k more = by-length (decLt k (length f))
+  where
+    by-length : Dec (k < length f) → fileRefusal format (take k f) ≡ fileRefusal format f
+    by-length (no a) = ap (fileRefusal format) (take-all k f (omega arith))
+    by-length (yes a) =
+        let size = length-take-le k f (omega arith) in
+        same-refusal format (take k f) f (omega arith) (omega arith) (λ i h. getD-take k f i 0 (omega arith))
 
-        by-size : Dec (length t ≡ width * width) → Alike f g t
-        by-size (yes a) =
-            let r = read-file f t a ∙ same-refusal ∙ sym (read-file g t a) in
-            let bad = long-refused f long-f in (
-              r,
-              same-contents (λ z. bad (sym (read-file f t a) ∙ z)) r,
-              metrics-refused f t a bad ∙ sym (metrics-refused g t a (long-refused g long-g)),
-            )
-        by-size (no a) =
-            let size = read-size f t a in
-            let r = size ∙ sym (read-size g t a) in
-            (r, same-contents (λ z. let x : ⊥ = omega arith in x) r, metrics-kept f t a ∙ sym (metrics-kept g t a))
+-- Read does the same with both files
+abbrev pub Alike : (f g t : List ℕ) → Type 0
+Alike f g t =
+    (readRefusal f t ≡ readRefusal g t)
+    × (contentsOf f t ≡ contentsOf g t)
+    × (metricsOf f t ≡ metricsOf g t)
 
--- So the first bytes of an input are enough, if they are more than the largest file has.
+-- where both are refused, and for the same reason
+refused-alike :
+    (f g t : List ℕ)
+    → fileRefusal New f ≢ 0
+    → fileRefusal New f ≡ fileRefusal New g
+    → Alike f g t
+refused-alike f g t bad same = by-size (ℕ-discrete (length t) (width * width))
+  where
+    same-contents :
+        readRefusal f t ≢ 0
+        → readRefusal f t ≡ readRefusal g t
+        → contentsOf f t ≡ contentsOf g t
+    same-contents some r = contents-refused f t some ∙ sym (contents-refused g t (λ z. some (r ∙ z)))
+
+    by-size : Dec (length t ≡ width * width) → Alike f g t
+    by-size (yes a) =
+        let r = read-file f t a ∙ same ∙ sym (read-file g t a) in (
+          r,
+          same-contents (λ z. bad (sym (read-file f t a) ∙ z)) r,
+          metrics-refused New f t a bad ∙ sym (metrics-refused New g t a (λ z. bad (same ∙ z))),
+        )
+    by-size (no a) =
+        let size = read-size f t a in
+        let r = size ∙ sym (read-size g t a) in (
+          r,
+          same-contents (λ z. let x : ⊥ = omega arith in x) r,
+          metrics-kept New f t a ∙ sym (metrics-kept New g t a),
+        )
+
+-- and so for all that Read does.
 pub first-bytes : (f t : List ℕ) (k : ℕ) → largest < k → Alike (take k f) f t
 first-bytes f t k more = by-length (decLt k (length f))
   where
@@ -329,4 +364,4 @@ first-bytes f t k more = by-length (decLt k (length f))
         )
     by-length (yes a) =
         let size = length-take-le k f (omega arith) in
-        same-read (take k f) f (omega arith) (omega arith) (λ i h. getD-take k f i 0 (omega arith)) t
+        refused-alike (take k f) f t (long-refused New (take k f) (omega arith)) (first-refusal New f k more)

@@ -18,17 +18,18 @@ use lib.Dec.{ltb, eqb}
 use lib.ListN.{length, getD, length-drop, List·getD-eq-default}
 use lib.Seq.{getD-drop}
 use borrow.Author.Tests.{lt-ltb, le-ltb, ne-eqb, ltb-true}
-use Rattle.area.specs.Limits.{width}
+use Rattle.area.specs.Limits.{width, unused}
 use Rattle.area.specs.Tests.{pick}
 use Rattle.area.specs.TestLaws.{look}
 use Rattle.area.specs.SizeLaws.{router-count-true}
 use Rattle.area.specs.Tables.{build}
 use Rattle.area.specs.TableLaws.{length-build, build-at}
-use Rattle.entries.specs.Entries.{entryCount, from, to, metric, isForPair}
+use Rattle.entries.specs.Entries.{entryCount, entryOf, from, to, metric, isForPair}
 use Rattle.entries.specs.EntryLaws.{entry-count-least, entry-bytes, of-pair, free-true}
 use Rattle.bench_file.specs.Sections.{two, routers, linkCount, links}
 use Rattle.bench_file.specs.Sections.{changeCount, stepCountAt, stepCount, largest}
-use Rattle.bench_file.specs.FaultLaws.{most-links-is, Link, Accepted, of-accepted}
+use Rattle.bench_file.specs.declared.Format.the-variants.{New}
+use Rattle.bench_file.specs.FaultLaws.{most-links-is, live-passes, Link, Accepted, of-accepted}
 use Rattle.bench_file.specs.Read.{readRefusal}
 use Rattle.bench_file.specs.ReadLaws.{read-file}
 
@@ -189,7 +190,7 @@ other-pair d e b h =
     (λ f. f)
     (look (isForPair l d (from l e) (to l e)))
 
-link-is : (e : ℕ) → e < 992 → Link (routers largestFile) (links largestFile) e
+link-is : (e : ℕ) → e < 992 → Link New (routers largestFile) (links largestFile) e
 link-is e h =
     let l = links largestFile in
     record {
@@ -200,11 +201,12 @@ link-is e h =
         apart = λ q. to-other e (sym (from-is e h) ∙ q ∙ to-is e h);
         some = λ z. omega (arith, metric-is e h);
       };
+      taken = live-passes New (entryOf l e) (ne-eqb (metric l e) unused (λ q. omega (arith, metric-is e h)));
       new = free-true l e (from l e) (to l e) (λ d b. other-pair d e b h);
     }
 
 -- ---- Read
-pub largest-accepted : Accepted largestFile
+pub largest-accepted : Accepted New largestFile
 largest-accepted = record {
   routers-in = router-count-true (routers largestFile) (omega (arith, has-routers)) (omega (arith, has-routers));
   most-links =
@@ -218,4 +220,4 @@ largest-accepted = record {
 
 -- with any table of the right size
 pub largest-read : (t : List ℕ) → length t ≡ width * width → readRefusal largestFile t ≡ 0
-largest-read t a = read-file largestFile t a ∙ of-accepted largestFile largest-accepted
+largest-read t a = read-file largestFile t a ∙ of-accepted New largestFile largest-accepted

@@ -1,5 +1,6 @@
 -- Read (01, "The bench file"), for every file f and every table t: its answer, what it says of the file, and what the
--- metric table holds when it returns.
+-- metric table holds when it returns. Read is the reader of the new format; what a reader of either format gives is
+-- defined with the format as a parameter.
 use Prim.Native.Nat.{ℕ}
 use mathlib.Core.List.{List, []}
 use lib.Dec.{eqb}
@@ -11,11 +12,13 @@ use Rattle.area.specs.Tables.{tabulate}
 use Rattle.entries.specs.Entries.{listedMetric}
 use Rattle.bench_file.specs.Sections.{routers, linkCount, links, changeCount, changesAt, stepCount, stepsAt}
 use Rattle.bench_file.specs.Faults.{fileRefusal}
+use Rattle.bench_file.specs.declared.Format.{Format}
+use Rattle.bench_file.specs.declared.Format.the-variants.{New}
 use Rattle.bench_file.specs.declared.Contents.{Contents}
 
 -- the number of the answer: a table of the wrong size comes before every fault of the file
 unfoldable pub readRefusal : (f t : List ℕ) → ℕ
-readRefusal f t = pick (isTable t) (fileRefusal f) tableSize
+readRefusal f t = pick (isTable t) (fileRefusal New f) tableSize
 
 -- what an accepted file says of itself, and what is handed back with a refusal
 unfoldable pub contents : (f : List ℕ) → Contents
@@ -36,6 +39,9 @@ noContents =
       steps = record { count = 0; at = 0 };
     }
 
+unfoldable pub contentsBy : (format : Format) (f : List ℕ) → Contents
+contentsBy format f = pick (eqb (fileRefusal format f) 0) (contents f) noContents
+
 unfoldable pub contentsOf : (f t : List ℕ) → Contents
 contentsOf f t = pick (eqb (readRefusal f t) 0) (contents f) noContents
 
@@ -45,9 +51,13 @@ linked l k = tabulate width (λ i j. listedMetric l k i j unused)
 
 -- The table at exit: as it was where its size is wrong; and else that of the links where the file is accepted, and no
 -- link where it is refused.
-unfoldable pub metricsOf : (f t : List ℕ) → List ℕ
-metricsOf f t =
+unfoldable pub metricsBy : (format : Format) (f t : List ℕ) → List ℕ
+metricsBy format f t =
     pick (isTable t)
-    (pick (eqb (fileRefusal f) 0) (linked (links f) (linkCount f))
+    (pick (eqb (fileRefusal format f) 0) (linked (links f) (linkCount f))
     (linked [] 0))
     t
+
+-- that of Read
+abbrev pub metricsOf : (f t : List ℕ) → List ℕ
+metricsOf f t = metricsBy New f t

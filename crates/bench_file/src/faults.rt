@@ -1,15 +1,18 @@
-// Whether a file is accepted: its first fault, in the order of the bytes.
+// Whether a file is accepted: its first fault, in the order of the bytes. The format says whether dead links may stand
+// among its links.
 //     judge    the file: n, the link count, the links, and then the rest
 //     links    the links that the count announces
-//     link     one of them, beside the pairs of those before it
+//     link     one of them, beside the pairs of those before it; `is_barred` where it is dead
 //     rest     what follows the links
 // What the faults are is specs/Faults.antt; that `seen` tells a repeated pair is proofs/Pairs.antt.
+use crate::Format;
 use crate::bytes::byte;
 use crate::bytes::two;
 use area::limits::ENTRY;
 use area::limits::MOST_CHANGES;
 use area::limits::MOST_STEPS;
 use area::limits::STEP;
+use area::limits::UNUSED;
 use area::limits::WIDTH;
 use area::refusal::Refusal;
 use area::refusal::Verdict;
@@ -22,13 +25,14 @@ use sets::member;
 ghost use mathlib.Core.Path.{_≡_};
 ghost use Prim.Native.Nat.{_≤_, _*_};
 ghost use Rattle.area.specs.Limits.{width};
-ghost use Rattle.area.specs.Refusals.{verdictNumber};
-ghost use Rattle.area.specs.Tests.{first};
+ghost use Rattle.area.specs.Refusals.{verdictNumber, deadLink};
+ghost use Rattle.area.specs.Tests.{pick, first};
 ghost use Rattle.bench_file.specs.Sections.{linkCount};
-ghost use Rattle.bench_file.specs.Faults.{linkRefusal, restRefusal, fileRefusal, seenRefusal};
+ghost use Rattle.bench_file.specs.Formats.{takesDead};
+ghost use Rattle.bench_file.specs.Faults.{deadRefusal, linkRefusal, restRefusal, fileRefusal, seenRefusal};
 
-pub(crate) fn judge(file: &[u8]) -> Verdict
-    ensures { λ r. ⌜ verdictNumber r ≡ fileRefusal (now (file .entry)) ⌝ }
+pub(crate) fn judge(format: Format, file: &[u8]) -> Verdict
+    ensures { λ r. ⌜ verdictNumber r ≡ fileRefusal format (now (file .entry)) ⌝ }
 {
     if file.len() < 1 {
         return Verdict::Refused(Refusal::Incomplete);
@@ -47,7 +51,7 @@ pub(crate) fn judge(file: &[u8]) -> Verdict
     if n * (n - 1) < announced {
         return Verdict::Refused(Refusal::TooMany);
     }
-    let answer = links(n, &file[3..], announced);
+    let answer = links(format, n, &file[3..], announced);
     if !answer.is_accepted() {
         return answer;
     }
@@ -55,11 +59,11 @@ pub(crate) fn judge(file: &[u8]) -> Verdict
 }
 
 // `list` is the bytes from the first link on.
-fn links(n: usize, list: &[u8], announced: usize) -> Verdict
+fn links(format: Format, n: usize, list: &[u8], announced: usize) -> Verdict
     requires { ⌜ n ≤ width ⌝ }
-    ensures { λ r. ⌜ verdictNumber r ≡ first announced (linkRefusal n (now (list .entry))) ⌝ }
+    ensures { λ r. ⌜ verdictNumber r ≡ first announced (linkRefusal format n (now (list .entry))) ⌝ }
 {
-    // Set i holds every j of a link from i to j. The metric table can't tell: an unused link leaves no trace there.
+    // Set i holds every j of a link from i to j. The metric table can't tell: a dead link leaves no trace there.
     let mut seen = [0u32; WIDTH];
     let whole = count(list);
     for e in 0..announced {
@@ -67,7 +71,7 @@ fn links(n: usize, list: &[u8], announced: usize) -> Verdict
             return Verdict::Refused(Refusal::Incomplete);
         }
         let entry = decode(list, e);
-        let answer = link(n, entry, &seen);
+        let answer = link(format, n, entry, &seen);
         if !answer.is_accepted() {
             return answer;
         }
@@ -78,13 +82,16 @@ fn links(n: usize, list: &[u8], announced: usize) -> Verdict
     Verdict::Accepted
 }
 
-fn link(n: usize, entry: Entry, seen: &[u32; WIDTH]) -> Verdict
+fn link(format: Format, n: usize, entry: Entry, seen: &[u32; WIDTH]) -> Verdict
     requires { ⌜ n ≤ width ⌝ }
-    ensures { λ r. ⌜ verdictNumber r ≡ seenRefusal n entry (now (seen .entry)) ⌝ }
+    ensures { λ r. ⌜ verdictNumber r ≡ seenRefusal format n entry (now (seen .entry)) ⌝ }
 {
     let answer = check(n, entry);
     if !answer.is_accepted() {
         return answer;
+    }
+    if is_barred(format, entry) {
+        return Verdict::Refused(Refusal::DeadLink);
     }
     let from = entry.from;
     let to = entry.to;
@@ -92,6 +99,25 @@ fn link(n: usize, entry: Entry, seen: &[u32; WIDTH]) -> Verdict
         return Verdict::Refused(Refusal::Repeated);
     }
     Verdict::Accepted
+}
+
+// Is the link dead, in a format that takes none such?
+fn is_barred(format: Format, entry: Entry) -> bool
+    ensures { λ r. ⌜ deadRefusal format entry ≡ pick r deadLink 0 ⌝ }
+{
+    if takes_dead(format) {
+        return false;
+    }
+    entry.metric == UNUSED
+}
+
+fn takes_dead(format: Format) -> bool
+    ensures { λ r. ⌜ r ≡ takesDead format ⌝ }
+{
+    match format {
+        Format::Old => true,
+        Format::New => false,
+    }
 }
 
 // `links` is their number. Each count is tested before what it counts.

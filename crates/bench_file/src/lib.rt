@@ -2,10 +2,11 @@
 //     bytes        a byte, and two bytes, as a number
 //     faults       judge: the first fault in the order of the bytes
 //     metrics      clear and put: the metric table of the links
-//     read         Read: judges the file, fills the table, and says where changes and steps begin
-// Definitions, in reading order: specs/Sections.antt (what stands where), Faults.antt (the refusals), Read.antt (the
-// promise). What a caller may conclude from them is specs/FileLaws.antt; the loops' arguments are proofs/Pairs.antt
-// (repeated pairs) and proofs/Linking.antt (the table).
+//     examine      judges a file of either format, and says where changes and steps begin
+//     read         Read: the same in the new format, and fills the table
+// Definitions, in reading order: specs/Formats.antt (how the formats differ), Sections.antt (what stands where),
+// Faults.antt (the refusals), Read.antt (the promise). What a caller may conclude from them is specs/FileLaws.antt; the
+// loops' arguments are proofs/Pairs.antt (repeated pairs) and proofs/Linking.antt (the table).
 mod bytes;
 mod faults;
 mod metrics;
@@ -21,7 +22,14 @@ ghost use mathlib.Core.Path.{_≡_};
 ghost use lib.ListN.{length};
 ghost use Rattle.area.specs.Refusals.{verdictNumber};
 ghost use Rattle.bench_file.specs.Sections.{end};
-ghost use Rattle.bench_file.specs.Read.{readRefusal, contents, noContents, contentsOf, metricsOf};
+ghost use Rattle.bench_file.specs.Faults.{fileRefusal};
+ghost use Rattle.bench_file.specs.Read.{readRefusal, contents, noContents, contentsBy, contentsOf, metricsOf};
+
+// The format of stored files, in which links may be listed that are not used, and the format of Read.
+pub enum Format {
+    Old,
+    New,
+}
 
 // How many entries or steps a section has, and the place of its first byte in the file.
 pub struct Section {
@@ -62,16 +70,35 @@ pub fn read(file: &[u8], table: &mut [u32]) -> BenchFile
         };
     }
     metrics::clear(table);
-    let answer = judge(file);
+    let found = examine(Format::New, file);
+    let answer = found.answer;
+    if !answer.is_accepted() {
+        return found;
+    }
+    metrics::put(&file[3..], found.contents.links, table);
+    found
+}
+
+// Judges a file, and gives what it says of itself where it is accepted.
+pub fn examine(format: Format, file: &[u8]) -> BenchFile
+    ensures answer { λ r. ⌜
+        verdictNumber (r .answer)
+        ≡ fileRefusal format (now (file .entry)) ⌝ }
+    ensures contents { λ r. ⌜
+        r .contents
+        ≡ contentsBy format (now (file .entry)) ⌝ }
+{
+    let answer = judge(format, file);
     if !answer.is_accepted() {
         return BenchFile {
             answer,
             contents: no_contents(),
         };
     }
-    let contents = describe(file);
-    metrics::put(&file[3..], contents.links, table);
-    BenchFile { answer, contents }
+    BenchFile {
+        answer,
+        contents: describe(file),
+    }
 }
 
 // What an accepted file says of itself.

@@ -4,17 +4,17 @@
 --                          the fields of an entry that code has read, and the cell of its pair
 --     entry-count-is, entry-count-least, entry-count-same
 --                          how many entries a list has
---     entry-bytes, entry-same
+--     entry-bytes, entry-moved, entry-same
 --                          an entry by its five bytes
 --     joined-count, joined-left, joined-right
 --                          the entries of two lists joined
 --     metric-fits          a metric of three bytes is at most `unused`
 --     of-pair, pair-of     the pair of an entry
---     free-none, free-true, free-false, free-taken, free-kept, free-other
+--     free-none, free-true, free-false, free-taken, free-kept, free-other, free-same
 --                          a pair that no entry is of
 --     Faultless, faulty-from, .. faultless-of
 --                          the refusals of an entry by itself, each where it is given
---     listed-faulty, listed-free, listed-repeated, listed-passes, listed-sound, listed-same
+--     listed-faulty, listed-free, listed-repeated, listed-passes, listed-sound
 --                          the refusals of an entry of a list
 --     given-start, given-next, given-more, given-kept, given-none, given-cases, given-at
 --                          the metric that a list gives a pair
@@ -33,7 +33,7 @@ use lib.Seq.{getD-set-same, getD-set-other, getD-append-add}
 use borrow.Author.Tests.{eqb-true, lt-ltb, le-ltb, eq-eqb, ne-eqb, not-true}
 use Rattle.area.specs.Limits.{width, unused}
 use Rattle.area.specs.Refusals.{unknownRouter, selfLink, badMetric, repeated}
-use Rattle.area.specs.Tests.{pick, orThen}
+use Rattle.area.specs.Tests.{pick}
 use Rattle.area.specs.Tables.{cell}
 use Rattle.area.specs.TestLaws.{look, both-true, and-true, and-false, and-one}
 use Rattle.area.specs.TestLaws.{all-none, all-next, all-at, all-true, all-false, then-some, then-none, then-both}
@@ -77,17 +77,31 @@ pub entry-bytes :
 unfolding entryOf
 entry-bytes l e h = rw (from, to, metric, lt-ltb e (entryCount l) h) (refl, refl, refl)
 
+-- the same five bytes at another place of another list
+pub entry-moved :
+    (l m : List ℕ) (e d : ℕ)
+    → e < entryCount l
+    → d < entryCount m
+    → ((i : ℕ) → i < 5 → getD l (5 * e + i) 0 ≡ getD m (5 * d + i) 0)
+    → entryOf l e ≡ entryOf m d
+unfolding entryOf
+entry-moved l m e d a b same =
+    rw (lt-ltb e (entryCount l) a, lt-ltb d (entryCount m) b)
+    (rw (start, same 1 (omega arith), same 2 (omega arith), same 3 (omega arith), same 4 (omega arith)) refl)
+  where
+    start : getD l (5 * e) 0 ≡ getD m (5 * d) 0
+    start =
+        let left : 5 * e ≡ 5 * e + 0 = omega arith in
+        let right : 5 * d + 0 ≡ 5 * d = omega arith in
+        ap (λ (x : ℕ). getD l x 0) left ∙ same 0 (omega arith) ∙ ap (λ (x : ℕ). getD m x 0) right
+
 pub entry-same :
     (l m : List ℕ) (e : ℕ)
     → e < entryCount l
     → e < entryCount m
     → ((i : ℕ) → i < 5 * e + 5 → getD l i 0 ≡ getD m i 0)
     → entryOf l e ≡ entryOf m e
-unfolding entryOf
-entry-same l m e a b same =
-    rw (lt-ltb e (entryCount l) a, lt-ltb e (entryCount m) b)
-    (rw (same (5 * e) (omega arith), same (5 * e + 1) (omega arith), same (5 * e + 2) (omega arith))
-    (rw (same (5 * e + 3) (omega arith), same (5 * e + 4) (omega arith)) refl))
+entry-same l m e a b same = entry-moved l m e e a b (λ i h. same (5 * e + i) (omega arith))
 
 -- ---- two lists joined, the first of whole entries: its entries, and then those of the second
 module _ (l k : List ℕ) (whole : length l % 5 ≡ 0) where
@@ -102,13 +116,10 @@ module _ (l k : List ℕ) (whole : length l % 5 ≡ 0) where
       (λ i h. List·getD-append l k 0 i (omega arith))
 
   pub joined-right : (e : ℕ) → e < entryCount k → entryOf (l ++ k) (entryCount l + e) ≡ entryOf k e
-  unfolding entryOf entryCount
+  unfolding entryCount
   joined-right e b =
-      let at = entryCount l + e in
-      rw (lt-ltb (entryCount l + e) (entryCount (l ++ k)) (omega (arith, joined-count)), lt-ltb e (entryCount k) b)
-      (rw (byte (5 * at) (5 * e) (omega arith), byte (5 * at + 1) (5 * e + 1) (omega arith))
-      (rw (byte (5 * at + 2) (5 * e + 2) (omega arith), byte (5 * at + 3) (5 * e + 3) (omega arith))
-      (rw (byte (5 * at + 4) (5 * e + 4) (omega arith)) refl)))
+      entry-moved (l ++ k) k (entryCount l + e) e (omega (arith, joined-count)) b
+      (λ i h. byte (5 * (entryCount l + e) + i) (5 * e + i) (omega arith))
     where
       byte : (x y : ℕ) → x ≡ length l + y → getD (l ++ k) x 0 ≡ getD k y 0
       byte x y q = ap (λ (z : ℕ). getD (l ++ k) z 0) q ∙ getD-append-add l k y 0
@@ -267,7 +278,7 @@ module _ (n : ℕ) (l : List ℕ) (e : ℕ) where
       never f q = let seven : repeated ≡ 0 = rw f at q in omega (arith, seven)
 
 -- two lists with the same entries up to e
-free-same :
+pub free-same :
     (l m : List ℕ) (k i j : ℕ)
     → ((d : ℕ) → d < k → entryOf l d ≡ entryOf m d)
     → isFree l k i j ≡ isFree m k i j
@@ -277,17 +288,6 @@ free-same l m (suc k) i j same =
     ∙ ap₂ _&&_ (free-same l m k i j (λ d h. same d (omega arith)))
     (ap (λ (x : Entry). not (eqb (x .from) i && eqb (x .to) j)) (same k (omega arith)))
     ∙ sym (free-next m k i j)
-
-pub listed-same :
-    (n : ℕ) (l m : List ℕ) (e : ℕ)
-    → ((d : ℕ) → d ≤ e → entryOf l d ≡ entryOf m d)
-    → listedRefusal n l e ≡ listedRefusal n m e
-unfolding listedRefusal
-listed-same n l m e same =
-    let free = free-same l m e (from m e) (to m e) (λ d h. same d (omega arith)) in
-    ap (λ (x : Entry). orThen (entryRefusal n x) (pick (isFree l e (x .from) (x .to)) 0 repeated))
-    (same e (omega arith))
-    ∙ ap (λ (b : Bool). orThen (entryRefusal n (entryOf m e)) (pick b 0 repeated)) free
 
 -- ---- the metric that a list gives a pair
 module _ (l : List ℕ) (k i j v : ℕ) where

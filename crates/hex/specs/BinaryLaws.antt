@@ -3,8 +3,8 @@
 --     text-more, text-end              a text, byte by byte
 --     hexed-text                       the text of a list of bytes is one
 --     text-control                     with a control byte anywhere it is none
---     accepted-binary                  no bench file that Read accepts is taken for a text: the high byte of its link
---                                      count is a control byte, 0 to 3
+--     accepted-binary                  no bench file of either format that is accepted is taken for a text: the high
+--                                      byte of its link count is a control byte, 0 to 3
 use Prim.Native.Nat.{ℕ, zero, suc, _+_, _/_, _%_, _≤_, _<_}
 use mathlib.Core.Path.{_≡_, refl, sym}
 use mathlib.Core.Bool.{Bool, true, false, not}
@@ -18,8 +18,10 @@ use lib.Dec.{ltb}
 use lib.ListN.{length, getD, drop, drop-of-length-le}
 use lib.Seq.{drop-cons}
 use Rattle.area.specs.TestLaws.{and-false, and-one}
-use Rattle.bench_file.specs.Read.{readRefusal}
-use Rattle.bench_file.specs.FileLaws.{file-size, second-byte}
+use Rattle.bench_file.specs.declared.Format.{Format}
+use Rattle.bench_file.specs.Faults.{fileRefusal}
+use Rattle.bench_file.specs.FaultLaws.{accepted-of}
+use Rattle.bench_file.specs.FileLaws.{second-byte}
 use Rattle.hex.specs.Hex.{isSpace, isControl, isText}
 use Rattle.hex.specs.ReadingLaws.{space-low}
 use Rattle.hex.specs.HexLaws.{glyph, hexed}
@@ -74,7 +76,8 @@ text-control (b ∷ l) zero h e = rw e refl
 text-control (b ∷ l) (suc k) h e =
     and-false (not (isControl b)) (isText l) (text-control l k (le-of-suc-le-suc h) e)
 
-pub accepted-binary : (f t : List ℕ) → readRefusal f t ≡ 0 → isText f ≡ false
-accepted-binary f t z =
-    let low = second-byte f t z in
-    text-control f 1 (omega (arith, file-size f t z)) (control-low (getD f 1 0) (omega arith))
+pub accepted-binary : (format : Format) (f : List ℕ) → fileRefusal format f ≡ 0 → isText f ≡ false
+accepted-binary format f z =
+    let good = accepted-of format f z in
+    let low = second-byte format f good in
+    text-control f 1 (omega (arith, good .size)) (control-low (getD f 1 0) (omega arith))

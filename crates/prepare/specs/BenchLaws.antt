@@ -25,6 +25,7 @@ use Rattle.plan.specs.Plan.{Tables, areTables, planRefusal, isPlanned, blank, r
 use Rattle.plan.specs.PlanLaws.{plan-count, planned-true, planned-false}
 use Rattle.plan.specs.PlanLaws.{record-planned, record-refused, tables-planned, tables-refused}
 use Rattle.bench_file.specs.Sections.{routers, changeCount, changesAt, changes, largest}
+use Rattle.bench_file.specs.declared.Format.the-variants.{New}
 use Rattle.bench_file.specs.FaultLaws.{Accepted}
 use Rattle.bench_file.specs.declared.Contents.{Contents}
 use Rattle.bench_file.specs.Read.{readRefusal, contents, contentsOf, metricsOf}
@@ -53,7 +54,7 @@ module _ (f m : List ℕ) where
     list-is = rw (starts, counted) refl
 
     old-is : metricsOf f m ≡ metrics f
-    old-is = metrics-accepted f m (table-sized f m z) (file-passed f m z)
+    old-is = metrics-accepted New f m (table-sized f m z) (file-passed f m z)
 
   refused-n : readRefusal f m ≢ 0 → contentsOf f m .n ≡ 0
   refused-n g = ap (λ (x : Contents). x .n) (contents-refused f m g) ∙ no-contents-n
@@ -83,7 +84,7 @@ module _ (f m : List ℕ) where
       pub read-passed : readRefusal f m ≡ 0
       read-passed = both .0
 
-      pub file-of : Accepted f
+      pub file-of : Accepted New f
       file-of = file-accepted f m read-passed
 
       pub record-passed : recordAt f m t ≡ planned f

@@ -20,18 +20,14 @@ use Rattle.machine.specs.Answers.{Reply, ok, ignored, refused}
 use Rattle.machine.specs.Machine.{dueOf, tellingOf}
 use Rattle.machine.specs.Run.{Call}
 use Rattle.text.specs.Text.{word}
-use Rattle.text.specs.TextLaws.{field-most, line-most}
+use Rattle.text.specs.TextLaws.{field-most, line-most, refused-most}
 use Rattle.report.specs.declared.lines.Path.{Path}
-use Rattle.report.specs.Lines.{refusedLine, routerLine, routerLines, answerText, stepLine, stepLines}
+use Rattle.report.specs.Lines.{routerLine, routerLines, answerText, stepLine, stepLines}
 use Rattle.report.specs.Lines.{pathText, routeLine, isPrinted, pairText, path, rowLines, routeLines}
 use Rattle.report.specs.Lines.{memberWord, memberText, setText, turnLine, turnLines}
 use Rattle.report.specs.Lines.{hexByte, countLine, callLine, callLines, stepSection}
 
 -- ---- one line
-refused-most : (k : ℕ) → length (refusedLine k) ≤ 19
-unfolding refusedLine
-refused-most k = line-most (word "refused ") k
-
 router-most : (i rank waits tells due : ℕ) → length (routerLine i rank waits tells due) ≤ 83
 unfolding routerLine
 router-most i rank waits tells due =

@@ -1,7 +1,7 @@
 -- Laws of the lines: what was appended part by part is the line, and what was appended line by line is all the lines.
 -- Each is `appended-then` of the crate text, which joins two parts, under the definition of a line: the first part goes
 -- from the buffer o and its end a to the next buffer, each other one goes on from there.
---     refused-is, refusal-line, refused-appended, .. router-appended    the lines of the rehearsal
+--     refused-appended, .. router-appended                              the lines of the rehearsal
 --     none-appended, path-appended, route-appended                      those of the routes
 --     printed-own, printed-old, printed-new, pair-printed, pair-none    the pairs that have a line
 --     routers-none, .. routes-more                                      no line, and one line or one row more
@@ -29,29 +29,19 @@ use Rattle.machine.specs.Machine.{stepOf}
 use Rattle.machine.specs.Run.{replies, callsOf}
 use Rattle.machine.specs.CallLaws.{replies-none, replies-next}
 use Rattle.text.specs.Text.{Appended, word, field, line}
-use Rattle.text.specs.TextLaws.{appended-none, appended-then, line-after}
+use Rattle.text.specs.TextLaws.{appended-none, appended-then, line-after, refused-is}
 use Rattle.report.specs.declared.lines.Path.{Path}
-use Rattle.report.specs.Lines.{refusedLine, routerLine, routerLineOf, routerLines}
+use Rattle.report.specs.Lines.{routerLine, routerLineOf, routerLines}
 use Rattle.report.specs.Lines.{answerText, stepLine, stepLines}
 use Rattle.report.specs.Lines.{pathText, routeLine, isPrinted, pairText, path, rowLines, routeLines}
 
 -- ---- the rehearsal
-pub refused-is : (k : ℕ) → refusedLine k ≡ line (word "refused ") k
-unfolding refusedLine
-refused-is k = refl
-
-pub refusal-line :
-    (k : ℕ) {o p : List ℕ} {a b : ℕ}
-    → Appended o a (line (word "refused ") k) p b
-    → Appended o a (refusedLine k) p b
-refusal-line k u = rw (refused-is k) u
-
 pub refused-appended :
     (k : ℕ) {o p : List ℕ} {a b : ℕ}
     → Appended o a (line (word " refused ") k) p b
     → Appended o a (answerText (refused k)) p b
-unfolding answerText refusedLine
-refused-appended k u = rw (line-after (word " ") (word "refused ") k) at u
+unfolding answerText
+refused-appended k u = rw (refused-is k) (rw (line-after (word " ") (word "refused ") k) at u)
 
 -- an answer, by its case
 module _ (x : Answer) {o q : List ℕ} {a b : ℕ} where

@@ -14,12 +14,8 @@ use Rattle.machine.specs.Answers.{Reply, ok, ignored, refused}
 use Rattle.machine.specs.Machine.{dueOf, tellingOf}
 use Rattle.machine.specs.Run.{Call}
 use Rattle.sheet.specs.Sheet.{sheetOf}
-use Rattle.text.specs.Text.{word, field, line}
+use Rattle.text.specs.Text.{word, field, line, refusedLine}
 use Rattle.report.specs.declared.lines.Path.{Path}
-
--- a refusal by its number
-unfoldable pub refusedLine : (number : ℕ) → List ℕ
-refusedLine number = line (word "refused ") number
 
 -- ---- the rehearsal
 -- router i, with its rank and its waiting, telling and due sets

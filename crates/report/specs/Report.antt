@@ -8,9 +8,9 @@ use Rattle.plan.specs.Plan.{Tables}
 use Rattle.machine.specs.Run.{replies, callsOf}
 use Rattle.bench_file.specs.Sections.{routers, steps}
 use Rattle.sheet.specs.Follow.{sheetCalls}
-use Rattle.text.specs.Text.{word}
+use Rattle.text.specs.Text.{word, refusedLine}
 use Rattle.prepare.specs.Bench.{refusal, planned, filledTables}
-use Rattle.report.specs.Lines.{refusedLine, routerLines, stepLines, routeLines, sheetLines, stepSection}
+use Rattle.report.specs.Lines.{routerLines, stepLines, routeLines, sheetLines, stepSection}
 
 -- the line of the refusal where there is one, and these lines where there is none
 abbrev pub unlessRefused : (number : ℕ) (lines : List ℕ) → List ℕ

@@ -35,12 +35,11 @@ use Rattle.bench_file.specs.declared.Section.{Section}
 use Rattle.bench_file.specs.Read.{contents, contentsOf}
 use Rattle.bench_file.specs.ReadLaws.{contents-accepted}
 use Rattle.bench_file.specs.FileLaws.{contents-steps}
-use Rattle.text.specs.Text.{Appended, word, line}
-use Rattle.text.specs.TextLaws.{appended-then}
+use Rattle.text.specs.Text.{Appended, word, line, refusedLine}
+use Rattle.text.specs.TextLaws.{appended-then, refused-is}
 use Rattle.prepare.specs.Bench.{metrics, refusal, planned, filledTables, recordAt, tablesAt}
 use Rattle.prepare.specs.BenchLaws.{read-passed, file-of, record-passed, tables-passed}
-use Rattle.report.specs.Lines.{refusedLine, routerLines, stepLines, routeLines, sheetLines, stepSection}
-use Rattle.report.specs.LineLaws.{refused-is}
+use Rattle.report.specs.Lines.{routerLines, stepLines, routeLines, sheetLines, stepSection}
 use Rattle.report.specs.Report.{unlessRefused, rehearsal, routes, sheetTurns, sheetSteps}
 
 -- the steps of a file, by where they are

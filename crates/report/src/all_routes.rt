@@ -1,10 +1,10 @@
 // The routes: distances and next-hop sets of every pair of routers, before the change and after it.
 use crate::lines::Path;
-use crate::lines::refused_line;
 use crate::lines::route_line;
 use area::limits::UNREACHED;
 use area::limits::WIDTH;
 use prepare::prepare;
+use text::refused_line;
 ghost use mathlib.Core.Path.{_≡_};
 ghost use Prim.Native.Nat.{_≤_, _<_};
 ghost use lib.ListN.{length};
@@ -76,7 +76,7 @@ fn printed(
         ⌜ Appended (now (out .entry)) 0 (unlessRefused number lines) (now (out .exit)) r ⌝ }
 {
     if number != 0 {
-        return refused_line(number, out, 0);
+        return refused_line(out, 0, number);
     }
     route_lines(n as usize, old_dist, old_hops, new_dist, new_hops, out)
 }

@@ -13,20 +13,13 @@ ghost use lib.ListN.{length};
 ghost use Rattle.area.specs.Limits.{width};
 ghost use Rattle.machine.specs.Answers.{replyOf};
 ghost use Rattle.text.specs.Text.{Appended, word, field};
-ghost use Rattle.report.specs.Lines.{refusedLine, routerLine, answerText, stepLine, pathText, routeLine};
+ghost use Rattle.report.specs.Lines.{routerLine, answerText, stepLine, pathText, routeLine};
 ghost use Rattle.report.specs.Lines.{memberWord, memberText, setText, turnLine};
 
 // The distance between two routers, and the next-hop set by which it is reached.
 pub struct Path {
     pub distance: u32,
     pub hops: u32,
-}
-
-// The line of a refusal, by its number.
-pub(crate) fn refused_line(number: u8, out: &mut [u8], at: usize) -> usize
-    ensures line { λ r. ⌜ Appended (now (out .entry)) at (refusedLine number) (now (out .exit)) r ⌝ }
-{
-    line(out, at, b"refused ", number as u32)
 }
 
 // The line of router i.

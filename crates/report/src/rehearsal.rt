@@ -1,5 +1,4 @@
 // The rehearsal: a line for each router, one for each step, and an end.
-use crate::lines::refused_line;
 use crate::lines::router_line;
 use crate::lines::step_line;
 use area::limits::STEP;
@@ -9,6 +8,7 @@ use plan::Record;
 use prepare::Start;
 use prepare::prepare;
 use text::append;
+use text::refused_line;
 ghost use mathlib.Core.Path.{_≡_};
 ghost use Prim.Native.Nat.{_+_, _*_, _≤_};
 ghost use lib.ListN.{length};
@@ -62,7 +62,7 @@ fn printed(file: &[u8], start: Start, out: &mut [u8]) -> usize
         ⌜ Appended (now (out .entry)) 0 (unlessRefused (start .refusal) lines) (now (out .exit)) r ⌝ }
 {
     if start.refusal != 0 {
-        return refused_line(start.refusal, out, 0);
+        return refused_line(out, 0, start.refusal);
     }
     let record = start.record;
     let section = start.steps;

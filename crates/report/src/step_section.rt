@@ -1,7 +1,6 @@
 // The steps of the running sheet, as the step section of a bench file in hexadecimal.
 use crate::hex_lines::call_line;
 use crate::hex_lines::count_line;
-use crate::lines::refused_line;
 use crate::step_count::step_count;
 use crate::turns::entry;
 use area::limits::MOST_STEPS;
@@ -16,6 +15,7 @@ use prepare::prepare;
 use sets::member;
 use sheet::in_turn;
 use text::line;
+use text::refused_line;
 ghost use mathlib.Core.Path.{_≡_};
 ghost use mathlib.Core.List.{[], _∷_};
 ghost use Prim.Native.Nat.{_≤_, _<_};
@@ -71,7 +71,7 @@ fn printed(number: u8, fresh: Record, out: &mut [u8]) -> usize
         Appended (now (out .entry)) 0 (unlessRefused number (stepSection (sheetCalls fresh))) (now (out .exit)) r ⌝ }
 {
     if number != 0 {
-        return refused_line(number, out, 0);
+        return refused_line(out, 0, number);
     }
     section(fresh, out)
 }

@@ -1,11 +1,11 @@
 // The running sheet: a line for each turn, and an end.
-use crate::lines::refused_line;
 use crate::lines::turn_line;
 use area::limits::WIDTH;
 use plan::Record;
 use prepare::prepare;
 use sheet::in_turn;
 use text::append;
+use text::refused_line;
 ghost use mathlib.Core.Path.{_≡_};
 ghost use Prim.Native.Nat.{_≤_};
 ghost use lib.ListN.{getD};
@@ -56,7 +56,7 @@ fn printed(number: u8, fresh: Record, out: &mut [u8]) -> usize
         Appended (now (out .entry)) 0 (unlessRefused number (sheetLines fresh)) (now (out .exit)) r ⌝ }
 {
     if number != 0 {
-        return refused_line(number, out, 0);
+        return refused_line(out, 0, number);
     }
     let places = in_turn(fresh);
     let at = turn_lines(fresh, places, out);

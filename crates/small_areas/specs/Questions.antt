@@ -1,5 +1,6 @@
 -- What can be asked of a bench file f, and what the definitions answer: Read's on the file, then those of Paths, Plan,
--- Step and the running sheet on what Read gives.
+-- Step and the running sheet on what Read gives; and those of the old reader and of the rewriting, on the file as a
+-- stored one.
 use Prim.Native.Nat.{ℕ, _*_}
 use mathlib.Core.List.{List, _∷_}
 use lib.ListN.{getD, take, replicate}
@@ -28,10 +29,13 @@ use Rattle.machine.specs.Machine.{areRouters, callOf, stepOf}
 use Rattle.machine.specs.Run.{callsOf, replies}
 use Rattle.sheet.specs.Sheet.{placed, sheetOf}
 use Rattle.bench_file.specs.Sections.{changes, steps}
-use Rattle.bench_file.specs.Faults.{mostLinks, linkRefusal, restRefusal, fileRefusal}
-use Rattle.bench_file.specs.Read.{readRefusal, contents, noContents, contentsOf, linked, metricsOf}
-use Rattle.text.specs.Text.{digits, decimal, field, line}
-use Rattle.report.specs.Lines.{refusedLine, routerLine, routerLines, answerText, stepLine, stepLines}
+use Rattle.bench_file.specs.declared.Format.the-variants.{Old}
+use Rattle.bench_file.specs.Faults.{mostLinks, deadRefusal, linkRefusal, restRefusal, fileRefusal}
+use Rattle.bench_file.specs.Read.{readRefusal, contents, noContents, contentsOf, linked, metricsBy, metricsOf}
+use Rattle.rewriting.specs.Live.{live, liveCount}
+use Rattle.rewriting.specs.Rewriting.{rewritten, written}
+use Rattle.text.specs.Text.{digits, decimal, field, line, refusedLine}
+use Rattle.report.specs.Lines.{routerLine, routerLines, answerText, stepLine, stepLines}
 use Rattle.report.specs.Report.{rehearsal}
 
 pub data Question : Type 0 where
@@ -44,6 +48,9 @@ pub data Question : Type 0 where
   -- the distance from i to j over the links of the file, whatever its changes, and the next-hop set of (i, j)
   distance : (i j : ℕ) → Question
   set : (i j : ℕ) → Question
+  -- the same by a metric table of n routers, which need not be that of a file
+  distanceBy : (n : ℕ) (table : List ℕ) (i j : ℕ) → Question
+  setBy : (n : ℕ) (table : List ℕ) (i j : ℕ) → Question
   -- the running sheet, all of its entries: the routers in their order, and then zeros
   sheet : Question
   -- the plan's next-hop set of (i, j) before the change, and after it
@@ -54,6 +61,9 @@ pub data Question : Type 0 where
   allSteps : Question
   -- all that the rehearsal prints
   printed : Question
+  -- the number with which the old reader refuses the file, and what is written for it as a stored file
+  oldRefusal : Question
+  rewrites : Question
 
 -- what the answer to a question is
 abbrev pub Value : (q : Question) → Type 0
@@ -64,11 +74,15 @@ Value waits = List ℕ
 Value sheet = List ℕ
 Value (distance i j) = ℕ
 Value (set i j) = ℕ
+Value (distanceBy n table i j) = ℕ
+Value (setBy n table i j) = ℕ
 Value (oldSet i j) = ℕ
 Value (newSet i j) = ℕ
 Value (step k) = Reply
 Value allSteps = List Reply
 Value printed = List ℕ
+Value oldRefusal = ℕ
+Value rewrites = List ℕ
 
 -- tables of the right size, to lend to Read, Paths and Plan
 abbrev lent : List ℕ
@@ -103,15 +117,16 @@ replied f = replies (planned f) (callsOf (steps f))
 -- The answer to a question. A step that the file does not have is `refused 0`: no refusal has this number. The names
 -- under the signature are what has to be unfolded to compute it.
 unfoldable pub answer : (f : List ℕ) (q : Question) → Value q
-unfolding readRefusal fileRefusal mostLinks linkRefusal restRefusal contentsOf contents noContents metricsOf linked
-    all first bit setOf added removed subset isRouterCount isTable build tabulate perRouter entryCount entryOf
-    isFree entryRefusal listedRefusal listedMetric isLink topology sums least
+unfolding readRefusal fileRefusal mostLinks deadRefusal linkRefusal restRefusal contentsOf contents noContents
+    metricsBy linked all first bit setOf added removed subset isRouterCount isTable build tabulate perRouter
+    entryCount entryOf isFree entryRefusal listedRefusal listedMetric isLink topology sums least
     Rattle.topology.specs.Distance.distance isNext nextHops isMetric areMetrics pathsRefusal distanceCell hopCell
     distancesOf hopsOf areAtMost isSame isRise isFall isCommon Rattle.changes.specs.Root.root newCell newMetrics
     oldHops newHops waiting telling due greatest above longest rank areTables planRefusal isPlanned fresh blank
     filled recordOf tablesOf learn release ready write finish listens deliver isSound isKind readsB areRouters
     callOf stepOf callsOf replies lowest placed sheetOf digits decimal field line
     Rattle.prepare.specs.Bench.refusal refusedLine routerLine routerLines answerText stepLine stepLines rehearsal
+    live liveCount rewritten written
 answer f refusal = orThen (readRefusal f lent) (refusedBy f)
 answer f root = planned f .root
 answer f ranks = take (routers f) (planned f .ranks)
@@ -119,8 +134,12 @@ answer f waits = take (routers f) (planned f .waiting)
 answer f sheet = sheetOf (planned f)
 answer f (distance i j) = cell width (distancesOf (routers f) (metrics f) lent lent) i j
 answer f (set i j) = cell width (hopsOf (routers f) (metrics f) lent lent) i j
+answer f (distanceBy n table i j) = cell width (distancesOf n table lent lent) i j
+answer f (setBy n table i j) = cell width (hopsOf n table lent lent) i j
 answer f (oldSet i j) = cell width (filledIn f .oldHops) i j
 answer f (newSet i j) = cell width (filledIn f .newHops) i j
 answer f (step k) = getD (refused 0 ∷ replied f) k (refused 0)
 answer f allSteps = replied f
 answer f printed = rehearsal f lent lentFive
+answer f oldRefusal = fileRefusal Old f
+answer f rewrites = written f

@@ -4,6 +4,7 @@
 --     sheets           after them, running sheets (02, No. 1)
 --     orders           lists of changes in several orders (02, No. 2)
 --     halfLinks        links that are up at one end only (02, No. 4)
+--     deadLinks        files that list dead links (02, No. 5)
 --     rehearsed        and all that the rehearsal replies and prints
 --     agreed           the theorem
 use Prim.Native.Nat.{ℕ, _/_, _%_}
@@ -13,7 +14,8 @@ use lib.ListN.{length, take, replicate}
 use Rattle.machine.specs.Answers.{ok, ignored, refused}
 use Rattle.text.specs.Text.{word}
 use Rattle.small_areas.specs.Questions.{Question, refusal, root, ranks, waits, distance, set, oldSet, newSet}
-use Rattle.small_areas.specs.Questions.{sheet, step, allSteps, printed, Value, answer}
+use Rattle.small_areas.specs.Questions.{distanceBy, setBy, sheet, step, allSteps, printed}
+use Rattle.small_areas.specs.Questions.{oldRefusal, rewrites, Value, answer}
 
 -- ---- bench files as bytes (01, "The bench file")
 -- a number in two bytes
@@ -161,13 +163,14 @@ C4 =
     case (bench 3 (triangle 3) (both 2 1 down) [])
     (root is 1 ∷ ranks is (0 ∷ 1 ∷ 0 ∷ []) ∷ waits is (0 ∷ 5 ∷ 0 ∷ []) ∷ [])
 
--- C5: a link that is not used.
+-- C5: a link that is not used. It is asked of the metric table alone, each of whose 1,024 cells is 16,777,215: no file
+-- may list such a link (02, No. 5).
 --
 --        0 --16,777,215-> 1
 abbrev C5 : Case
 C5 =
-    case (bench 2 (link 0 1 16_777_215) [] [])
-    (distance 0 1 is 4_294_967_295 ∷ set 0 1 is 0 ∷ [])
+    case []
+    (distanceBy 2 (replicate 1_024 down) 0 1 is 4_294_967_295 ∷ setBy 2 (replicate 1_024 down) 0 1 is 0 ∷ [])
 
 -- C6: the largest metric of a used link.
 --
@@ -337,6 +340,45 @@ halfLinks =
     halfLink ∷ halfComesUp ∷ otherComesUp ∷ halfGoesDown ∷ smallerAndDown ∷ withoutEffect ∷ withoutCommon
     ∷ afterEntries ∷ beforeCommon ∷ mixed ∷ notMixed ∷ []
 
+-- ---- dead links (02, No. 5)
+-- Read refuses a file that lists one, and the old reader accepts it; it is rewritten without it.
+abbrev deadLink : Case
+deadLink =
+    case (0x02 ∷ 0x00 ∷ 0x01 ∷ 0x00 ∷ 0x01 ∷ 0xFF ∷ 0xFF ∷ 0xFF ∷ 0x00 ∷ 0x00 ∷ 0x00 ∷ [])
+    (refusal is 30 ∷ oldRefusal is 0
+    ∷ rewrites is (0x02 ∷ 0x00 ∷ 0x00 ∷ 0x00 ∷ 0x00 ∷ 0x00 ∷ []) ∷ [])
+
+-- The others keep their order, and changes and steps stay as they are.
+abbrev deadAmongLive : Case
+deadAmongLive =
+    case
+    (bench 3 (link 2 0 down ++ link 0 1 1 ++ link 1 2 down ++ link 1 0 1 ++ link 2 1 down) (both 1 2 down) (learn 1))
+    (refusal is 30 ∷ rewrites is bench 3 (both 0 1 1) (both 1 2 down) (learn 1) ∷ [])
+
+-- The same dead link twice: 30 comes before 7, and for the old reader the pair is in the list already.
+abbrev deadTwice : Case
+deadTwice =
+    case (bench 2 (link 0 1 down ++ link 0 1 down) [] [])
+    (refusal is 30 ∷ oldRefusal is 7 ∷ rewrites is word "refused 7\n" ∷ [])
+
+-- 4, 5 and 6 come before 30, and the first link with a fault decides.
+abbrev deadElsewhere : (links : List ℕ) (number old : ℕ) → Case
+deadElsewhere links number old =
+    case (bench 2 links [] []) (refusal is number ∷ oldRefusal is old ∷ [])
+
+-- A change may take a link down: C1.
+abbrev deadChange : Case
+deadChange = case rehearsal (refusal is 0 ∷ oldRefusal is 0 ∷ rewrites is rehearsal ∷ [])
+
+abbrev deadLinks : List Case
+deadLinks =
+    deadLink ∷ deadAmongLive ∷ deadTwice
+    ∷ deadElsewhere (link 0 2 down) 4 4
+    ∷ deadElsewhere (link 1 1 down) 5 5
+    ∷ deadElsewhere (link 0 1 0 ++ link 1 0 down) 6 6
+    ∷ deadElsewhere (link 0 1 down ++ link 1 0 0) 30 6
+    ∷ deadChange ∷ []
+
 -- ---- the rehearsal, with the lines that 01 has below its file, as they are since 02, No. 2
 abbrev routerLines : List ℕ
 routerLines =
@@ -365,7 +407,7 @@ rehearsed = replied ∷ wholeText ∷ []
 cases : List Case
 cases =
     C1 ∷ C2 ∷ C3 ∷ C4 ∷ C5 ∷ C6 ∷ C7 ∷ C8 ∷ C9 ∷ C10 ∷ C11 ∷ C12 ∷ C13
-    ∷ sheets ++ orders ++ halfLinks ++ rehearsed
+    ∷ sheets ++ orders ++ halfLinks ++ deadLinks ++ rehearsed
 
 -- the questions of a row, with the definitions' answers
 abbrev answered : (c : Case) → List Result
@@ -376,14 +418,18 @@ abbrev Agree : (cs : List Case) → Type 0
 Agree [] = Unit {0}
 Agree (c ∷ cs) = (answered c ≡ c .results) × Agree cs
 
--- The definitions agree with the list: both sides are computed, in each of its 35 rows.
-last-rows : Agree (halfLinks ++ rehearsed)
+-- The definitions agree with the list: both sides are computed, in each of its 43 rows.
+last-rows : Agree (deadLinks ++ rehearsed)
 unfolding answer
-last-rows = (refl, (refl, (refl, (refl, (refl, (refl, (refl, (refl, (refl, (refl, (refl, (refl, (refl, tt)))))))))))))
+last-rows = (refl, (refl, (refl, (refl, (refl, (refl, (refl, (refl, (refl, (refl, tt))))))))))
 
-others : Agree (sheets ++ orders ++ halfLinks ++ rehearsed)
+half-rows : Agree (halfLinks ++ deadLinks ++ rehearsed)
 unfolding answer
-others = (refl, (refl, (refl, (refl, (refl, (refl, (refl, (refl, (refl, last-rows)))))))))
+half-rows = (refl, (refl, (refl, (refl, (refl, (refl, (refl, (refl, (refl, (refl, (refl, last-rows)))))))))))
+
+others : Agree (sheets ++ orders ++ halfLinks ++ deadLinks ++ rehearsed)
+unfolding answer
+others = (refl, (refl, (refl, (refl, (refl, (refl, (refl, (refl, (refl, half-rows)))))))))
 
 agreed : Agree cases
 unfolding cases answer

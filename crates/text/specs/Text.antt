@@ -37,3 +37,7 @@ field name x = name ++ decimal x
 -- the same as a whole line
 unfoldable pub line : (name : List ℕ) (x : ℕ) → List ℕ
 line name x = field name x ++ word "\n"
+
+-- a refusal by its number
+unfoldable pub refusedLine : (number : ℕ) → List ℕ
+refusedLine number = line (word "refused ") number

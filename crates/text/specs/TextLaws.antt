@@ -8,6 +8,7 @@
 --     field-most, line-most                so a number after its name is not long
 --     decimal-value                        they say the number
 --     decimal-ascii, decimal-lead          each is one of `0` to `9`, and the first is no `0` but in 0 itself
+--     refused-is, refusal-line, refused-most           the line of a refusal
 -- Cutting off what does not fit may be done after each append or once at the end (take-again): so one append after
 -- another is an append. What is said of digits is by induction on how many there may be: a number below 10 is its own
 -- digit, and every other is the digits of a tenth of it, and one more.
@@ -21,7 +22,7 @@ use native.Mathlib.Numerals.{add-one}
 use borrow.Author.Tests.{lt-ltb, le-ltb}
 use lib.ListN.{length, getD, take, length-append, length-take, List·getD-append}
 use lib.Seq.{take-all, length-take-le, getD-append-seam}
-use Rattle.text.specs.Text.{Appended, word, digits, decimal, field, line}
+use Rattle.text.specs.Text.{Appended, word, digits, decimal, field, line, refusedLine}
 
 -- ---- lists
 -- what is cut off at n after an append may be cut off before it too
@@ -241,3 +242,18 @@ decimal-905 = refl
 decimal-largest : decimal 4294967295 ≡ 52 ∷ 50 ∷ 57 ∷ 52 ∷ 57 ∷ 54 ∷ 55 ∷ 50 ∷ 57 ∷ 53 ∷ []
 unfolding decimal digits
 decimal-largest = refl
+
+-- ---- the line of a refusal
+pub refused-is : (k : ℕ) → refusedLine k ≡ line (word "refused ") k
+unfolding refusedLine
+refused-is k = refl
+
+pub refusal-line :
+    (k : ℕ) {o p : List ℕ} {a b : ℕ}
+    → Appended o a (line (word "refused ") k) p b
+    → Appended o a (refusedLine k) p b
+refusal-line k u = rw (refused-is k) u
+
+pub refused-most : (k : ℕ) → length (refusedLine k) ≤ 19
+unfolding refusedLine
+refused-most k = line-most (word "refused ") k

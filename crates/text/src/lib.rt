@@ -4,13 +4,14 @@
 //     number       a number in decimal, by `spell`, which puts the digits down from the last one back
 //     field        a number after its name
 //     line         the same as a line
+//     refused_line     the line of a refusal
 // What they promise is specs/Text.antt, and what a caller may conclude specs/TextLaws.antt. The loops' arguments are
 // proofs/Copying.antt (append) and proofs/Spelling.antt (spell).
 ghost use mathlib.Core.Path.{_≡_};
 ghost use mathlib.Core.List.{[], _∷_};
 ghost use Prim.Native.Nat.{_≤_, min};
 ghost use lib.ListN.{length, drop};
-ghost use Rattle.text.specs.Text.{Appended, decimal, field, line};
+ghost use Rattle.text.specs.Text.{Appended, decimal, field, line, refusedLine};
 
 // Appends `bytes` to the text of the first `at` bytes of `out`.
 pub fn append(out: &mut [u8], at: usize, bytes: &[u8]) -> usize
@@ -58,6 +59,13 @@ pub fn line(out: &mut [u8], at: usize, name: &[u8], x: u32) -> usize
 {
     let numbered = field(out, at, name, x);
     byte(out, numbered, b'\n')
+}
+
+// Appends the line of a refusal, by its number.
+pub fn refused_line(out: &mut [u8], at: usize, number: u8) -> usize
+    ensures line { λ r. ⌜ Appended (now (out .entry)) at (refusedLine number) (now (out .exit)) r ⌝ }
+{
+    line(out, at, b"refused ", number as u32)
 }
 
 // Puts the decimal digits of x at the end of `digits`, and gives the place of the first.

@@ -3,7 +3,7 @@
 --     binary-written, binary-error     for what is no text
 --     written-first, error-first       what is read of an input decides
 --     written-room     so many bytes have room for all that is written
---     file-through     a bench file that Read accepts goes through as it is
+--     file-through     a bench file of either format that is accepted goes through as it is
 --     hexed-through    the text of a list of bytes gives these bytes
 use Prim.Native.Nat.{ℕ, _+_, _≤_, _<_}
 use mathlib.Core.Path.{_≡_, refl, _∙_}
@@ -12,8 +12,10 @@ use mathlib.Core.List.{List}
 use native.Mathlib.Omega.{arith}
 use lib.ListN.{length, getD, length-take}
 use lib.Seq.{take-all}
-use Rattle.bench_file.specs.Read.{readRefusal}
-use Rattle.bench_file.specs.FileLaws.{file-largest}
+use Rattle.bench_file.specs.declared.Format.{Format}
+use Rattle.bench_file.specs.Faults.{fileRefusal}
+use Rattle.bench_file.specs.FaultLaws.{accepted-of}
+use Rattle.bench_file.specs.FileLaws.{accepted-largest}
 use Rattle.hex.specs.Hex.{most, unhexed, isFaulty, isText}
 use Rattle.hex.specs.HexLaws.{hexed, length-hexed, unhexed-fits, unhexed-hexed}
 use Rattle.hex.specs.FaultLaws.{hexed-sound, unhexed-first, faulty-first}
@@ -66,10 +68,13 @@ module _ (f : List ℕ) where
       by-test false = part-short
 
 -- ---- the two forms of a bench file
-pub file-through : (f t : List ℕ) → readRefusal f t ≡ 0 → (written f ≡ f) × (isError f ≡ false)
-file-through f t z =
-    let short : length f ≤ most + 1 = omega (arith, file-largest f t z) in
-    let none = accepted-binary f t z in
+pub file-through :
+    (format : Format) (f : List ℕ)
+    → fileRefusal format f ≡ 0
+    → (written f ≡ f) × (isError f ≡ false)
+file-through format f z =
+    let short : length f ≤ most + 1 = omega (arith, accepted-largest format f (accepted-of format f z)) in
+    let none = accepted-binary format f z in
     (binary-written f short none, binary-error f short none)
 
 pub hexed-through :

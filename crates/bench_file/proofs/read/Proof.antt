@@ -1,7 +1,7 @@
 -- `read` has three returns: the table has the wrong size, the file is refused, or it is accepted. Each owes the answer,
 -- the contents and the table (`Owed`).
 --     wrong-size, refused, passed      the law of each return, by what the calls before it gave
---     sized, long, in-table            what an accepted file gives to `describe` and `put`
+--     long, in-table                   what an accepted file gives to `put`
 use mathlib.Core.Path.{_≡_, sym, ap, ap₂, _∙_}
 use mathlib.Core.Bool.{Bool, true, false, not}
 use mathlib.Core.Logic.{_≢_}
@@ -14,17 +14,19 @@ use denote.Ref.{now}
 use lib.Dec.{eqb}
 use lib.ListN.{length, take, drop, length-drop}
 use lib.Seq.{take-all}
-use Rattle.area.specs.declared.refusal.Verdict.{Verdict}
 use Rattle.area.specs.Limits.{width}
 use Rattle.area.specs.Refusals.{tableSize, verdictNumber}
 use Rattle.area.specs.SizeLaws.{router-count-most}
-use Rattle.bench_file.specs.Sections.{routers, linkCount, links, end}
+use Rattle.bench_file.specs.Sections.{routers, linkCount, links}
 use Rattle.bench_file.specs.Faults.{fileRefusal}
 use Rattle.bench_file.specs.FaultLaws.{Accepted, accepted-of}
+use Rattle.bench_file.specs.declared.BenchFile.{BenchFile}
 use Rattle.bench_file.specs.declared.Contents.{Contents}
-use Rattle.bench_file.specs.Read.{readRefusal, contents, noContents, contentsOf, linked, metricsOf}
+use Rattle.bench_file.specs.declared.Format.the-variants.{New}
+use Rattle.bench_file.specs.Read.{readRefusal, contents, noContents, contentsBy, contentsOf, linked, metricsOf}
 use Rattle.bench_file.specs.ReadLaws.{InTable, read-size, read-file, contents-refused, contents-accepted}
-use Rattle.bench_file.specs.ReadLaws.{metrics-kept, metrics-refused, metrics-accepted}
+use Rattle.bench_file.specs.ReadLaws.{by-refused, by-accepted, metrics-kept, metrics-refused, metrics-accepted}
+use Rattle.bench_file.specs.FileLaws.{contents-links}
 use Rattle.bench_file.proofs.read.Statement.{statement}
 use Rattle.bench_file.proofs.read.Tie as tie
 
@@ -43,54 +45,54 @@ module _ (f t : List ℕ) where
   Owed k c m = (k ≡ readRefusal f t) × ((c ≡ contentsOf f t) × (m ≡ metricsOf f t))
 
   wrong-size : length t ≢ width * width → (c : Contents) → c ≡ noContents → Owed tableSize c t
-  wrong-size a c e = (sym (read-size f t a), (e ∙ sym (contents-refused f t some), sym (metrics-kept f t a)))
+  wrong-size a c e = (sym (read-size f t a), (e ∙ sym (contents-refused f t some), sym (metrics-kept New f t a)))
     where
       some : readRefusal f t ≢ 0
       some z = let x : ⊥ = omega (arith, read-size f t a, z) in x
 
-  -- v is what `judge` gave, and ok whether that is accepted
+  -- x is what `examine` gave, and ok whether that is accepted
   module _
       (a : length t ≡ width * width)
-      (v : Verdict) (told : verdictNumber v ≡ fileRefusal f)
-      (ok : Bool) (good : ok ≡ eqb (verdictNumber v) 0)
+      (x : BenchFile) (told : verdictNumber (x .answer) ≡ fileRefusal New f) (said : x .contents ≡ contentsBy New f)
+      (ok : Bool) (good : ok ≡ eqb (verdictNumber (x .answer)) 0)
     where
-      answered : verdictNumber v ≡ readRefusal f t
+      answered : verdictNumber (x .answer) ≡ readRefusal f t
       answered = told ∙ sym (read-file f t a)
 
       refused :
           not ok ≡ true
-          → (c : Contents)
-          → c ≡ noContents
           → (m : List ℕ)
           → m ≡ linked [] 0
-          → Owed (verdictNumber v) c m
-      refused h c e m g = (answered, (e ∙ sym blank, g ∙ sym cleared))
+          → Owed (verdictNumber (x .answer)) (x .contents) m
+      refused h m g = (answered, (said ∙ by-refused New f some ∙ sym blank, g ∙ sym cleared))
         where
-          some : verdictNumber v ≢ 0
-          some = eqb-false (verdictNumber v) 0 (sym good ∙ not-true ok h)
+          some : fileRefusal New f ≢ 0
+          some z = eqb-false (verdictNumber (x .answer)) 0 (sym good ∙ not-true ok h) (told ∙ z)
 
           blank : contentsOf f t ≡ noContents
-          blank = contents-refused f t (λ z. some (answered ∙ z))
+          blank = contents-refused f t (λ z. some (sym (read-file f t a) ∙ z))
 
           cleared : metricsOf f t ≡ linked [] 0
-          cleared = metrics-refused f t a (λ z. some (told ∙ z))
+          cleared = metrics-refused New f t a some
 
       module _ (h : not ok ≡ false) where
-        none : verdictNumber v ≡ 0
-        none = eqb-true (verdictNumber v) 0 (sym good ∙ not-false ok h)
+        none : fileRefusal New f ≡ 0
+        none = sym told ∙ eqb-true (verdictNumber (x .answer)) 0 (sym good ∙ not-false ok h)
 
-        whole : Accepted f
-        whole = accepted-of f (sym told ∙ none)
-
-        sized : length f ≡ end f
-        sized = whole .size
+        whole : Accepted New f
+        whole = accepted-of New f none
 
         long : 3 ≤ length f
-        long = omega (arith, sized)
+        long = omega (arith, whole .size)
 
-        in-table : (c : Contents) → c ≡ contents f → InTable (lent f) (c .links)
-        unfolding contents
-        in-table c e = rw (lent-is f, e) ends
+        is-contents : x .contents ≡ contents f
+        is-contents = said ∙ by-accepted New f none
+
+        links-is : x .contents .links ≡ linkCount f
+        links-is = ap (λ (c : Contents). c .links) is-contents ∙ contents-links f
+
+        in-table : InTable (lent f) (x .contents .links)
+        in-table = rw (lent-is f, links-is) ends
           where
             ends : InTable (links f) (linkCount f)
             ends k b =
@@ -99,22 +101,16 @@ module _ (f t : List ℕ) where
                 (omega (arith, l .from-in), omega (arith, l .to-in))
 
         passed :
-            (c : Contents)
-            → c ≡ contents f
-            → (m : List ℕ)
-            → m ≡ linked (lent f) (c .links)
-            → Owed (verdictNumber v) c m
-        unfolding contents
-        passed c e m g = (answered, (e ∙ sym said, g ∙ put ∙ sym filled))
+            (m : List ℕ)
+            → m ≡ linked (lent f) (x .contents .links)
+            → Owed (verdictNumber (x .answer)) (x .contents) m
+        passed m g = (answered, (is-contents ∙ sym same, g ∙ ap₂ linked (lent-is f) links-is ∙ sym filled))
           where
-            said : contentsOf f t ≡ contents f
-            said = contents-accepted f t (sym answered ∙ none)
-
-            put : linked (lent f) (c .links) ≡ linked (links f) (linkCount f)
-            put = ap₂ linked (lent-is f) (ap (λ (x : Contents). x .links) e)
+            same : contentsOf f t ≡ contents f
+            same = contents-accepted f t (read-file f t a ∙ none)
 
             filled : metricsOf f t ≡ linked (links f) (linkCount f)
-            filled = metrics-accepted f t a (sym told ∙ none)
+            filled = metrics-accepted New f t a none
 
 no-contents-requires : tie.Need-no-contents-requires
 no-contents-requires c κs = search needs
@@ -128,30 +124,24 @@ returns c =
 clear-requires : tie.Need-clear-requires
 clear-requires c κs = search needs
 
-judge-requires : tie.Need-judge-requires
-judge-requires c κs = search needs
+examine-requires : tie.Need-examine-requires
+examine-requires c κs = search needs
 
 is-accepted-requires : tie.Need-is-accepted-requires
 is-accepted-requires c κs = search needs
-
-no-contents-requires-2 : tie.Need-no-contents-requires-2
-no-contents-requires-2 c κs = search needs
 
 same-length : tie.Need-same-length
 same-length c = search needs
 
 returns-2 : tie.Need-returns-2
 returns-2 c =
-    let judged = c .before .before .before .judge in
-    let cleared = c .before .before .before .before .before .before in
+    let ok = c .before in
+    let found = ok .before .examine in
+    let cleared = ok .before .before .before .before in
     let a = cleared .before .before .before .before .before .args in
-    let ok = c .before .before .is-accepted in
-    let blank = c .no-contents2 in
-    refused (now (a .file)) (now (a .table)) (omega arith) (judged .result) (judged .ensures) (ok .result) (ok .ensures)
-    (c .before .if2 .taken) (blank .result) (blank .ensures) _ (cleared .clear .ensures)
-
-describe-requires : tie.Need-describe-requires
-describe-requires c κs = search sized
+    refused (now (a .file)) (now (a .table)) (omega arith)
+    (found .result) (found .ensures .0) (found .ensures .1) (ok .is-accepted .result) (ok .is-accepted .ensures)
+    (c .if2 .taken) _ (cleared .clear .ensures)
 
 sub-put : tie.Need-sub-put
 sub-put c = search long
@@ -170,13 +160,12 @@ same-length-2 c = search needs
 
 returns-3 : tie.Need-returns-3
 returns-3 c =
-    let said = c .before .before .before .before .before in
-    let ok = said .before .before in
-    let judged = ok .before .judge in
+    let ok = c .before .before .before .before .before .before in
+    let found = ok .before .examine in
     let a = ok .before .before .before .before .before .before .before .before .before .args in
-    passed (now (a .file)) (now (a .table)) (omega arith) (judged .result) (judged .ensures)
-    (ok .is-accepted .result) (ok .is-accepted .ensures) (said .before .if2 .left)
-    (said .describe .result) (said .describe .ensures) _ (c .before .before .put .ensures)
+    passed (now (a .file)) (now (a .table)) (omega arith)
+    (found .result) (found .ensures .0) (found .ensures .1) (ok .is-accepted .result) (ok .is-accepted .ensures)
+    (c .before .before .before .before .before .if2 .left) _ (c .before .before .put .ensures)
 
 pub read-spec : {M : Type 1} → statement M
 read-spec =
@@ -185,12 +174,10 @@ read-spec =
     no-contents-requires
     returns
     clear-requires
-    judge-requires
+    examine-requires
     is-accepted-requires
-    no-contents-requires-2
     same-length
     returns-2
-    describe-requires
     sub-put
     part-put-start
     part-put-end

@@ -18,36 +18,37 @@ use Rattle.area.specs.Tests.{first}
 use Rattle.area.specs.Sizes.{isRouterCount}
 use Rattle.area.specs.SizeLaws.{router-count-true, router-count-low, router-count-high}
 use Rattle.bench_file.specs.Sections.{routers, linkCount, links}
+use Rattle.bench_file.specs.declared.Format.{Format}
 use Rattle.bench_file.specs.Faults.{mostLinks, linkRefusal, linksRefusal, restRefusal, fileRefusal}
 use Rattle.bench_file.specs.FaultLaws.{most-links-is, pairs-most}
 use Rattle.bench_file.specs.FaultLaws.{file-empty, file-count, file-cut, file-many, file-link, file-rest}
 use Rattle.bench_file.proofs.faults.judge.Statement.{statement}
 use Rattle.bench_file.proofs.faults.judge.Tie as tie
 
-module _ (f : List ℕ) where
-  empty : length f < 1 → incomplete ≡ fileRefusal f
-  empty a = sym (file-empty f a)
+module _ (format : Format) (f : List ℕ) where
+  empty : length f < 1 → incomplete ≡ fileRefusal format f
+  empty a = sym (file-empty format f a)
 
   module _ (a : 1 ≤ length f) (n : ℕ) (is : n ≡ routers f) where
-    too-few : n < 1 → routerCount ≡ fileRefusal f
-    too-few b = sym (file-count f a (router-count-low (routers f) (omega (arith, is))))
+    too-few : n < 1 → routerCount ≡ fileRefusal format f
+    too-few b = sym (file-count format f a (router-count-low (routers f) (omega (arith, is))))
 
-    too-many : width < n → routerCount ≡ fileRefusal f
-    too-many b = sym (file-count f a (router-count-high (routers f) (omega (arith, is))))
+    too-many : width < n → routerCount ≡ fileRefusal format f
+    too-many b = sym (file-count format f a (router-count-high (routers f) (omega (arith, is))))
 
     module _ (lo : 1 ≤ n) (hi : n ≤ width) where
       counted : isRouterCount (routers f) ≡ true
       counted = router-count-true (routers f) (omega (arith, is)) (omega (arith, is))
 
-      cut : length f < 3 → incomplete ≡ fileRefusal f
-      cut b = sym (file-cut f a counted b)
+      cut : length f < 3 → incomplete ≡ fileRefusal format f
+      cut b = sym (file-cut format f a counted b)
 
       module _ (b : 3 ≤ length f) (k : ℕ) (told : k ≡ linkCount f) where
         pairs : mostLinks (routers f) ≡ n * (n - 1)
         pairs = ap mostLinks (sym is) ∙ most-links-is n
 
-        many : n * (n - 1) < k → tooMany ≡ fileRefusal f
-        many c = sym (file-many f a counted b (omega (arith, told, pairs)))
+        many : n * (n - 1) < k → tooMany ≡ fileRefusal format f
+        many c = sym (file-many format f a counted b (omega (arith, told, pairs)))
 
         module _ (c : k ≤ n * (n - 1)) where
           within : linkCount f ≤ mostLinks (routers f)
@@ -55,29 +56,30 @@ module _ (f : List ℕ) where
 
           -- v is what `links` gave for the bytes behind the link count, and ok whether that is accepted
           module _
-              (v : Verdict) (judged : verdictNumber v ≡ first k (linkRefusal n (take (length f - 3) (drop 3 f))))
+              (v : Verdict)
+              (judged : verdictNumber v ≡ first k (linkRefusal format n (take (length f - 3) (drop 3 f))))
               (ok : Bool) (good : ok ≡ eqb (verdictNumber v) 0)
             where
-              of-links : verdictNumber v ≡ linksRefusal f
+              of-links : verdictNumber v ≡ linksRefusal format f
               of-links =
                   let size : length (drop 3 f) ≤ length f - 3 = omega (arith, length-drop 3 f) in
                   judged
-                  ∙ ap (λ (l : List ℕ). first k (linkRefusal n l)) (take-all (length f - 3) (drop 3 f) size)
-                  ∙ ap₂ (λ (x y : ℕ). first x (linkRefusal y (links f))) told is
+                  ∙ ap (λ (l : List ℕ). first k (linkRefusal format n l)) (take-all (length f - 3) (drop 3 f) size)
+                  ∙ ap₂ (λ (x y : ℕ). first x (linkRefusal format y (links f))) told is
 
-              faulty : not ok ≡ true → verdictNumber v ≡ fileRefusal f
+              faulty : not ok ≡ true → verdictNumber v ≡ fileRefusal format f
               faulty h =
                   let refused = eqb-false (verdictNumber v) 0 (sym good ∙ not-true ok h) in
-                  of-links ∙ sym (file-link f a counted b within (λ z. refused (of-links ∙ z)))
+                  of-links ∙ sym (file-link format f a counted b within (λ z. refused (of-links ∙ z)))
 
               passes :
                   not ok ≡ false
                   → (w : Verdict)
                   → verdictNumber w ≡ restRefusal f
-                  → verdictNumber w ≡ fileRefusal f
+                  → verdictNumber w ≡ fileRefusal format f
               passes h w e =
                   let accepted = eqb-true (verdictNumber v) 0 (sym good ∙ not-false ok h) in
-                  e ∙ sym (file-rest f a counted b within (sym of-links ∙ accepted))
+                  e ∙ sym (file-rest format f a counted b within (sym of-links ∙ accepted))
 
 returns : tie.Need-returns
 returns c = search empty

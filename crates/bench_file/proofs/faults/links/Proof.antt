@@ -19,6 +19,7 @@ use Rattle.area.specs.TestLaws.{first-none, first-fault}
 use Rattle.area.specs.Tests.{first}
 use Rattle.entries.specs.declared.Entry.{Entry}
 use Rattle.entries.specs.Entries.{entryCount, entryOf}
+use Rattle.bench_file.specs.declared.Format.{Format}
 use Rattle.bench_file.specs.Faults.{linkRefusal, seenRefusal}
 use Rattle.bench_file.specs.FaultLaws.{link-cut}
 use Rattle.bench_file.proofs.Pairs.{Seen, seen-none, link-told, in-sets as inside, seen-next}
@@ -26,45 +27,45 @@ use Rattle.bench_file.proofs.faults.links.Statement.{statement}
 use Rattle.bench_file.proofs.faults.links.Tie as tie
 
 -- a link that is cut short is refused
-some : (n : ℕ) (l : List ℕ) (e : ℕ) → entryCount l ≤ e → linkRefusal n l e ≢ 0
-some n l e h z = let cut = link-cut n l e h in let x : ⊥ = omega (arith, cut, z) in x
+some : (format : Format) (n : ℕ) (l : List ℕ) (e : ℕ) → entryCount l ≤ e → linkRefusal format n l e ≢ 0
+some format n l e h z = let cut = link-cut format n l e h in let x : ⊥ = omega (arith, cut, z) in x
 
 -- one turn: x is link e, v what `link` gave for it, and ok whether that is accepted
 module _
-    (n : ℕ) (l : List ℕ) (e : ℕ) (s : List ℕ) (most : n ≤ width) (seen : Seen l e s)
+    (format : Format) (n : ℕ) (l : List ℕ) (e : ℕ) (s : List ℕ) (most : n ≤ width) (seen : Seen l e s)
     (whole : ℕ) (counted : whole ≡ entryCount l) (h : e < whole)
     (x : Entry) (is : x ≡ entryOf l e)
-    (v : Verdict) (told : verdictNumber v ≡ seenRefusal n x s)
+    (v : Verdict) (told : verdictNumber v ≡ seenRefusal format n x s)
     (ok : Bool) (good : ok ≡ eqb (verdictNumber v) 0)
   where
-    judged : verdictNumber v ≡ linkRefusal n l e
-    judged = told ∙ link-told n l e s most seen x is (omega arith)
+    judged : verdictNumber v ≡ linkRefusal format n l e
+    judged = told ∙ link-told format n l e s most seen x is (omega arith)
 
     faulty :
         (k : ℕ)
         → e < k
-        → ((d : ℕ) → d < e → linkRefusal n l d ≡ 0)
+        → ((d : ℕ) → d < e → linkRefusal format n l d ≡ 0)
         → not ok ≡ true
-        → verdictNumber v ≡ first k (linkRefusal n l)
+        → verdictNumber v ≡ first k (linkRefusal format n l)
     faulty k b f t =
         let refused = eqb-false (verdictNumber v) 0 (sym good ∙ not-true ok t) in
-        judged ∙ sym (first-fault (linkRefusal n l) e k b f (λ z. refused (judged ∙ z)))
+        judged ∙ sym (first-fault (linkRefusal format n l) e k b f (λ z. refused (judged ∙ z)))
 
-    passed : not ok ≡ false → linkRefusal n l e ≡ 0
+    passed : not ok ≡ false → linkRefusal format n l e ≡ 0
     passed t = sym judged ∙ eqb-true (verdictNumber v) 0 (sym good ∙ not-false ok t)
 
     in-sets : not ok ≡ false → x .from < width
-    in-sets t = inside n l e s most seen x is (passed t)
+    in-sets t = inside format n l e s most seen x is (passed t)
 
 abbrev Inv-loop : tie.InvT-loop
-Inv-loop n list announced seen₀ whole e₀ seen e =
+Inv-loop format n list announced seen₀ whole e₀ seen e =
     (e ≤ announced)
     × (whole ≡ entryCount list)
     × Seen list e seen
-    × ((k : ℕ) → k < e → linkRefusal n list k ≡ 0)
+    × ((k : ℕ) → k < e → linkRefusal format n list k ≡ 0)
 
 abbrev μ-loop : tie.MeasureT-loop
-μ-loop n list announced seen₀ whole e₀ seen e = announced - e
+μ-loop format n list announced seen₀ whole e₀ seen e = announced - e
 
 count-requires : tie.Need-count-requires Inv-loop μ-loop
 count-requires c κs = omega arith
@@ -78,10 +79,10 @@ returns c =
     let a = c .before .before .before .before .before .args in
     let l = now (a .list) in
     let here = at-loop .e in
-    let cut = some (a .n) l here (omega arith) in
+    let cut = some (a .format) (a .n) l here (omega arith) in
     sym
-    (first-fault (linkRefusal (a .n) l) here (a .announced) (omega arith) (at-loop .inv .3) cut
-    ∙ link-cut (a .n) l here (omega arith))
+    (first-fault (linkRefusal (a .format) (a .n) l) here (a .announced) (omega arith) (at-loop .inv .3) cut
+    ∙ link-cut (a .format) (a .n) l here (omega arith))
 
 decode-requires : tie.Need-decode-requires Inv-loop μ-loop
 decode-requires c κs = omega arith
@@ -100,7 +101,8 @@ returns-2 c =
     let a = c .before .before .before .before .before .before .before .before .before .before .args in
     let l = now (a .list) in
     let ok = c .before .is-accepted in
-    faulty (a .n) l (at-loop .e) (at-loop .seen) (omega arith) (at-loop .inv .2) _ (at-loop .inv .1) (omega arith)
+    faulty (a .format) (a .n) l (at-loop .e)
+    (at-loop .seen) (omega arith) (at-loop .inv .2) _ (at-loop .inv .1) (omega arith)
     (link .result) (link .ensures) (told .result) (told .ensures) (ok .result) (ok .ensures)
     (a .announced) (omega arith) (at-loop .inv .3) (c .if2 .taken)
 
@@ -143,15 +145,17 @@ loop-again c =
     let told = turn .before .link in
     let link = turn .before .before .before .decode in
     let at-loop = turn .before .before .before .before .before .before .loop in
-    let a = turn .before .before .before .before .before .before .before .before .before .args in
+    let start = turn .before .before .before .before .before .before .before .before .before in
+    let a = start .args in
+    let most = start .pre in
     let l = now (a .list) in
     let here = at-loop .e in
     let ok = turn .is-accepted in
     let none =
-    passed (a .n) l here (at-loop .seen) (omega arith) (at-loop .inv .2) _ (at-loop .inv .1) (omega arith)
+    passed (a .format) (a .n) l here (at-loop .seen) most (at-loop .inv .2) _ (at-loop .inv .1) (omega arith)
     (link .result) (link .ensures) (told .result) (told .ensures) (ok .result) (ok .ensures) (c .before .if2 .left) in
     let seen =
-    seen-next (a .n) l here (at-loop .seen) (omega arith) (at-loop .inv .2) (link .result) (link .ensures) none
+    seen-next (a .format) (a .n) l here (at-loop .seen) most (at-loop .inv .2) (link .result) (link .ensures) none
     (c .add .result) (c .add .ensures) in
     (omega arith, at-loop .inv .1, seen, below-more _ here (at-loop .inv .3) none)
 
@@ -159,7 +163,8 @@ returns-3 : tie.Need-returns-3 Inv-loop μ-loop
 returns-3 c =
     let at-loop = c .before .loop in
     let a = c .before .before .before .before .args in
-    sym (first-none (linkRefusal (a .n) (now (a .list))) (a .announced) (λ k h. at-loop .inv .3 k (omega arith)))
+    let each = linkRefusal (a .format) (a .n) (now (a .list)) in
+    sym (first-none each (a .announced) (λ k h. at-loop .inv .3 k (omega arith)))
 
 pub links-spec : {M : Type 1} → statement M
 links-spec =

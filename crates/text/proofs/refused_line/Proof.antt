@@ -1,8 +1,8 @@
--- The line that `text` appends is the line of the refusal.
+-- The line that `line` appends is the line of the refusal.
 use borrow.Author.Needs.{needs}
-use Rattle.report.specs.LineLaws.{refusal-line}
-use Rattle.report.proofs.lines.refused_line.Statement.{statement}
-use Rattle.report.proofs.lines.refused_line.Tie as tie
+use Rattle.text.specs.TextLaws.{refusal-line}
+use Rattle.text.proofs.refused_line.Statement.{statement}
+use Rattle.text.proofs.refused_line.Tie as tie
 
 slice-aggregate-line : tie.Need-slice-aggregate-line
 slice-aggregate-line c = search needs
