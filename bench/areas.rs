@@ -1,6 +1,7 @@
 //! The inputs: areas of 32 routers with a change each, lists of steps, and the largest bench file.
 //! Random numbers have fixed seeds, so every run has the same inputs.
 
+use crate::isis;
 use crate::limits::{CELLS, ENTRY, MOST_STEPS, STEP, UNUSED, WIDTH};
 use crate::plan::Record;
 
@@ -147,4 +148,30 @@ pub fn largest_file(area: &Area, steps: &[u8]) -> Vec<u8> {
     file.extend(((steps.len() / STEP) as u16).to_be_bytes());
     file.extend(steps);
     file
+}
+
+/// The identity of a router.
+fn identity(router: usize) -> [u8; isis::IDENTITY] {
+    [0x49, 0, 1, 0, 0, router as u8 + 1, 0]
+}
+
+/// The table of identities of 32 routers.
+pub fn identities() -> Vec<u8> {
+    (0..WIDTH).flat_map(|r| identity(r).into_iter().chain([r as u8])).collect()
+}
+
+/// The links of an area as lists of IS-IS entries, each entry with sub-TLVs of 6 bytes.
+pub fn lists(area: &Area) -> Vec<u8> {
+    let mut lists = Vec::new();
+    for i in 0..WIDTH {
+        let mut list = Vec::new();
+        for j in (0..WIDTH).filter(|&j| area.metric[WIDTH * i + j] != UNUSED) {
+            list.extend(identity(j));
+            list.extend(&area.metric[WIDTH * i + j].to_be_bytes()[1..]);
+            list.extend([6, 3, 4, 0, 0, 0, 0]);
+        }
+        lists.extend((list.len() as u16).to_be_bytes());
+        lists.extend(list);
+    }
+    lists
 }

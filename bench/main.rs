@@ -2,13 +2,15 @@
 //!
 //! The plain program makes the same checks in the same order. It differs from the library in this:
 //! - Read puts a link into the table as soon as it is judged, and clears the table again after a fault; the library
-//!   judges all links first.
+//!   judges all links first. The same goes for the lists of an area from IS-IS.
+//! - Identities are compared byte by byte; the library makes a number of each.
 //! - A repeated change is found by a set of pairs; the library looks through the changes before it.
 //! - The members of a set are visited one by one; the library asks of every router whether it is one.
 
 mod areas;
 mod entries;
 mod file;
+mod isis;
 mod judge;
 mod limits;
 mod measure;

@@ -25,6 +25,9 @@ pub enum Refusal {
     NotDone = 27,
     NotTold = 28,
     DeadLink = 30,
+    PastList = 31,
+    LongSubTlvs = 32,
+    UnknownIdentity = 33,
 }
 
 impl Refusal {

@@ -5,6 +5,7 @@ use std::hint::black_box;
 
 use crate::areas::{self, Area};
 use crate::file;
+use crate::isis;
 use crate::limits::{LARGEST_FILE, STEP, WIDTH};
 use crate::ofib;
 use crate::plan::{Record, Tables, plan};
@@ -44,6 +45,7 @@ pub fn all() -> Vec<Work> {
         calls_of("calls-progress", &fresh, progress),
         calls_of("calls-mixed", &fresh, mixed),
         read_of("read", largest.clone()),
+        isis_of("isis", &areas::dense()),
         rehearsal_of("rehearse", largest),
     ]
 }
@@ -256,6 +258,27 @@ fn read_of(name: &'static str, file: Vec<u8>) -> Work {
         }),
         plain: Box::new(move || {
             black_box(&file::read(black_box(&file), &mut rust));
+        }),
+    }
+}
+
+/// A dense area from IS-IS: 992 entries, with sub-TLVs of 6 bytes.
+fn isis_of(name: &'static str, area: &Area) -> Work {
+    let (identities, lists) = (areas::identities(), areas::lists(area));
+    let (mut proved, mut rust) = (Tables::blank().old, Tables::blank().old);
+    let number = ofib::isis(WIDTH, &identities, &lists, &mut proved);
+    let answer = isis::read(WIDTH, &identities, &lists, &mut rust);
+    require(name, number == 0 && answer == Ok(()) && proved == rust && proved == area.metric);
+    let (table, bytes) = (identities.clone(), lists.clone());
+    Work {
+        name,
+        operation: "area",
+        operations: 1,
+        library: Box::new(move || {
+            black_box(ofib::isis(WIDTH, black_box(&table), black_box(&bytes), &mut proved));
+        }),
+        plain: Box::new(move || {
+            black_box(&isis::read(WIDTH, black_box(&identities), black_box(&lists), &mut rust));
         }),
     }
 }

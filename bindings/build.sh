@@ -1,6 +1,6 @@
-# For scripts that set `top` to the repository's top: proves and builds the static library and the programs `rehearse`
-# and `rewrite`, where that is not done yet, and sets `target` to the folder they are in.
-# OFIB_TARGET names another such folder, in which all three are already.
+# For scripts that set `top` to the repository's top: proves and builds the static library and the programs `rehearse`,
+# `rewrite` and `from_isis`, where that is not done yet, and sets `target` to the folder they are in.
+# OFIB_TARGET names another such folder, in which all four are already.
 target=${OFIB_TARGET:-$top/target}
 # Where rustup puts rustc, which not every shell has on its PATH.
 if ! command -v rustc >/dev/null; then
@@ -8,7 +8,8 @@ if ! command -v rustc >/dev/null; then
 fi
 if [ -z "${OFIB_TARGET-}" ]; then
     mkdir -p "$target"
-    if ! (cd "$top" && rt staticlib exports && rt check rehearse && rt check rewrite) >"$target/build.log" 2>&1; then
+    if ! (cd "$top" && rt staticlib exports && rt check rehearse && rt check rewrite && rt check from_isis) \
+        >"$target/build.log" 2>&1; then
         cat "$target/build.log" >&2
         echo "$0: the library could not be built" >&2
         exit 2
@@ -17,7 +18,8 @@ fi
 archive=$target/staticlib/libexports.a
 program=$target/bin/rehearse
 rewrite=$target/bin/rewrite
-for file in "$archive" "$program" "$rewrite"; do
+from_isis=$target/bin/from_isis
+for file in "$archive" "$program" "$rewrite" "$from_isis"; do
     if [ ! -f "$file" ]; then
         echo "$0: $file is missing" >&2
         exit 2

@@ -1,4 +1,4 @@
-// The ordered FIB bench for C and C++: the eight functions of the proved static library, x86-64 Linux.
+// The ordered FIB bench for C and C++: the nine functions of the proved static library, x86-64 Linux.
 //
 //     rt staticlib exports                                     # makes target/staticlib/libexports.a
 //     cc -I bindings program.c target/staticlib/libexports.a   # it needs memcpy and memset, and nothing else
@@ -89,12 +89,12 @@ enum {
 enum {
     OFIB_OK = 0,        // nothing is refused
     OFIB_IGNORED = 255, // of a step: a message that its receiver does not listen for
-    // Of ofib_read, ofib_paths, ofib_plan and ofib_sheet.
-    OFIB_INCOMPLETE = 1,     // the file ends too early, or the list's length is no multiple of OFIB_ENTRY
-    OFIB_TRAILING = 2,       // bytes follow the last step of the file
+    // Of ofib_read, ofib_paths, ofib_plan, ofib_sheet and ofib_isis.
+    OFIB_INCOMPLETE = 1,     // a file, a list from IS-IS or a row ends too early; changes are not OFIB_ENTRY bytes each
+    OFIB_TRAILING = 2,       // bytes follow the last step of the file, or the last list from IS-IS
     OFIB_ROUTER_COUNT = 3,   // n is not 1 to 32
     OFIB_UNKNOWN_ROUTER = 4, // a router is not below n; of a step too
-    OFIB_SELF_LINK = 5,      // a link or a change goes from a router to itself
+    OFIB_SELF_LINK = 5,      // a link or a change goes from a router to itself, or a list has its own router
     OFIB_BAD_METRIC = 6,     // a metric is 0, or above OFIB_UNUSED
     OFIB_REPEATED = 7,       // the pair of a link or a change has been listed before
     OFIB_TABLE_SIZE = 8,     // a table's length is not OFIB_CELLS
@@ -114,7 +114,11 @@ enum {
     OFIB_NOT_DONE = 27,      // router a, which sends the message, is not done
     OFIB_NOT_TOLD = 28,      // router a does not tell router b
     // Of ofib_read.
-    OFIB_DEAD_LINK = 30 // a link of the file has the metric OFIB_UNUSED; a change may have it
+    OFIB_DEAD_LINK = 30, // a link of the file has the metric OFIB_UNUSED; a change may have it
+    // Of ofib_isis.
+    OFIB_PAST_LIST = 31,       // an entry runs past its list
+    OFIB_LONG_SUB_TLVS = 32,   // the sub-TLVs of an entry are longer than 244 bytes
+    OFIB_UNKNOWN_IDENTITY = 33 // the identity of an entry is in no row
 };
 
 // ---- The functions.
@@ -127,6 +131,21 @@ uint8_t ofib_read(
     const uint8_t *OFIB_ALONE file, size_t file_len,
     uint32_t *OFIB_ALONE table, size_t table_len,
     size_t contents[OFIB_WHOLE 6]);
+
+// An area from IS-IS: `table` gets the metrics of the links in n lists, and OFIB_UNUSED elsewhere, as from ofib_read.
+// The lists, that of router 0 first, stand one behind the other, each after its length in two bytes, the high one
+// first. They are of extended IS reachability entries (TLV 22 of RFC 5305): the neighbour's identity in seven bytes,
+// the metric in three, the length of the sub-TLVs in one, and the sub-TLVs, which are skipped. `identities` has rows
+// of eight bytes, an identity and the number of its router. The first row with an identity counts, and a router may
+// have several. Of the entries for one router the lowest metric is kept; OFIB_UNUSED is no link here.
+// Gives OFIB_OK, or OFIB_TABLE_SIZE, which leaves the table as it was, or 3, or of the first faulty row 1 or 4, or the
+// first fault in the lists: 1 at a length, of an entry the first that applies of 31, 32, 33, 5 and 6, and 2 behind the
+// last list. With these every cell becomes OFIB_UNUSED.
+uint8_t ofib_isis(
+    size_t n,
+    const uint8_t *OFIB_ALONE identities, size_t identities_len,
+    const uint8_t *OFIB_ALONE lists, size_t lists_len,
+    uint32_t *OFIB_ALONE table, size_t table_len);
 
 // Paths: of n routers and their metrics, every distance and every set of next hops. Cells with a row or a column from
 // n on become OFIB_UNREACHED and 0. Of the metrics, the diagonal and what lies beyond n is not looked at. A link is

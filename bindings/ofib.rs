@@ -60,6 +60,15 @@ mod c {
             table_len: usize,
             contents: *mut [usize; 6],
         ) -> u8;
+        pub fn ofib_isis(
+            n: usize,
+            identities: *const u8,
+            identities_len: usize,
+            lists: *const u8,
+            lists_len: usize,
+            table: *mut u32,
+            table_len: usize,
+        ) -> u8;
         pub fn ofib_paths(
             n: usize,
             metric: *const u32,
@@ -191,6 +200,21 @@ pub fn read(file: &[u8], table: &mut [u32]) -> (u8, Contents) {
             steps_at: c[5],
         },
     )
+}
+
+/// An area from IS-IS: the number of the refusal, or 0. `table` gets the metrics of the links in the n lists.
+pub fn isis(n: usize, identities: &[u8], lists: &[u8], table: &mut [u32]) -> u8 {
+    unsafe {
+        c::ofib_isis(
+            n,
+            identities.as_ptr(),
+            identities.len(),
+            lists.as_ptr(),
+            lists.len(),
+            table.as_mut_ptr(),
+            table.len(),
+        )
+    }
 }
 
 /// Paths: the number of its refusal, or 0.

@@ -87,6 +87,7 @@ static void triangle(uint32_t *table, const uint32_t nine[9], uint32_t rest)
 }
 
 #define NO OFIB_UNUSED
+static const uint32_t no_link[9] = {NO, NO, NO, NO, NO, NO, NO, NO, NO};
 static const uint32_t old_metrics[9] = {NO, 1, 3, 1, NO, 1, 3, 1, NO};
 static const uint32_t new_metrics[9] = {NO, 1, 3, 1, NO, NO, 3, NO, NO};
 static const uint32_t old_distances[9] = {0, 1, 2, 1, 0, 1, 2, 1, 0};
@@ -164,7 +165,6 @@ static void test_read(void)
         [OFIB_ROUTERS] = 3,     [OFIB_LINKS] = 6,  [OFIB_CHANGES] = 2,
         [OFIB_CHANGES_AT] = 34, [OFIB_STEPS] = 10, [OFIB_STEPS_AT] = 46,
     };
-    static const uint32_t no_link[9] = {NO, NO, NO, NO, NO, NO, NO, NO, NO};
     static uint32_t unused[OFIB_CELLS];
     triangle(unused, no_link, OFIB_UNUSED);
     one_read("ofib_read", file.len, OFIB_CELLS, OFIB_OK, wanted, planned.old);
@@ -174,6 +174,60 @@ static void test_read(void)
     one_read("ofib_read, 1,023 cells", file.len, OFIB_CELLS - 1, OFIB_TABLE_SIZE, nothing, untouched.new_);
     one_read("ofib_read, no cell", file.len, 0, OFIB_TABLE_SIZE, nothing, untouched.new_);
     test_bad_link(nothing, unused);
+}
+
+#define ID(k) k, k, k, k, k, k, k
+// Two routers. The third row is shadowed by the first, and router 1 has two identities.
+static const uint8_t identities[] = {ID(1), 0, ID(2), 1, ID(1), 1, ID(3), 1};
+#define ROWS sizeof identities
+
+// One call of ofib_isis: its answer, and the table that it leaves.
+static void one_isis(const char *what, size_t n, size_t rows_len, const uint8_t *lists, size_t lists_len,
+                     uint8_t answer, const uint32_t nine[9])
+{
+    static uint32_t wanted[OFIB_CELLS];
+    triangle(wanted, nine, OFIB_UNUSED);
+    tables = untouched;
+    number(what, ofib_isis(n, identities, rows_len, lists, lists_len, tables.new_, OFIB_CELLS), answer);
+    cells(what, tables.new_, wanted, OFIB_CELLS);
+}
+
+// Each refusal of an entry, where those that are tested after it apply too if they can.
+static void test_bad_entries(void)
+{
+    static const uint8_t past[] = {0, 11, ID(9), 0, 0, 0, 245, 0, 0}, unknown[] = {0, 11, ID(9), 0, 0, 0, 0, 0, 0},
+                         own[] = {0, 11, ID(1), 0, 0, 0, 0, 0, 0}, zero[] = {0, 11, ID(3), 0, 0, 0, 0, 0, 0};
+    static uint8_t longer[2 + 11 + 245 + 2] = {1, 0, ID(9), 0, 0, 0, 245};
+    static const uint32_t five[9] = {NO, 5, NO, NO, NO, NO, NO, NO, NO};
+    one_isis("ofib_isis, an entry past its list", 2, ROWS, past, sizeof past, OFIB_PAST_LIST, no_link);
+    one_isis("ofib_isis, 245 bytes of sub-TLVs", 2, ROWS, longer, sizeof longer, OFIB_LONG_SUB_TLVS, no_link);
+    one_isis("ofib_isis, an identity in no row", 2, ROWS, unknown, sizeof unknown, OFIB_UNKNOWN_IDENTITY, no_link);
+    one_isis("ofib_isis, a list's own router", 2, ROWS, own, sizeof own, OFIB_SELF_LINK, no_link);
+    one_isis("ofib_isis, metric 0", 2, ROWS, zero, sizeof zero, OFIB_BAD_METRIC, no_link);
+    memcpy(longer, (const uint8_t[]){0, 255, ID(2), 0, 0, 5, 244}, 13);
+    one_isis("ofib_isis, 244 bytes of sub-TLVs", 2, ROWS, longer, sizeof longer - 1, OFIB_OK, five);
+}
+
+static void test_isis(void)
+{
+    // From 0 to 1 at 5 and at 3, from 1 to 0 at 65,538, and a byte more.
+    static const uint8_t lists[] = {0, 25, ID(2), 0, 0, 5, 0, ID(3), 0, 0, 3, 3, 9, 9, 9, 0, 11, ID(1), 1, 0, 2, 0, 9};
+    static const uint32_t wanted[9] = {NO, 3, NO, 65538, NO, NO, NO, NO, NO};
+    const size_t len = sizeof lists - 1;
+    one_isis("ofib_isis", 2, ROWS, lists, len, OFIB_OK, wanted);
+    one_isis("ofib_isis, no list", 2, ROWS, lists, 0, OFIB_INCOMPLETE, no_link);
+    one_isis("ofib_isis, half a length", 2, ROWS, lists, 28, OFIB_INCOMPLETE, no_link);
+    one_isis("ofib_isis, a byte less", 2, ROWS, lists, len - 1, OFIB_INCOMPLETE, no_link);
+    one_isis("ofib_isis, a byte more", 2, ROWS, lists, len + 1, OFIB_TRAILING, no_link);
+    one_isis("ofib_isis, a row cut short", 2, ROWS - 1, lists, len, OFIB_INCOMPLETE, no_link);
+    tables = untouched;
+    number("ofib_isis, 1,023 cells", ofib_isis(0, identities, 1, lists, 0, tables.new_, OFIB_CELLS - 1),
+           OFIB_TABLE_SIZE);
+    same_tables("ofib_isis, 1,023 cells", &untouched);
+    one_isis("ofib_isis, n = 0", 0, 1, lists, len, OFIB_ROUTER_COUNT, no_link);
+    one_isis("ofib_isis, n = 33", 33, 1, lists, len, OFIB_ROUTER_COUNT, no_link);
+    one_isis("ofib_isis, n = 1 and a row of router 1", 1, ROWS - 1, lists, len, OFIB_UNKNOWN_ROUTER, no_link);
+    test_bad_entries();
 }
 
 // One call of ofib_paths, with the lengths of its three tables.
@@ -430,6 +484,7 @@ int main(int argc, char **argv)
     load(argv[3], &routes);
     fill_tables();
     test_read();
+    test_isis();
     test_paths();
     test_plan();
     test_steps();

@@ -4,7 +4,7 @@ use crate::areas::{self, Area};
 use crate::changes;
 use crate::compare::{Comparison, Planned, records};
 use crate::counts::Usable;
-use crate::difference::{Difference, area_title, describe_area};
+use crate::difference::{Difference, case_title, describe_area};
 use crate::flaw::Flaw;
 use crate::ofib::{self, CELLS, Record};
 use crate::paths::{at, pairs, usable};
@@ -14,12 +14,14 @@ use crate::steps::{self, Caller};
 
 /// The part's number in the seeds of its cases.
 const PART: u64 = 1;
+/// The first word of a case's title.
+pub const KIND: &str = "area";
 
 pub fn area_case(comparison: &mut Comparison, seed: u64, number: u64) -> Result<(), Difference> {
     let mut random = Random::for_case(seed, PART, number);
     let mut area = areas::area(&mut random);
     let list = changes::list(&mut random, &mut area);
-    compare_area(comparison, &mut random, &area_title(seed, number), &area, &list)
+    compare_area(comparison, &mut random, &case_title(KIND, seed, number), &area, &list)
 }
 
 /// One area, one list and a list of steps that is chosen on the way.

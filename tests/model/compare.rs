@@ -5,11 +5,12 @@ use std::fmt::Debug;
 use crate::counts::{Counts, Numbers};
 use crate::flaw::Flaw;
 use crate::lent::{Lent, RIGHT_SIZES, SixTables};
+use crate::link_state::Input;
 use crate::ofib::{self, Answer, CELLS, Contents, Record, Tables, WIDTH};
 use crate::paths::{self, UNUSED};
 use crate::random::Random;
 use crate::read::Format;
-use crate::{changes, plan, read, rewriting, sheet, step, steps, text};
+use crate::{changes, files as bench_files, from_isis, isis, plan, read, rewriting, sheet, step, steps, text};
 
 /// Room for every text.
 pub const ROOM: usize = 147_456;
@@ -221,6 +222,47 @@ impl Comparison {
             self.counts.read_section(fault);
         }
         Ok((answer, contents))
+    }
+
+    /// The metric table of link-state data.
+    pub fn isis(&mut self, random: &mut Random, input: &Input, size: usize) -> Result<(), String> {
+        let Input { n, identities, lists } = input;
+        let mut table = Lent::filled(random, size);
+        let mut model_table = table.clone();
+        let answer = ofib::isis(*n, identities, lists, table.cells_mut());
+        let model = isis::isis(*n, identities, lists, model_table.cells_mut(), self.flaw);
+        same("answer to lists from IS-IS", answer, model)?;
+        table.compare(&model_table, "of lists from IS-IS")?;
+        self.counts.isis[usize::from(answer)] += 1;
+        if answer == 0 {
+            self.counts.isis_sizes[*n] += 1;
+        } else if size == CELLS
+            && let Some(fault) = isis::fault_of(*n, identities, lists)
+        {
+            self.counts.isis_part(fault);
+        }
+        Ok(())
+    }
+
+    /// What is printed for link-state data that is taken is a bench file, and the library's Read gives the table of the
+    /// lists for it.
+    pub fn printed(&mut self, random: &mut Random, input: &Input, text: &str) -> Result<(), String> {
+        let Input { n, identities, lists } = input;
+        let mut table = Lent::filled(random, CELLS);
+        let mut read = table.clone();
+        if text == from_isis::TOO_LONG {
+            self.counts.too_long += 1;
+            return Ok(());
+        }
+        count_text(&mut self.counts.printed, text);
+        if ofib::isis(*n, identities, lists, table.cells_mut()) != 0 {
+            return Ok(());
+        }
+        let (answer, contents) = ofib::read(&bench_files::bytes(text), read.cells_mut());
+        same("Read's answer to the printed file", answer, 0)?;
+        let counts = (contents.n, contents.changes, contents.steps);
+        same("routers, changes and steps of the printed file", counts, (*n, 0, 0))?;
+        read.compare(&table, "of Read of the printed file")
     }
 
     pub fn rehearsal(

@@ -1,5 +1,6 @@
 //! What has been compared, and which answers of 01 have come up.
 
+use crate::isis::{self, Part};
 use crate::ofib::Answer;
 use crate::plan::{MOST_CHANGES, RISE};
 use crate::read::{Fault, Section};
@@ -16,6 +17,15 @@ pub const SECTIONS: [Section; 8] = [
     Section::StepCount,
     Section::Steps,
     Section::End,
+];
+
+const PARTS: [Part; 6] = [
+    Part::Routers,
+    Part::Row,
+    Part::Length,
+    Part::List,
+    Part::Entry,
+    Part::End,
 ];
 
 pub const STEP_KINDS: [&str; 6] = ["another kind", "learn", "release", "write", "finish", "deliver"];
@@ -89,6 +99,14 @@ pub struct Counts {
     list_places: [[u64; MOST_CHANGES]; 16],
     /// For each refusal of Read, how often its cause lay in each section.
     read_sections: [[u64; 8]; 31],
+    pub isis: Numbers,
+    /// Link-state data that was accepted, by the number of routers.
+    pub isis_sizes: [u64; 33],
+    /// For each refusal of link-state data, how often its cause lay in each part.
+    isis_parts: [[u64; PARTS.len()]; 34],
+    /// What the program that prints areas answered, and how many lists were too long for it.
+    pub printed: Numbers,
+    pub too_long: u64,
 }
 
 impl Counts {
@@ -122,6 +140,11 @@ impl Counts {
             steps: [[0; 256]; 6],
             list_places: [[0; MOST_CHANGES]; 16],
             read_sections: [[0; 8]; 31],
+            isis: [0; 256],
+            isis_sizes: [0; 33],
+            isis_parts: [[0; PARTS.len()]; 34],
+            printed: [0; 256],
+            too_long: 0,
         }
     }
 
@@ -164,12 +187,18 @@ impl Counts {
         self.read_sections[usize::from(fault.number)][section.expect("every section is listed")] += 1;
     }
 
-    /// The answers of 01 that can come up and have not.
+    pub fn isis_part(&mut self, fault: isis::Fault) {
+        let part = PARTS.iter().position(|&part| part == fault.part);
+        self.isis_parts[usize::from(fault.number)][part.expect("every part is listed")] += 1;
+    }
+
+    /// The answers of 01 and 02 that can come up and have not.
     pub fn missing(&self) -> Vec<String> {
         let mut missing = Vec::new();
         self.missing_numbers(&mut missing);
         self.missing_steps(&mut missing);
         self.missing_places(&mut missing);
+        self.missing_isis(&mut missing);
         for n in 1..=32 {
             require(&mut missing, self.sizes[n], || format!("area of {n} routers"));
         }
@@ -205,7 +234,7 @@ impl Counts {
     fn missing_numbers(&self, missing: &mut Vec<String>) {
         let of_texts: &[usize] = &[0, 1, 2, 3, 4, 5, 6, 7, 8, 9, 10, 11, 12, 13, 30];
         let of_plan: &[usize] = &[0, 1, 3, 4, 5, 6, 7, 8, 9, 10, 11, 12, 13];
-        let calls: [(&str, &Numbers, &[usize]); 7] = [
+        let calls: [(&str, &Numbers, &[usize]); 8] = [
             ("Paths", &self.paths, &[0, 3, 6, 8]),
             ("Plan", &self.plan, of_plan),
             ("the sheet", &self.sheet, of_plan),
@@ -213,6 +242,7 @@ impl Counts {
             ("the old reader", &self.rewriting, &[0, 1, 2, 3, 4, 5, 6, 7, 9]),
             ("rehearsal", &self.rehearsal, of_texts),
             ("routes", &self.routes, of_texts),
+            ("lists from IS-IS", &self.isis, &[0, 1, 2, 3, 4, 5, 6, 8, 31, 32, 33]),
         ];
         for (call, numbers, wanted) in calls {
             for &number in wanted {
@@ -269,6 +299,43 @@ impl Counts {
         }
     }
 
+    fn missing_isis(&self, missing: &mut Vec<String>) {
+        let wanted: [(usize, &[Part]); 9] = [
+            (1, &[Part::Row, Part::Length, Part::List]),
+            (2, &[Part::End]),
+            (3, &[Part::Routers]),
+            (4, &[Part::Row]),
+            (5, &[Part::Entry]),
+            (6, &[Part::Entry]),
+            (31, &[Part::Entry]),
+            (32, &[Part::Entry]),
+            (33, &[Part::Entry]),
+        ];
+        for (number, parts) in wanted {
+            for &part in parts {
+                let place = PARTS.iter().position(|&listed| listed == part);
+                let seen = self.isis_parts[number][place.expect("every part is listed")];
+                require(missing, seen, || {
+                    format!("lists from IS-IS refused with {number} for {part:?}")
+                });
+            }
+        }
+        for n in 1..=32 {
+            require(missing, self.isis_sizes[n], || {
+                format!("lists from IS-IS of {n} routers")
+            });
+        }
+        // The program may not be run. As every byte is of a list that it counts, it never sees 2.
+        if self.printed.iter().any(|&count| count > 0) {
+            for number in [0, 1, 3, 4, 5, 6, 31, 32, 33] {
+                require(missing, self.printed[number], || {
+                    format!("program that prints areas answering {number}")
+                });
+            }
+            require(missing, self.too_long, || "lists too long to be printed".to_string());
+        }
+    }
+
     pub fn print(&self) {
         let sum = |numbers: &[u64]| numbers.iter().sum::<u64>();
         println!(
@@ -297,6 +364,12 @@ impl Counts {
         println!(
             "files: {}, texts cut short {}, runs of the program {}",
             self.files, self.short_texts, self.processes
+        );
+        println!("lists from IS-IS: {}", answers(&self.isis));
+        println!(
+            "areas printed from them: {}, too long {}",
+            answers(&self.printed),
+            self.too_long
         );
         println!("the old reader: {}", answers(&self.rewriting));
         println!(

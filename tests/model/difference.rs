@@ -5,6 +5,7 @@ use std::path::{Path, PathBuf};
 use std::{fs, io};
 
 use crate::areas::Area;
+use crate::link_state::Input;
 use crate::ofib::Record;
 
 pub enum Case {
@@ -48,18 +49,18 @@ impl Difference {
     }
 }
 
-/// The first line of an area case, by which it can be made again.
-pub fn area_title(seed: u64, number: u64) -> String {
-    format!("area case: seed {seed} number {number}")
+/// The first line of a case that can be made again by it.
+pub fn case_title(kind: &str, seed: u64, number: u64) -> String {
+    format!("{kind} case: seed {seed} number {number}")
 }
 
-/// Seed and number of the area case that a saved text begins with.
-pub fn area_case_of(text: &str) -> Option<(u64, u64)> {
+/// Kind, seed and number of the case that a saved text begins with.
+pub fn case_of(text: &str) -> Option<(&str, u64, u64)> {
     let words: Vec<&str> = text.lines().next()?.split(' ').collect();
-    let ["area", "case:", "seed", seed, "number", number] = words.as_slice() else {
+    let [kind, "case:", "seed", seed, "number", number] = words.as_slice() else {
         return None;
     };
-    Some((seed.parse().ok()?, number.parse().ok()?))
+    Some((kind, seed.parse().ok()?, number.parse().ok()?))
 }
 
 /// Routers, used links, change list and steps in words, and after them all cells of the metric table.
@@ -81,6 +82,18 @@ pub fn describe_area(title: &str, area: &Area, list: &[u8], steps: &[u8]) -> Str
         &mut text,
         format_args!("metric table, {} cells: {:?}\n", area.metric.len(), area.metric),
     );
+    text
+}
+
+/// The number of routers, the rows of the identity table and the bytes of the lists, in hexadecimal.
+pub fn describe_input(title: &str, input: &Input, size: usize) -> String {
+    let mut text = format!("{title}\nn {}, a table of {size} cells\n", input.n);
+    for (name, bytes, width) in [("row", &input.identities, 8), ("lists", &input.lists, 32)] {
+        for line in bytes.chunks(width) {
+            let digits: String = line.iter().map(|byte| format!("{byte:02X}")).collect();
+            add(&mut text, format_args!("{name} {digits}\n"));
+        }
+    }
     text
 }
 

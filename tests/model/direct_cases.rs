@@ -15,7 +15,7 @@ use crate::steps;
 
 const PART: u64 = 2;
 /// Among them numbers that are 0 to 32 when cut to 8, 16 or 32 bits.
-const WRONG_N: [usize; 16] = [
+pub const WRONG_N: [usize; 16] = [
     0,
     33,
     34,
@@ -33,7 +33,7 @@ const WRONG_N: [usize; 16] = [
     usize::MAX - 1,
     usize::MAX,
 ];
-const WRONG_SIZES: [usize; 7] = [0, 1, 32, 1023, 1025, 2048, 1 << 16];
+pub const WRONG_SIZES: [usize; 7] = [0, 1, 32, 1023, 1025, 2048, 1 << 16];
 const WRONG_METRICS: [u32; 5] = [0, UNUSED + 1, UNUSED + 2, 1 << 31, u32::MAX];
 
 /// The calls that are the same for every seed but for the areas they are made on, and then `count` random ones of each

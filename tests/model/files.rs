@@ -307,3 +307,13 @@ pub fn alter(random: &mut Random, file: &mut [u8]) {
         }
     }
 }
+
+/// Hexadecimal digits in pairs; from `#` to the end of a line is a comment.
+pub fn bytes(text: &str) -> Vec<u8> {
+    let digits = |line: &str| {
+        let text = line.split('#').next().unwrap_or_default();
+        text.chars().filter_map(|c| c.to_digit(16)).collect::<Vec<u32>>()
+    };
+    let digits: Vec<u32> = text.lines().flat_map(digits).collect();
+    digits.chunks(2).map(|pair| (16 * pair[0] + pair[1]) as u8).collect()
+}

@@ -69,8 +69,59 @@ pub enum Flaw {
     SheetByRank,
     /// A refusal leaves the sheet as it was.
     SheetKeptIfRefused,
+    /// 3 is tested before 8 for link-state data, as Paths has it.
+    CountBeforeSize,
+    /// The rows of the identity table are judged before n.
+    RowsBeforeCount,
+    /// That the last row is cut short is seen before the numbers of the rows.
+    CutRowFirst,
+    /// A row that an earlier one with its identity shadows is not judged.
+    ShadowedRowPasses,
+    /// The last row with an identity counts.
+    LastRowCounts,
+    /// Identities are told apart by their first six bytes.
+    SixByteIdentity,
+    /// A list that is not all there is judged by the entries that are.
+    PartOfList,
+    /// All lengths are judged before the first entry, and the bytes after the last list too.
+    LengthsFirst,
+    /// An entry that runs past its list by one byte passes.
+    EntryOneByteLonger,
+    /// Sub-TLVs of 244 bytes are refused.
+    MostSubTlvs243,
+    /// 32 is tested before 31.
+    LongBeforePast,
+    /// 32 is tested after 33, 5 and 6.
+    LongLast,
+    /// 33 is tested after 5 and 6.
+    UnknownLast,
+    /// An entry with an identity in no row is left out.
+    UnknownSkipped,
+    /// 6 is tested before 5 in an entry.
+    ZeroBeforeOwn,
+    /// An entry's metric begins with the last byte of the identity.
+    MetricByteEarly,
+    /// An entry with the metric of a dead link is refused with 30.
+    DeadEntryRefused,
+    /// Of several entries for a router the highest metric is kept.
+    HighestKept,
+    /// Of several entries for a router the last one is kept.
+    LastEntryKept,
+    /// The lowest metric is kept of each identity, not of each router.
+    LowestByIdentity,
+    /// Link-state data that is refused leaves its links in the table.
+    IsisKeepsLinks,
+    /// Link-state data that is refused leaves the table as it was.
+    TableAsItWas,
+    /// The program that prints an area takes a list that is not all there for bytes after the last one.
+    WholeListsCounted,
+    /// It takes lists that are one byte too long.
+    OneByteMoreTaken,
+    /// It does not list a link with the largest metric that is used.
+    LargestNotListed,
 }
 
+/// Those that areas and files show.
 pub const FLAWS: [Flaw; 33] = [
     Flaw::ReadTwoForOne,
     Flaw::ReadKeepsLinks,
@@ -106,6 +157,35 @@ pub const FLAWS: [Flaw; 33] = [
     Flaw::SheetByRank,
     Flaw::SheetKeptIfRefused,
 ];
+
+/// Those that link-state data shows.
+pub const ISIS_FLAWS: [Flaw; 22] = [
+    Flaw::CountBeforeSize,
+    Flaw::RowsBeforeCount,
+    Flaw::CutRowFirst,
+    Flaw::ShadowedRowPasses,
+    Flaw::LastRowCounts,
+    Flaw::SixByteIdentity,
+    Flaw::PartOfList,
+    Flaw::LengthsFirst,
+    Flaw::EntryOneByteLonger,
+    Flaw::MostSubTlvs243,
+    Flaw::LongBeforePast,
+    Flaw::LongLast,
+    Flaw::UnknownLast,
+    Flaw::UnknownSkipped,
+    Flaw::ZeroBeforeOwn,
+    Flaw::MetricByteEarly,
+    Flaw::DeadEntryRefused,
+    Flaw::HighestKept,
+    Flaw::LastEntryKept,
+    Flaw::LowestByIdentity,
+    Flaw::IsisKeepsLinks,
+    Flaw::TableAsItWas,
+];
+
+/// Those that what is printed for link-state data shows.
+pub const PRINTED_FLAWS: [Flaw; 3] = [Flaw::WholeListsCounted, Flaw::OneByteMoreTaken, Flaw::LargestNotListed];
 
 /// Those that what is written for a stored file shows.
 pub const REWRITING_FLAWS: [Flaw; 3] = [Flaw::OldReaderDead, Flaw::CountNotCorrected, Flaw::DeadAtEndOnly];

@@ -1,6 +1,6 @@
 //! Each mistake that the model can be given must show: in the comparison, where it breaks the order of the writes also
 //! in the walks along the pointers, where the plan hangs on the order of the changes also beside another order, and
-//! where a stored file is rewritten also beside the program that does it.
+//! where a stored file is rewritten or an area printed also beside the program that does it.
 
 use std::path::Path;
 
@@ -11,7 +11,8 @@ use crate::compare::{Comparison, Planned, same_plan};
 use crate::difference::Difference;
 use crate::file_cases::{self, file_case};
 use crate::files;
-use crate::flaw::{FLAWS, Flaw, REWRITING_FLAWS};
+use crate::flaw::{FLAWS, Flaw, ISIS_FLAWS, PRINTED_FLAWS, REWRITING_FLAWS};
+use crate::isis_cases::{isis_case, printed_case, printed_on_purpose};
 use crate::lent::{RIGHT_SIZES, SixTables};
 use crate::ofib::Record;
 use crate::plan::plan;
@@ -23,9 +24,11 @@ use crate::step::step;
 const PART: u64 = 5;
 /// So many areas and as many files are compared before a mistake counts as not seen.
 const MOST_CASES: u64 = 2000;
+/// So many inputs of link-state data, which take less time.
+const MOST_LISTS: u64 = 20_000;
 const MOST_SEARCHES: u64 = 2000;
 
-pub fn flaw_cases(seed: u64, rewrite: Option<&Path>) -> Result<(), String> {
+pub fn flaw_cases(seed: u64, rewrite: Option<&Path>, from_isis: Option<&Path>) -> Result<(), String> {
     for flaw in FLAWS {
         let (cases, what) =
             first_difference(flaw, seed).ok_or(format!("flaw {flaw:?}: the comparison did not see it"))?;
@@ -33,6 +36,10 @@ pub fn flaw_cases(seed: u64, rewrite: Option<&Path>) -> Result<(), String> {
             "flaw {flaw:?}: caught at case {cases} ({})",
             what.lines().next().unwrap_or_default()
         );
+    }
+    for flaw in ISIS_FLAWS {
+        let (cases, what) = first_isis_difference(flaw, seed).ok_or(format!("flaw {flaw:?}: no lists showed it"))?;
+        println!("flaw {flaw:?}: caught at lists {cases} ({what})");
     }
     for flaw in [Flaw::FinishUnordered, Flaw::FallAsRise] {
         let (plans, what) = first_bad_walk(flaw, seed).ok_or(format!("flaw {flaw:?}: no walk showed it"))?;
@@ -44,6 +51,9 @@ pub fn flaw_cases(seed: u64, rewrite: Option<&Path>) -> Result<(), String> {
     println!("flaw {flaw:?}: caught by another order at plan {plans} ({what})");
     if let Some(program) = rewrite {
         rewriting_flaws(seed, program)?;
+    }
+    if let Some(program) = from_isis {
+        printed_flaws(seed, program)?;
     }
     match first_bad_walk(Flaw::None, seed).or(first_other_plan(Flaw::None, seed)) {
         None => Ok(()),
@@ -72,6 +82,16 @@ fn first_difference(flaw: Flaw, seed: u64) -> Option<(u64, String)> {
     None
 }
 
+/// Link-state data: after how many inputs library and flawed model differ, and in what.
+fn first_isis_difference(flaw: Flaw, seed: u64) -> Option<(u64, String)> {
+    let mut comparison = Comparison::new(flaw);
+    let differs = |number: u64| {
+        let outcome = isis_case(&mut comparison, seed, number);
+        outcome.err().map(|difference| (number + 1, difference.what))
+    };
+    (0..MOST_LISTS).find_map(differs)
+}
+
 /// What the program writes for stored files shows the mistakes of the rewriting.
 fn rewriting_flaws(seed: u64, program: &Path) -> Result<(), String> {
     for flaw in REWRITING_FLAWS {
@@ -87,6 +107,23 @@ fn rewriting_flaws(seed: u64, program: &Path) -> Result<(), String> {
             .next()
             .ok_or(format!("flaw {flaw:?}: the program did not show it"))?;
         println!("flaw {flaw:?}: caught by the program at file {files} ({what})");
+    }
+    Ok(())
+}
+
+/// What the program prints for link-state data shows the mistakes of the printing, at inputs that are made for it or at
+/// random ones.
+fn printed_flaws(seed: u64, program: &Path) -> Result<(), String> {
+    for flaw in PRINTED_FLAWS {
+        let mut comparison = Comparison::new(flaw);
+        let mut random = Random::for_case(seed, PART, 2);
+        let on_purpose = printed_on_purpose(&mut comparison, &mut random, program);
+        let outcome = on_purpose
+            .and_then(|()| (0..MOST_CASES).try_for_each(|number| printed_case(&mut comparison, seed, number, program)));
+        let Err(Difference { what, .. }) = outcome else {
+            return Err(format!("flaw {flaw:?}: the program did not show it"));
+        };
+        println!("flaw {flaw:?}: caught by the program ({what})");
     }
     Ok(())
 }

@@ -11,7 +11,12 @@ mod file_cases;
 mod files;
 mod flaw;
 mod flaw_cases;
+mod from_isis;
+mod isis;
+mod isis_cases;
+mod isis_worked;
 mod lent;
+mod link_state;
 // The binding is not only for this program, which need not use all of it.
 #[allow(dead_code)]
 #[path = "../../bindings/ofib.rs"]
@@ -68,8 +73,9 @@ fn main() -> ExitCode {
 fn compare_all(options: &Options) -> Result<String, String> {
     let seed = options.seed;
     println!("model: seed {seed}");
-    worked::check_model().map_err(|what| format!("the model contradicts the papers: {what}"))?;
-    flaw_cases::flaw_cases(seed, options.files.rewrite.as_deref())?;
+    let worked = worked::check_model().and_then(|()| isis_worked::check_model());
+    worked.map_err(|what| format!("the model contradicts the papers: {what}"))?;
+    flaw_cases::flaw_cases(seed, options.files.rewrite.as_deref(), options.isis.program.as_deref())?;
     let mut comparison = Comparison::new(Flaw::None);
     compare_parts(&mut comparison, options).map_err(|difference| saved(options, &difference))?;
     comparison.counts.print();
@@ -90,6 +96,7 @@ fn compare_all(options: &Options) -> Result<String, String> {
 fn compare_parts(comparison: &mut Comparison, options: &Options) -> Result<(), Difference> {
     let seed = options.seed;
     worked::compare_library(comparison)?;
+    isis_worked::compare_library(comparison)?;
     timed("areas", || {
         (0..options.areas).try_for_each(|number| area_cases::area_case(comparison, seed, number))
     })?;
@@ -97,6 +104,9 @@ fn compare_parts(comparison: &mut Comparison, options: &Options) -> Result<(), D
         direct_cases::direct_cases(comparison, seed, options.direct)
     })?;
     timed("files", || file_cases::file_cases(comparison, seed, &options.files))?;
+    timed("lists from IS-IS", || {
+        isis_cases::isis_cases(comparison, seed, &options.isis)
+    })?;
     timed("reachable records", || {
         reachable::small_areas(comparison, seed, &options.small)
     })
@@ -124,12 +134,19 @@ fn saved(options: &Options, difference: &Difference) -> String {
 fn replay(options: &Options, path: &Path) -> Result<String, String> {
     let bytes = std::fs::read(path).map_err(|error| format!("{}: {error}", path.display()))?;
     let mut comparison = Comparison::new(Flaw::None);
-    let outcome = match difference::area_case_of(&String::from_utf8_lossy(&bytes)) {
-        Some((seed, number)) => area_cases::area_case(&mut comparison, seed, number),
-        None if path.extension().is_some_and(|end| end == "txt") => {
-            return Err("only area cases and bench files can be replayed; run again with the same seed".to_string());
+    let outcome = match difference::case_of(&String::from_utf8_lossy(&bytes)) {
+        Some((area_cases::KIND, seed, number)) => area_cases::area_case(&mut comparison, seed, number),
+        Some((isis_cases::KIND, seed, number)) => isis_cases::isis_case(&mut comparison, seed, number),
+        Some((isis_cases::PRINTED, seed, number)) => {
+            let program = options.isis.program.as_deref().ok_or("--from-isis is needed")?;
+            isis_cases::printed_case(&mut comparison, seed, number, program)
         }
-        None => {
+        _ if path.extension().is_some_and(|end| end == "txt") => {
+            return Err(
+                "only area and isis cases and bench files can be replayed; run again with the same seed".to_string(),
+            );
+        }
+        _ => {
             let mut random = Random::for_case(options.seed, 0, 0);
             file_cases::compare_file(&mut comparison, &mut random, &bytes, &options.files.with_each_file())
         }

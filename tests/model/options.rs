@@ -2,7 +2,7 @@
 
 use std::path::PathBuf;
 
-use crate::{file_cases, reachable};
+use crate::{file_cases, isis_cases, reachable};
 
 const DEFAULT_SEED: u64 = 1;
 
@@ -14,6 +14,7 @@ pub struct Options {
     pub replay: Option<PathBuf>,
     pub areas: u64,
     pub direct: u64,
+    pub isis: isis_cases::Amount,
     pub files: file_cases::Amount,
     pub small: reachable::Amount,
 }
@@ -26,6 +27,11 @@ impl Options {
             replay: None,
             areas: 600_000,
             direct: 200_000,
+            isis: isis_cases::Amount {
+                cases: 400_000,
+                program: None,
+                program_stride: 97,
+            },
             files: file_cases::Amount {
                 cases: 150_000,
                 link_stride: 1,
@@ -44,6 +50,7 @@ impl Options {
     fn make_slice(&mut self) {
         self.areas = 60_000;
         self.direct = 20_000;
+        self.isis.cases = 40_000;
         self.files.cases = 15_000;
         self.files.link_stride = 31;
         self.small = reachable::Amount {
@@ -63,6 +70,7 @@ pub fn parse(mut words: impl Iterator<Item = String>) -> Result<Options, String>
             "--seed" => options.seed = value()?.parse().map_err(|_| "--seed needs a number".to_string())?,
             "--program" => options.files.program = Some(PathBuf::from(value()?)),
             "--rewrite" => options.files.rewrite = Some(PathBuf::from(value()?)),
+            "--from-isis" => options.isis.program = Some(PathBuf::from(value()?)),
             "--out" => options.out = PathBuf::from(value()?),
             "--replay" => options.replay = Some(PathBuf::from(value()?)),
             _ => return Err(format!("no such option: {word}")),

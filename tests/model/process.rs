@@ -1,4 +1,5 @@
-//! The rehearsal program and the one that rewrites stored files, run as processes with a file as their standard input.
+//! The rehearsal program, the one that rewrites stored files and the one that prints areas from IS-IS, run as processes
+//! with a file as their standard input.
 
 use std::io::{self, ErrorKind, Write};
 use std::path::Path;
@@ -7,6 +8,7 @@ use std::time::Duration;
 
 use crate::compare::{files, texts};
 use crate::flaw::Flaw;
+use crate::from_isis;
 use crate::lent::{RIGHT_SIZES, SixTables};
 use crate::random::Random;
 use crate::rewriting::rewritten;
@@ -32,8 +34,17 @@ pub fn compare_rewriting(random: &mut Random, program: &Path, file: &[u8], flaw:
     files("output of the program that rewrites", &output, &rewritten(file, flaw))
 }
 
-/// The input is at most some 40,000 bytes, which a pipe takes at once, so all of it can be written before the output is
-/// read.
+/// What the program prints for link-state data beside the model's text, which is given back.
+pub fn compare_from_isis(random: &mut Random, program: &Path, stream: &[u8], flaw: Flaw) -> Result<String, String> {
+    let in_pieces = random.chance(20);
+    let output = output(program, stream, in_pieces).map_err(|error| format!("{}: {error}", program.display()))?;
+    let text = from_isis::text(stream, flaw);
+    texts("output of the program that prints areas", &output, text.as_bytes())?;
+    Ok(text)
+}
+
+/// A program has read all that it takes of its input before it writes. Then a pipe has room for what is left of the
+/// input, or for all that the program writes, so the whole input can be written before the output is read.
 fn output(program: &Path, file: &[u8], in_pieces: bool) -> io::Result<Vec<u8>> {
     let mut child = Command::new(program)
         .stdin(Stdio::piped())

@@ -6,7 +6,7 @@ use crate::areas::Area;
 use crate::changes::bytes_of;
 use crate::compare::{Comparison, same};
 use crate::difference::Difference;
-use crate::files::Parts;
+use crate::files::{Parts, bytes};
 use crate::flaw::Flaw;
 use crate::lent::{RIGHT_SIZES, SixTables};
 use crate::ofib::{Answer, CELLS, Record};
@@ -87,15 +87,6 @@ fn compare_example(comparison: &mut Comparison, file: &[u8]) -> Result<(), Strin
 
 fn input() -> Vec<u8> {
     bytes(INPUT)
-}
-
-fn bytes(hexadecimal: &str) -> Vec<u8> {
-    let digits: Vec<u8> = hexadecimal
-        .chars()
-        .filter_map(|c| c.to_digit(16))
-        .map(|digit| digit as u8)
-        .collect();
-    digits.chunks(2).map(|pair| pair[0] * 16 + pair[1]).collect()
 }
 
 fn planned(n: usize, links: &[Link], changes: &[Link]) -> (u8, Record, SixTables) {

@@ -5,6 +5,7 @@
 --     Sizes            the sizes that a call checks first
 --     Tables           tables of rows of cells, and tables per router
 --     Lists            what stands in a list of numbers
+--     Bytes            numbers in a list of bytes
 -- The laws about them; RowLaws is for a table that is filled row by row, PerRouterLaws for one filled router by router.
 pub mod Limits
 pub mod Refusals
@@ -12,7 +13,9 @@ pub mod Tests
 pub mod Sizes
 pub mod Tables
 pub mod Lists
+pub mod Bytes
 pub mod RefusalLaws
+pub mod ByteLaws
 pub mod TestLaws
 pub mod LowestLaws
 pub mod SizeLaws

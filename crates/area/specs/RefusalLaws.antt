@@ -13,7 +13,7 @@ use Rattle.area.specs.declared.refusal.Refusal.the-variants.{UnknownRout
 use Rattle.area.specs.declared.refusal.Refusal.the-variants.{TableSize, TooMany, NoChange, SameMetric}
 use Rattle.area.specs.declared.refusal.Refusal.the-variants.{Mixed, NoCommonRouter, Record, Kind, State}
 use Rattle.area.specs.declared.refusal.Refusal.the-variants.{Waiting, NotDue, Unwritten, NotDone, NotTold}
-use Rattle.area.specs.declared.refusal.Refusal.the-variants.{DeadLink}
+use Rattle.area.specs.declared.refusal.Refusal.the-variants.{DeadLink, PastList, LongSubTlvs, UnknownIdentity}
 use Rattle.area.specs.declared.refusal.Verdict.{Verdict}
 use Rattle.area.specs.declared.refusal.Verdict.the-variants.{Accepted, Refused}
 use Rattle.area.specs.Tests.{pick}
@@ -21,6 +21,7 @@ use Rattle.area.specs.Refusals.{refusalNumber, verdictNumber}
 use Rattle.area.specs.Refusals.{incomplete, trailing, routerCount, unknownRouter, selfLink, badMetric, repeated}
 use Rattle.area.specs.Refusals.{tableSize, tooMany, noChange, sameMetric, mixed, noCommonRouter, badRecord}
 use Rattle.area.specs.Refusals.{unknownKind, wrongState, stillWaiting, notDue, unwritten, notDone, notTold}
+use Rattle.area.specs.Refusals.{deadLink, pastList, longSubTlvs}
 
 -- the refusal of a number
 abbrev numbered : ℕ → Refusal
@@ -46,7 +47,10 @@ numbered n =
     (pick (eqb n unwritten) Unwritten
     (pick (eqb n notDone) NotDone
     (pick (eqb n notTold) NotTold
-    DeadLink))))))))))))))))))))
+    (pick (eqb n deadLink) DeadLink
+    (pick (eqb n pastList) PastList
+    (pick (eqb n longSubTlvs) LongSubTlvs
+    UnknownIdentity)))))))))))))))))))))))
 
 of-number : (k : Refusal) → numbered (refusalNumber k) ≡ k
 of-number Incomplete = refl
@@ -71,6 +75,9 @@ of-number Unwritten = refl
 of-number NotDone = refl
 of-number NotTold = refl
 of-number DeadLink = refl
+of-number PastList = refl
+of-number LongSubTlvs = refl
+of-number UnknownIdentity = refl
 
 pub refusal-positive : (k : Refusal) → 1 ≤ refusalNumber k
 refusal-positive Incomplete = omega arith
@@ -95,6 +102,9 @@ refusal-positive Unwritten = omega arith
 refusal-positive NotDone = omega arith
 refusal-positive NotTold = omega arith
 refusal-positive DeadLink = omega arith
+refusal-positive PastList = omega arith
+refusal-positive LongSubTlvs = omega arith
+refusal-positive UnknownIdentity = omega arith
 
 pub same-refusal : (j k : Refusal) → refusalNumber j ≡ refusalNumber k → j ≡ k
 same-refusal j k e = sym (of-number j) ∙ ap numbered e ∙ of-number k

@@ -1,4 +1,4 @@
--- The refusals of 01, and one of 02: a name for the number of each, and when it is given. No two have the same number,
+-- The refusals of 01 and 02: a name for the number of each, and when it is given. No two have the same number,
 -- and none has 0 (RefusalLaws.antt), so an equation on the number decides the answer.
 use Prim.Native.Nat.{ℕ}
 use Rattle.area.specs.declared.refusal.Refusal.{Refusal}
@@ -7,16 +7,17 @@ use Rattle.area.specs.declared.refusal.Refusal.the-variants.{UnknownRout
 use Rattle.area.specs.declared.refusal.Refusal.the-variants.{TableSize, TooMany, NoChange, SameMetric}
 use Rattle.area.specs.declared.refusal.Refusal.the-variants.{Mixed, NoCommonRouter, Record, Kind, State}
 use Rattle.area.specs.declared.refusal.Refusal.the-variants.{Waiting, NotDue, Unwritten, NotDone, NotTold}
-use Rattle.area.specs.declared.refusal.Refusal.the-variants.{DeadLink}
+use Rattle.area.specs.declared.refusal.Refusal.the-variants.{DeadLink, PastList, LongSubTlvs, UnknownIdentity}
 use Rattle.area.specs.declared.refusal.Verdict.{Verdict}
 use Rattle.area.specs.declared.refusal.Verdict.the-variants.{Accepted, Refused}
 
 -- ---- of Paths, Plan and Read: what they were handed
--- a bench file ends too early, or the bytes of a change list are no whole number of entries
+-- a bench file or a list of IS-IS entries ends too early, or the bytes of a change list or of a table of identities are
+-- no whole number of entries or rows
 abbrev pub incomplete : ℕ
 incomplete = 1
 
--- bytes follow the last step of a bench file
+-- bytes follow the last step of a bench file, or the last list
 abbrev pub trailing : ℕ
 trailing = 2
 
@@ -103,6 +104,19 @@ notTold = 28
 abbrev pub deadLink : ℕ
 deadLink = 30
 
+-- ---- of areas from IS-IS (02, No. 6)
+-- an entry runs past the end of its list
+abbrev pub pastList : ℕ
+pastList = 31
+
+-- the sub-TLVs of an entry have more bytes than there may be
+abbrev pub longSubTlvs : ℕ
+longSubTlvs = 32
+
+-- the identity of a neighbour is not in the table of identities
+abbrev pub unknownIdentity : ℕ
+unknownIdentity = 33
+
 -- ---- of an answer of the code
 -- the number of a refusal; `Refusal` and `Verdict` are the enums of src/refusal.rt
 abbrev pub refusalNumber : (k : Refusal) → ℕ
@@ -128,6 +142,9 @@ refusalNumber Unwritten = unwritten
 refusalNumber NotDone = notDone
 refusalNumber NotTold = notTold
 refusalNumber DeadLink = deadLink
+refusalNumber PastList = pastList
+refusalNumber LongSubTlvs = longSubTlvs
+refusalNumber UnknownIdentity = unknownIdentity
 
 -- the number of an answer: the refusal's, and 0 where the input is accepted
 abbrev pub verdictNumber : (v : Verdict) → ℕ

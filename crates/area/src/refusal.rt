@@ -30,6 +30,10 @@ pub enum Refusal {
     NotTold,
     // Of Read: a link of a file that is not used.
     DeadLink,
+    // Of areas from IS-IS, which have those of Read too but for DeadLink, Repeated and TooMany.
+    PastList,
+    LongSubTlvs,
+    UnknownIdentity,
 }
 
 // What a call says of the input that it was handed.
@@ -66,6 +70,9 @@ impl Refusal {
             Refusal::NotDone => 27,
             Refusal::NotTold => 28,
             Refusal::DeadLink => 30,
+            Refusal::PastList => 31,
+            Refusal::LongSubTlvs => 32,
+            Refusal::UnknownIdentity => 33,
         }
     }
 }

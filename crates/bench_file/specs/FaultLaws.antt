@@ -20,6 +20,7 @@ use native.Mathlib.Omega.{arith}
 use lib.Dec.{ltb}
 use lib.ListN.{length, getD}
 use borrow.Author.Tests.{lt-ltb, le-ltb}
+use Rattle.area.specs.Bytes.{two}
 use Rattle.area.specs.Limits.{width, mostChanges, mostSteps}
 use Rattle.area.specs.Refusals.{incomplete, trailing, routerCount, repeated, tooMany, deadLink}
 use Rattle.area.specs.Tests.{pick, orThen}
@@ -30,7 +31,7 @@ use Rattle.entries.specs.Entries.{entryCount, entryOf, from, to, isFree, isFirs
 use Rattle.entries.specs.EntryLaws.{Faultless, faultless, faultless-of, free-same}
 use Rattle.bench_file.specs.declared.Format.{Format}
 use Rattle.bench_file.specs.Formats.{takesDead}
-use Rattle.bench_file.specs.Sections.{two, routers, linkCount, links}
+use Rattle.bench_file.specs.Sections.{routers, linkCount, links}
 use Rattle.bench_file.specs.Sections.{changeCount, changesAt, stepCount, stepsAt, end}
 use Rattle.bench_file.specs.Faults.{mostLinks, isDead, deadRefusal, linkRefusal, linksRefusal, restRefusal}
 use Rattle.bench_file.specs.Faults.{fileRefusal}

@@ -1,5 +1,5 @@
--- The faults of a bench file f (01, "The bench file"), in either format (02, No. 5): the first in the order of its bytes
--- is its refusal.
+-- The faults of a bench file f (01, "The bench file"), in either format (02, No. 5): the first in the order of its
+-- bytes is its refusal.
 use Prim.Native.Nat.{ℕ, _-_, _*_}
 use mathlib.Core.Bool.{Bool, not, _&&_}
 use mathlib.Core.List.{List}

@@ -23,6 +23,7 @@ use native.Mathlib.Decide.{decLt, ℕ-discrete}
 use native.Mathlib.Omega.{arith}
 use lib.ListN.{length, getD, take, drop, length-drop}
 use lib.Seq.{length-take-le, take-all, getD-take, getD-drop}
+use Rattle.area.specs.Bytes.{two}
 use Rattle.area.specs.Limits.{width, unused, mostChanges, mostSteps}
 use Rattle.area.specs.Tests.{first}
 use Rattle.area.specs.TestLaws.{look, first-same}
@@ -33,7 +34,7 @@ use Rattle.area.specs.TableLaws.{cell-tabulate}
 use Rattle.entries.specs.Entries.{entryCount, entryOf, from, to, metric, isForPair, listedMetric}
 use Rattle.entries.specs.EntryLaws.{entry-count-is, entry-count-least, entry-same}
 use Rattle.entries.specs.EntryLaws.{given-none, given-cases, given-at}
-use Rattle.bench_file.specs.Sections.{two, routers, linkCount, links, changeCountAt, changeCount, changesAt}
+use Rattle.bench_file.specs.Sections.{routers, linkCount, links, changeCountAt, changeCount, changesAt}
 use Rattle.bench_file.specs.Sections.{changes, stepCountAt, stepCount, stepsAt, steps, largest}
 use Rattle.bench_file.specs.declared.Format.{Format}
 use Rattle.bench_file.specs.declared.Format.the-variants.{New}

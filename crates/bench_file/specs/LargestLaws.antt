@@ -18,6 +18,7 @@ use lib.Dec.{ltb, eqb}
 use lib.ListN.{length, getD, length-drop, List·getD-eq-default}
 use lib.Seq.{getD-drop}
 use borrow.Author.Tests.{lt-ltb, le-ltb, ne-eqb, ltb-true}
+use Rattle.area.specs.Bytes.{two}
 use Rattle.area.specs.Limits.{width, unused}
 use Rattle.area.specs.Tests.{pick}
 use Rattle.area.specs.TestLaws.{look}
@@ -26,7 +27,7 @@ use Rattle.area.specs.Tables.{build}
 use Rattle.area.specs.TableLaws.{length-build, build-at}
 use Rattle.entries.specs.Entries.{entryCount, entryOf, from, to, metric, isForPair}
 use Rattle.entries.specs.EntryLaws.{entry-count-least, entry-bytes, of-pair, free-true}
-use Rattle.bench_file.specs.Sections.{two, routers, linkCount, links}
+use Rattle.bench_file.specs.Sections.{routers, linkCount, links}
 use Rattle.bench_file.specs.Sections.{changeCount, stepCountAt, stepCount, largest}
 use Rattle.bench_file.specs.declared.Format.the-variants.{New}
 use Rattle.bench_file.specs.FaultLaws.{most-links-is, live-passes, Link, Accepted, of-accepted}

@@ -5,20 +5,23 @@
 --     contents-accepted, by-accepted, metrics-accepted     it is accepted
 --     read-file                                a table of the right size leaves the answer to the file
 --     InTable                                  the links have their cells in the table
---     linked-same                              links that make the same table
-use Prim.Native.Nat.{ℕ, _*_, _<_}
-use mathlib.Core.Path.{_≡_, refl, _∙_}
+--     linked-is, linked-same                   a table by its cells, and links that make the same table
+--     linked-clear                             the table without a link
+use Prim.Native.Nat.{ℕ, _+_, _*_, _<_}
+use mathlib.Core.Path.{_≡_, refl, sym, ap, _∙_}
 use mathlib.Core.Logic.{_≢_}
 use mathlib.Core.List.{List, []}
 use native.Mathlib.Omega.{arith}
-use lib.ListN.{length}
+use lib.ListN.{length, getD}
 use borrow.Author.Tests.{eq-eqb, ne-eqb}
 use Rattle.area.specs.Limits.{width, unused}
 use Rattle.area.specs.Refusals.{tableSize}
 use Rattle.area.specs.SizeLaws.{table-true, table-false}
-use Rattle.area.specs.Tables.{tabulate}
-use Rattle.area.specs.TableLaws.{length-tabulate, cell-tabulate, is-tabulate}
+use Rattle.area.specs.Tables.{build, cell, tabulate}
+use Rattle.area.specs.TableLaws.{length-build, build-at, length-tabulate, cell-tabulate, is-tabulate}
+use Rattle.area.specs.TableLaws.{cell-in}
 use Rattle.entries.specs.Entries.{from, to, listedMetric}
+use Rattle.entries.specs.EntryLaws.{given-start}
 use Rattle.bench_file.specs.Sections.{linkCount, links}
 use Rattle.bench_file.specs.declared.Format.{Format}
 use Rattle.bench_file.specs.declared.Format.the-variants.{New}
@@ -70,6 +73,15 @@ module _ (format : Format) (f t : List ℕ) where
 abbrev pub InTable : (l : List ℕ) (k : ℕ) → Type 0
 InTable l k = (e : ℕ) → e < k → (from l e < width) × (to l e < width)
 
+-- a table whose cells have the metrics that the links give is the table of these links
+pub linked-is :
+    (l : List ℕ) (k : ℕ) (t : List ℕ)
+    → length t ≡ width * width
+    → ((i j : ℕ) → i < width → j < width → cell width t i j ≡ listedMetric l k i j unused)
+    → t ≡ linked l k
+unfolding linked
+linked-is l k t size same = is-tabulate width (λ i j. listedMetric l k i j unused) t (omega arith) size same
+
 -- links that give every pair the same metric make the same table
 pub linked-same :
     (l m : List ℕ) (k p : ℕ)
@@ -80,3 +92,20 @@ linked-same l m k p same =
     is-tabulate width (λ i j. listedMetric m p i j unused) (tabulate width (λ i j. listedMetric l k i j unused))
     (omega arith) (length-tabulate width (λ i j. listedMetric l k i j unused))
     (λ i j a b. cell-tabulate width (λ i j. listedMetric l k i j unused) i j a b ∙ same i j)
+
+-- a table that was cleared
+pub linked-clear :
+    (t : List ℕ)
+    → length t ≡ width * width
+    → (out : List ℕ)
+    → out ≡ build (length t) (λ _. unused)
+    → out ≡ linked [] 0
+unfolding linked
+linked-clear t a out e =
+    let all = e ∙ ap (λ (k : ℕ). build k (λ _. unused)) a in
+    is-tabulate width (λ i j. listedMetric [] 0 i j unused) out (omega arith)
+    (ap length all ∙ length-build (width * width) (λ _. unused))
+    (λ i j b c.
+    ap (λ (x : List ℕ). getD x (width * i + j) 0) all
+    ∙ build-at (width * width) (λ _. unused) (width * i + j) (cell-in width i j b c)
+    ∙ sym (given-start [] i j unused))

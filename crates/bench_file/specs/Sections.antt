@@ -5,11 +5,8 @@
 use Prim.Native.Nat.{ℕ, _+_, _-_, _*_}
 use mathlib.Core.List.{List}
 use lib.ListN.{getD, take, drop}
+use Rattle.area.specs.Bytes.{two}
 use Rattle.area.specs.Limits.{width, mostChanges, mostSteps}
-
--- the number in the two bytes at place k, high byte first
-abbrev pub two : (f : List ℕ) (k : ℕ) → ℕ
-two f k = 256 * getD f k 0 + getD f (k + 1) 0
 
 -- the number of routers, in the first byte
 abbrev pub routers : (f : List ℕ) → ℕ

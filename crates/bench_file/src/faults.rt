@@ -6,8 +6,8 @@
 //     rest     what follows the links
 // What the faults are is specs/Faults.antt; that `seen` tells a repeated pair is proofs/Pairs.antt.
 use crate::Format;
-use crate::bytes::byte;
-use crate::bytes::two;
+use area::bytes::byte;
+use area::bytes::two;
 use area::limits::ENTRY;
 use area::limits::MOST_CHANGES;
 use area::limits::MOST_STEPS;

@@ -1,27 +1,24 @@
 // The bench file: one area, one change and a list of steps, as bytes. In the order in which a file goes through them:
-//     bytes        a byte, and two bytes, as a number
 //     faults       judge: the first fault in the order of the bytes
-//     metrics      clear and put: the metric table of the links
+//     metrics      put: the metric table of the links
 //     examine      judges a file of either format, and says where changes and steps begin
 //     read         Read: the same in the new format, and fills the table
 // Definitions, in reading order: specs/Formats.antt (how the formats differ), Sections.antt (what stands where),
 // Faults.antt (the refusals), Read.antt (the promise). What a caller may conclude from them is specs/FileLaws.antt; the
 // loops' arguments are proofs/Pairs.antt (repeated pairs) and proofs/Linking.antt (the table).
-mod bytes;
 mod faults;
 mod metrics;
 
+use area::bytes::byte;
+use area::bytes::two;
 use area::limits::CELLS;
 use area::limits::ENTRY;
+use area::metrics::clear;
 use area::refusal::Refusal;
 use area::refusal::Verdict;
-use bytes::byte;
-use bytes::two;
 use faults::judge;
 ghost use mathlib.Core.Path.{_≡_};
-ghost use lib.ListN.{length};
 ghost use Rattle.area.specs.Refusals.{verdictNumber};
-ghost use Rattle.bench_file.specs.Sections.{end};
 ghost use Rattle.bench_file.specs.Faults.{fileRefusal};
 ghost use Rattle.bench_file.specs.Read.{readRefusal, contents, noContents, contentsBy, contentsOf, metricsOf};
 
@@ -69,7 +66,7 @@ pub fn read(file: &[u8], table: &mut [u32]) -> BenchFile
             contents: no_contents(),
         };
     }
-    metrics::clear(table);
+    clear(table);
     let found = examine(Format::New, file);
     let answer = found.answer;
     if !answer.is_accepted() {
@@ -103,7 +100,6 @@ pub fn examine(format: Format, file: &[u8]) -> BenchFile
 
 // What an accepted file says of itself.
 fn describe(file: &[u8]) -> Contents
-    requires { ⌜ length (now file) ≡ end (now file) ⌝ }
     ensures { λ r. ⌜ r ≡ contents (now (file .entry)) ⌝ }
 {
     let links = two(file, 1);

@@ -1,6 +1,7 @@
 // The bench for programs in C or Rust: each call under a plain name, with numbers, slices and arrays in place of
 // structs and enums. A refusal is its number, 0 where nothing is refused; a record is lent field by field.
 //     ofib_read                       Read: the file's metrics, and what it says of itself
+//     ofib_isis                       the metrics of an area from IS-IS
 //     ofib_paths, ofib_plan           Paths and Plan
 //     ofib_sheet                      the running sheet of a plan
 //     ofib_step, ofib_run             one step, and all the steps of a list
@@ -22,6 +23,7 @@ ghost use Rattle.sheet.specs.Sheet.{sheetOf};
 ghost use Rattle.machine.specs.Machine.{over, stepOf};
 ghost use Rattle.machine.specs.Run.{run, callsOf};
 ghost use Rattle.bench_file.specs.Read.{readRefusal, contentsOf, metricsOf};
+ghost use Rattle.isis.specs.Isis.{isisRefusal, isisMetrics};
 ghost use Rattle.text.specs.Text.{Appended};
 ghost use Rattle.prepare.specs.Bench.{tablesAt};
 ghost use Rattle.report.specs.Report.{rehearsal, routes};
@@ -50,6 +52,19 @@ pub extern "C" fn ofib_read(file: &[u8], table: &mut [u32], contents: &mut [usiz
         found.contents.steps.at,
     ];
     let answer = found.answer;
+    answer.number()
+}
+
+// The metrics of an area from IS-IS: a table of identities, and a list for each of the n routers.
+#[no_mangle]
+pub extern "C" fn ofib_isis(n: usize, identities: &[u8], lists: &[u8], table: &mut [u32]) -> u8
+    ensures answer { λ r. ⌜
+        r ≡ isisRefusal n (now (identities .entry)) (now (lists .entry)) (now (table .entry)) ⌝ }
+    ensures metrics { λ _. ⌜
+        now (table .exit)
+        ≡ isisMetrics n (now (identities .entry)) (now (lists .entry)) (now (table .entry)) ⌝ }
+{
+    let answer = isis::read(n, identities, lists, table);
     answer.number()
 }
 

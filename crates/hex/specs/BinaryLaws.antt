@@ -23,8 +23,8 @@ use Rattle.bench_file.specs.Faults.{fileRefusal}
 use Rattle.bench_file.specs.FaultLaws.{accepted-of}
 use Rattle.bench_file.specs.FileLaws.{second-byte}
 use Rattle.hex.specs.Hex.{isSpace, isControl, isText}
+use Rattle.hex.specs.Digits.{hexDigit, hexByte, hexed}
 use Rattle.hex.specs.ReadingLaws.{space-low}
-use Rattle.hex.specs.HexLaws.{glyph, hexed}
 
 -- ---- control bytes; s says whether b is white space
 module _ (b : ℕ) (s : Bool) (tells : s ≡ isSpace b) where
@@ -56,17 +56,17 @@ module _ (l : List ℕ) (k : ℕ) where
   text-end h = rw (drop-of-length-le l {i = k} h) refl
 
 -- the text of a list of bytes has digits only
-control-glyph : (d : ℕ) → isControl (glyph d) ≡ false
-unfolding glyph
-control-glyph d = elim (decLt d 10) [
+control-digit : (d : ℕ) → isControl (hexDigit d) ≡ false
+unfolding hexDigit
+control-digit d = elim (decLt d 10) [
   | yes h ↦ rw (lt-ltb d 10 h) (control-high (48 + d) (omega arith))
-  | no f ↦ rw (le-ltb d 10 (omega arith)) (control-high (87 + d) (omega arith))
+  | no f ↦ rw (le-ltb d 10 (omega arith)) (control-high (55 + d) (omega arith))
 ]
 
 pub hexed-text : (l : List ℕ) → isText (hexed l) ≡ true
-unfolding isText hexed
+unfolding isText hexed hexByte
 hexed-text [] = refl
-hexed-text (x ∷ l) = rw (control-glyph (x / 16), control-glyph (x % 16)) (hexed-text l)
+hexed-text (x ∷ l) = rw (control-digit (x / 16), control-digit (x % 16)) (hexed-text l)
 
 -- ---- a binary file
 pub text-control : (l : List ℕ) (k : ℕ) → k < length l → isControl (getD l k 0) ≡ true → isText l ≡ false

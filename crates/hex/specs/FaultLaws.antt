@@ -23,7 +23,8 @@ use Rattle.hex.specs.declared.Reading.the-variants.{Between, Comment, Hi
 use Rattle.hex.specs.Hex.{most, first, next, byteOf, bytesOf, badDigit, oddDigit, tooLong}
 use Rattle.hex.specs.Hex.{unlessFault, decode, decoded, unhexed, isFault, hasFault, isFaulty}
 use Rattle.hex.specs.HexLaws.{unhexed-long, unhexed-decoded}
-use Rattle.hex.specs.HexLaws.{glyph, hexed, length-hexed, first-glyph, second-glyph, first-newline}
+use Rattle.hex.specs.Digits.{hexDigit, hexByte, hexed}
+use Rattle.hex.specs.HexLaws.{length-hexed, first-of, second-of, first-newline}
 
 -- ---- a text that is decoded, and one that is too long for it
 module _ (t : List ℕ) where
@@ -134,13 +135,13 @@ hexed-fault :
     → (s : Reading)
     → ((b : ℕ) → next s b ≡ first b)
     → hasFault s (hexed l) ≡ false
-unfolding hexed hasFault isFault next
+unfolding hexed hexByte hasFault isFault next
 hexed-fault [] small s f = rw (f 10, first-newline) refl
 hexed-fault (x ∷ l) small s f =
     let low : x < 256 = small 0 in
-    let high = first-glyph (x / 16) (omega arith) in
-    let byte = second-glyph (x / 16) (x % 16) (omega arith) in
-    rw (f (glyph (x / 16)), high, byte)
+    let high = first-of (x / 16) (omega arith) in
+    let byte = second-of (x / 16) (x % 16) (omega arith) in
+    rw (f (hexDigit (x / 16)), high, byte)
     (hexed-fault l (λ k. small (suc k)) (Byte (16 * (x / 16) + x % 16)) (λ b. refl))
 
 pub hexed-sound :

@@ -2,6 +2,7 @@
 --     unhexed-long, unhexed-decoded    what is written for a text that is too long, and for every other
 --     unhexed-fits     65536 bytes have room for whatever is written: each byte of the text is one digit at most, two
 --                      digits are a byte, and the line of a fault is short
+--     digit-of, first-of, second-of    the digit of a number reads as this number
 --     unhexed-hexed    every list of so many bytes at most is written for the text of its digits: the two digits of a
 --                      byte read as that byte, and after it a pair may start again
 use Prim.Native.Nat.{ℕ, suc, _+_, _*_, _-_, _/_, _%_, _≤_, _<_}
@@ -20,7 +21,8 @@ use Rattle.hex.specs.declared.Reading.{Reading}
 use Rattle.hex.specs.declared.Reading.the-variants.{Between, Comment, High, Byte, Bad, Odd}
 use Rattle.hex.specs.Hex.{digit, isSpace, first, second, next, byteOf, badDigit, oddDigit, tooLong}
 use Rattle.hex.specs.Hex.{unlessFault, decode, decoded, unhexed, most}
-use Rattle.hex.specs.ReadingLaws.{digit-decimal, digit-lower, first-digit, second-digit}
+use Rattle.hex.specs.Digits.{hexDigit, hexByte, hexed}
+use Rattle.hex.specs.ReadingLaws.{digit-decimal, digit-upper, first-digit, second-digit}
 
 -- ---- a text that is decoded, and one that is too long for it
 module _ (t : List ℕ) where
@@ -122,32 +124,23 @@ unhexed-fits t = elim (decLt most (length t)) [
 ]
 
 -- ---- the text of a list of bytes
--- the lower-case digit of a number below 16
-unfoldable pub glyph : (d : ℕ) → ℕ
-glyph d = cond (ltb d 10) (48 + d) (87 + d)
-
--- two digits for each byte
-unfoldable pub hexed : (l : List ℕ) → List ℕ
-hexed [] = []
-hexed (x ∷ l) = glyph (x / 16) ∷ glyph (x % 16) ∷ hexed l
-
-digit-glyph : (d : ℕ) → d < 16 → digit (glyph d) ≡ d
-unfolding glyph
-digit-glyph d h = elim (decLt d 10) [
+pub digit-of : (d : ℕ) → d < 16 → digit (hexDigit d) ≡ d
+unfolding hexDigit
+digit-of d h = elim (decLt d 10) [
   | yes l ↦ rw (lt-ltb d 10 l) (sym (digit-decimal (48 + d) (omega arith) (omega arith)) ∙ omega arith)
-  | no f ↦ rw (le-ltb d 10 (omega arith)) (sym (digit-lower (87 + d) (omega arith) (omega arith)) ∙ omega arith)
+  | no f ↦ rw (le-ltb d 10 (omega arith)) (sym (digit-upper (55 + d) (omega arith) (omega arith)) ∙ omega arith)
 ]
 
 pub length-hexed : (l : List ℕ) → length (hexed l) ≡ 2 * length l
-unfolding hexed
+unfolding hexed hexByte
 length-hexed [] = refl
 length-hexed (x ∷ l) = omega (arith, length-hexed l)
 
-pub first-glyph : (d : ℕ) → d < 16 → first (glyph d) ≡ High d
-first-glyph d h = sym (first-digit (glyph d) d (sym (digit-glyph d h)) h)
+pub first-of : (d : ℕ) → d < 16 → first (hexDigit d) ≡ High d
+first-of d h = sym (first-digit (hexDigit d) d (sym (digit-of d h)) h)
 
-pub second-glyph : (h d : ℕ) → d < 16 → second h (glyph d) ≡ Byte (16 * h + d)
-second-glyph h d l = sym (second-digit h (glyph d) d (sym (digit-glyph d l)) l)
+pub second-of : (h d : ℕ) → d < 16 → second h (hexDigit d) ≡ Byte (16 * h + d)
+second-of h d l = sym (second-digit h (hexDigit d) d (sym (digit-of d l)) l)
 
 pub first-newline : first 10 ≡ Between
 unfolding first digit isSpace
@@ -160,14 +153,14 @@ decode-hexed :
     → (done : List ℕ) (at : ℕ) (s : Reading)
     → ((b : ℕ) → next s b ≡ first b)
     → decode done at s (hexed l) ≡ done ++ l
-unfolding hexed decode unlessFault byteOf next
+unfolding hexed hexByte decode unlessFault byteOf next
 decode-hexed [] small done at s f = rw (f 10, first-newline, append-nil done) refl
 decode-hexed (x ∷ l) small done at s f =
     let low : x < 256 = small 0 in
     let whole : 16 * (x / 16) + x % 16 ≡ x = omega arith in
-    let high = first-glyph (x / 16) (omega arith) in
-    let byte = second-glyph (x / 16) (x % 16) (omega arith) in
-    rw (f (glyph (x / 16)), high, byte, whole, append-nil done)
+    let high = first-of (x / 16) (omega arith) in
+    let byte = second-of (x / 16) (x % 16) (omega arith) in
+    rw (f (hexDigit (x / 16)), high, byte, whole, append-nil done)
     (decode-hexed l (λ k. small (suc k)) (done ++ (x ∷ [])) (at + 1 + 1) (Byte x) (λ b. refl)
     ∙ append-snoc done x l)
 

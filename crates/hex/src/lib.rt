@@ -1,14 +1,20 @@
-// Text in hexadecimal to bytes.
+// Text in hexadecimal to bytes, and bytes to digits.
 //     unhex                what a text is in bytes, or the line that says its first fault, or that it is too long
 //     is_text              is this a text, or a binary file?
 //     decode               the loop over the text: each byte gets its reading by that of the byte before it
 //     step                 the next reading: `first` where a pair may start, `second` after a first digit
 //     digit, is_space, is_control      what a byte is by itself
 //     put, bad, odd        what is written
+//     printing             `hex_byte`, `hex_bytes`: the digits of bytes
 // What comes of a text is specs/Hex.antt. The laws of single bytes are specs/ReadingLaws.antt; that every list of bytes
 // has a text, and that ROOM is enough, is specs/HexLaws.antt; what is written where there is a fault, and where there
 // is none, is specs/FaultLaws.antt; that no bench file is taken for a text is specs/BinaryLaws.antt; the argument of
-// the loop over a text is proofs/Decoding.antt.
+// the loop over a text is proofs/Decoding.antt. The digits of bytes are specs/Digits.antt; that they say these bytes is
+// specs/PairLaws.antt.
+mod printing;
+
+pub use printing::hex_byte;
+pub use printing::hex_bytes;
 use text::append;
 use text::line;
 ghost use mathlib.Core.Path.{_≡_};

@@ -1,6 +1,5 @@
 -- Laws of the lines of a step section: what was appended part by part is the line, and what was appended call by call
 -- is the text of the whole list, as in LineLaws.antt.
---     digit-low, digit-high, byte-appended         digits
 --     count-appended, call-appended                the line of the count, and of a call
 --     lines-joined                                 one list of calls after another
 --     one-appended, member-called, member-uncalled  one call; a call for a member of a set, and none for another router
@@ -11,7 +10,7 @@ use Prim.Native.Nat.{ℕ, _+_, _/_, _%_, _≤_, _<_}
 use mathlib.Core.Path.{_≡_, refl, sym, ap, subst, _∙_}
 use mathlib.Core.Bool.{Bool, true, false}
 use mathlib.Core.List.{List, [], _∷_, _++_, append-nil, append-assoc}
-use borrow.Author.Tests.{lt-ltb, le-ltb, le-leb, lt-leb}
+use borrow.Author.Tests.{le-leb, lt-leb}
 use lib.ListN.{length, getD}
 use Rattle.area.specs.Limits.{mostSteps}
 use Rattle.area.specs.Tests.{pick}
@@ -24,26 +23,8 @@ use Rattle.sheet.specs.Follow.{each, callEach, callMembers, turn, following, sh
 use Rattle.sheet.specs.EachLaws.{each-none, each-more}
 use Rattle.text.specs.Text.{Appended, word, line}
 use Rattle.text.specs.TextLaws.{appended-none, appended-then}
-use Rattle.report.specs.Lines.{hexDigit, hexByte, countLine, callLine, callLines, stepSection}
-
--- ---- digits
-module _ (d : ℕ) where
-  pub digit-low : d < 10 → 48 + d ≡ hexDigit d
-  unfolding hexDigit
-  digit-low h = rw (lt-ltb d 10 h) refl
-
-  pub digit-high : 10 ≤ d → 55 + d ≡ hexDigit d
-  unfolding hexDigit
-  digit-high h = rw (le-ltb d 10 h) refl
-
-pub byte-appended :
-    (x high low : ℕ) {o p : List ℕ} {a b : ℕ}
-    → high ≡ hexDigit (x / 16)
-    → low ≡ hexDigit (x % 16)
-    → Appended o a (high ∷ low ∷ []) p b
-    → Appended o a (hexByte x) p b
-unfolding hexByte
-byte-appended x high low e f u = rw (e, f) at u
+use Rattle.hex.specs.Digits.{hexByte}
+use Rattle.report.specs.Lines.{countLine, callLine, callLines, stepSection}
 
 -- ---- lines
 pub count-appended :

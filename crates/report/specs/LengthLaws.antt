@@ -3,7 +3,7 @@
 -- that for each of them.
 --     refused-most, router-most, step-most, route-most, turn-most, call-most      one line
 --     routers-most, steps-most, routes-most, turns-most, section-most             all lines of a kind
-use Prim.Native.Nat.{ℕ, zero, suc, _+_, _*_, _≤_}
+use Prim.Native.Nat.{ℕ, zero, suc, _+_, _*_, _/_, _%_, _≤_}
 use mathlib.Core.Path.{_≡_}
 use mathlib.Core.Bool.{true, false}
 use mathlib.Core.Logic.{_⊎_, inl, inr, ⊎-elim}
@@ -21,11 +21,12 @@ use Rattle.machine.specs.Machine.{dueOf, tellingOf}
 use Rattle.machine.specs.Run.{Call}
 use Rattle.text.specs.Text.{word}
 use Rattle.text.specs.TextLaws.{field-most, line-most, refused-most}
+use Rattle.hex.specs.PrintingLaws.{byte-length}
 use Rattle.report.specs.declared.lines.Path.{Path}
 use Rattle.report.specs.Lines.{routerLine, routerLines, answerText, stepLine, stepLines}
 use Rattle.report.specs.Lines.{pathText, routeLine, isPrinted, pairText, path, rowLines, routeLines}
 use Rattle.report.specs.Lines.{memberWord, memberText, setText, turnLine, turnLines}
-use Rattle.report.specs.Lines.{hexByte, countLine, callLine, callLines, stepSection}
+use Rattle.report.specs.Lines.{countLine, callLine, callLines, stepSection}
 
 -- ---- one line
 router-most : (i rank waits tells due : ℕ) → length (routerLine i rank waits tells due) ≤ 83
@@ -91,12 +92,14 @@ turn-most k a writes tells =
     simp length-append (omega (arith, set-most writes, set-most tells))
 
 count-most : (count : ℕ) → length (countLine count) ≤ 5
-unfolding countLine hexByte
-count-most count = omega arith
+unfolding countLine
+count-most count =
+    simp length-append (omega (arith, byte-length (count / 256), byte-length (count % 256)))
 
 call-most : (c : Call) → length (callLine c) ≤ 9
-unfolding callLine hexByte
-call-most c = omega arith
+unfolding callLine
+call-most c =
+    simp length-append (omega (arith, byte-length (c .kind), byte-length (c .a), byte-length (c .b)))
 
 -- ---- all lines of a kind
 pub routers-most : (r : Record) (k : ℕ) → length (routerLines r k) ≤ 83 * k

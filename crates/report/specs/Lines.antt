@@ -3,7 +3,7 @@
 use Prim.Native.Nat.{ℕ, zero, suc, _+_, _/_, _%_}
 use mathlib.Core.Bool.{Bool, not, _&&_}
 use mathlib.Core.List.{List, [], _∷_, _++_}
-use lib.Dec.{eqb, ltb, leb}
+use lib.Dec.{eqb, leb}
 use lib.ListN.{length, getD}
 use Rattle.area.specs.Limits.{width, unreached, mostSteps}
 use Rattle.area.specs.Tests.{pick}
@@ -15,6 +15,7 @@ use Rattle.machine.specs.Machine.{dueOf, tellingOf}
 use Rattle.machine.specs.Run.{Call}
 use Rattle.sheet.specs.Sheet.{sheetOf}
 use Rattle.text.specs.Text.{word, field, line, refusedLine}
+use Rattle.hex.specs.Digits.{hexByte}
 use Rattle.report.specs.declared.lines.Path.{Path}
 
 -- ---- the rehearsal
@@ -135,14 +136,6 @@ abbrev pub sheetLines : (r : Record) → List ℕ
 sheetLines r = turnLines r (sheetOf r) (r .n) ++ word "end\n"
 
 -- ---- calls, as the step section of a bench file in hexadecimal (01, "The bench file")
--- the digit of a number below 16
-unfoldable pub hexDigit : (d : ℕ) → ℕ
-hexDigit d = pick (ltb d 10) (48 + d) (55 + d)
-
--- the two digits of a byte
-unfoldable pub hexByte : (x : ℕ) → List ℕ
-hexByte x = hexDigit (x / 16) ∷ hexDigit (x % 16) ∷ []
-
 -- the count of steps, two bytes with the high byte first
 unfoldable pub countLine : (count : ℕ) → List ℕ
 countLine count = hexByte (count / 256) ++ (hexByte (count % 256) ++ word "\n")

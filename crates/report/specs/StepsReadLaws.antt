@@ -1,19 +1,19 @@
 -- What is printed of a sheet's steps, read again. Decoded as a text in hexadecimal it is the count of the steps and the
 -- bytes of the calls, and these bytes stand for the calls: so what is put into a bench file is what was meant.
 -- Each number of a call fits a byte: a kind is at most 5, and a place of the sheet holds at most n.
---     digit-of, .. calls-say, count-says               digits, bytes, lines and all lines say what they are printed for
+--     call-says, calls-say, count-says                 lines and all lines say what they are printed for
 --     InBytes, AllInBytes, sheet-in-bytes              calls whose numbers are bytes; those of a sheet are
 --     callBytes, calls-back                            the bytes of calls, and the calls that they stand for
 --     steps-fit                                        a sheet never has too many steps for a file
 --     section-read, steps-read                         the section of such calls, and the steps of a file's sheet
-use Prim.Native.Nat.{ℕ, zero, suc, _+_, _*_, _/_, _%_, _≤_, _<_}
-use mathlib.Core.Path.{_≡_, sym, ap, subst, _∙_}
+use Prim.Native.Nat.{ℕ, zero, suc, _+_, _/_, _%_, _≤_, _<_}
+use mathlib.Core.Path.{_≡_, ap, _∙_}
 use mathlib.Core.Bool.{Bool, true, false}
 use mathlib.Core.List.{List, [], _∷_, _++_}
 use native.Mathlib.Decide.{decLt}
 use native.Mathlib.Numerals.{add-one}
 use native.Mathlib.Omega.{arith}
-use borrow.Author.Tests.{lt-ltb, le-ltb, le-leb}
+use borrow.Author.Tests.{le-leb}
 use lib.ListN.{length, getD}
 use Rattle.area.specs.Limits.{width, mostSteps}
 use Rattle.area.specs.Tests.{pick, lowest}
@@ -33,32 +33,14 @@ use Rattle.sheet.specs.Follow.{each, callEach, callMembers, turn, sheetCalls}
 use Rattle.sheet.specs.LengthLaws.{calls-most}
 use Rattle.sheet.specs.EachLaws.{each-none, each-more}
 use Rattle.bench_file.specs.Sections.{routers, changes}
-use Rattle.hex.specs.Hex.{most, digit, unhexed}
-use Rattle.hex.specs.ReadingLaws.{digit-decimal, digit-upper}
-use Rattle.hex.specs.PairLaws.{Says, says-none, says-then, says-pair, says-blank, says-newline, says-whole}
+use Rattle.hex.specs.Hex.{most, unhexed}
+use Rattle.hex.specs.PairLaws.{Says, says-none, says-then, byte-says, says-blank, says-newline, says-whole}
 use Rattle.prepare.specs.Bench.{metrics, refusal, planned}
 use Rattle.prepare.specs.BenchLaws.{file-of}
-use Rattle.report.specs.Lines.{hexDigit, hexByte, countLine, callLine, callLines, stepSection}
+use Rattle.report.specs.Lines.{countLine, callLine, callLines, stepSection}
 use Rattle.report.specs.LengthLaws.{section-most}
 use Rattle.report.specs.Report.{sheetSteps}
 use Rattle.report.specs.ReportLaws.{sheet-steps-whole}
-
--- ---- digits and bytes
-digit-of : (d : ℕ) → d < 16 → digit (hexDigit d) ≡ d
-unfolding hexDigit
-digit-of d h = elim (decLt d 10) [
-  | yes l ↦ rw (lt-ltb d 10 l) (sym (digit-decimal (48 + d) (omega arith) (omega arith)) ∙ omega arith)
-  | no f ↦ rw (le-ltb d 10 (omega arith)) (sym (digit-upper (55 + d) (omega arith) (omega arith)) ∙ omega arith)
-]
-
-byte-says : (x : ℕ) → x < 256 → Says (hexByte x) (x ∷ [])
-unfolding hexByte
-byte-says x h =
-    let high = digit-of (x / 16) (omega arith) in
-    let low = digit-of (x % 16) (omega arith) in
-    let whole : 16 * digit (hexDigit (x / 16)) + digit (hexDigit (x % 16)) ≡ x = rw (high, low) (omega arith) in
-    subst (λ (b : ℕ). Says (hexDigit (x / 16) ∷ hexDigit (x % 16) ∷ []) (b ∷ [])) whole
-    (says-pair (hexDigit (x / 16)) (hexDigit (x % 16)) (omega (arith, high)) (omega (arith, low)))
 
 -- ---- calls whose numbers are bytes
 abbrev pub InBytes : (c : Call) → Type 0

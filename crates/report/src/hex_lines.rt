@@ -1,11 +1,11 @@
 // The lines of a step section in hexadecimal, each appended to the text in a lent buffer as those of src/lines.rt are.
+use hex::hex_byte;
 use text::append;
-ghost use mathlib.Core.Path.{_≡_};
 ghost use mathlib.Core.List.{_++_};
-ghost use Prim.Native.Nat.{_<_};
 ghost use Rattle.machine.specs.Run.{call};
 ghost use Rattle.text.specs.Text.{Appended};
-ghost use Rattle.report.specs.Lines.{hexDigit, hexByte, countLine, callLine};
+ghost use Rattle.hex.specs.Digits.{hexByte};
+ghost use Rattle.report.specs.Lines.{countLine, callLine};
 
 // The count of steps.
 pub(crate) fn count_line(count: u16, out: &mut [u8], at: usize) -> usize
@@ -30,20 +30,4 @@ fn byte_then(x: u8, after: &[u8], out: &mut [u8], at: usize) -> usize
 {
     let at = hex_byte(x, out, at);
     append(out, at, after)
-}
-
-// The two digits of a byte.
-fn hex_byte(x: u8, out: &mut [u8], at: usize) -> usize
-    ensures text { λ r. ⌜ Appended (now (out .entry)) at (hexByte x) (now (out .exit)) r ⌝ }
-{
-    let digits = [hex_digit(x / 16), hex_digit(x % 16)];
-    append(out, at, &digits)
-}
-
-// A digit, in capitals.
-fn hex_digit(d: u8) -> u8
-    requires { ⌜ d < 16 ⌝ }
-    ensures digit { λ r. ⌜ r ≡ hexDigit d ⌝ }
-{
-    if d < 10 { 48 + d } else { 55 + d }
 }

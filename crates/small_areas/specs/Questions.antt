@@ -1,6 +1,6 @@
 -- What can be asked of a bench file f, and what the definitions answer: Read's on the file, then those of Paths, Plan,
--- Step and the running sheet on what Read gives; and those of the old reader and of the rewriting, on the file as a
--- stored one.
+-- Step and the running sheet on what Read gives; those of the old reader and of the rewriting, on the file as a stored
+-- one; and those of the reader of IS-IS data, where the file is its lists.
 use Prim.Native.Nat.{ℕ, _*_}
 use mathlib.Core.List.{List, _∷_}
 use lib.ListN.{getD, take, replicate}
@@ -34,6 +34,10 @@ use Rattle.bench_file.specs.Faults.{mostLinks, deadRefusal, linkRefusal, restRe
 use Rattle.bench_file.specs.Read.{readRefusal, contents, noContents, contentsOf, linked, metricsBy, metricsOf}
 use Rattle.rewriting.specs.Live.{live, liveCount}
 use Rattle.rewriting.specs.Rewriting.{rewritten, written}
+use Rattle.tlv.specs.Items.{itemAt, itemsFrom, itemsAt}
+use Rattle.isis.specs.Identities.{rowsRefusal, rowOf, isOf}
+use Rattle.isis.specs.Lists.{neighbourRefusal, itemsRefusal, lowestTo, lengthAt, listRefusal, listedTo}
+use Rattle.isis.specs.Isis.{listsRefusal, areaRefusal, isisRefusal, listed, noLinks, isisMetrics}
 use Rattle.text.specs.Text.{digits, decimal, field, line, refusedLine}
 use Rattle.report.specs.Lines.{routerLine, routerLines, answerText, stepLine, stepLines}
 use Rattle.report.specs.Report.{rehearsal}
@@ -64,6 +68,10 @@ pub data Question : Type 0 where
   -- the number with which the old reader refuses the file, and what is written for it as a stored file
   oldRefusal : Question
   rewrites : Question
+  -- the number with which the file is refused as the lists of n routers, beside a table of identities and with a metric
+  -- table of so many cells; and the metric from i to j that such a table of the right size then has
+  isis : (n : ℕ) (identities : List ℕ) (cells : ℕ) → Question
+  isisMetric : (n : ℕ) (identities : List ℕ) (i j : ℕ) → Question
 
 -- what the answer to a question is
 abbrev pub Value : (q : Question) → Type 0
@@ -83,6 +91,8 @@ Value allSteps = List Reply
 Value printed = List ℕ
 Value oldRefusal = ℕ
 Value rewrites = List ℕ
+Value (isis n identities cells) = ℕ
+Value (isisMetric n identities i j) = ℕ
 
 -- tables of the right size, to lend to Read, Paths and Plan
 abbrev lent : List ℕ
@@ -126,7 +136,8 @@ unfolding readRefusal fileRefusal mostLinks deadRefusal linkRefusal restRefusal 
     filled recordOf tablesOf learn release ready write finish listens deliver isSound isKind readsB areRouters
     callOf stepOf callsOf replies lowest placed sheetOf digits decimal field line
     Rattle.prepare.specs.Bench.refusal refusedLine routerLine routerLines answerText stepLine stepLines rehearsal
-    live liveCount rewritten written
+    live liveCount rewritten written itemAt itemsFrom itemsAt rowsRefusal rowOf isOf neighbourRefusal
+    itemsRefusal lowestTo lengthAt listRefusal listedTo listsRefusal areaRefusal isisRefusal listed noLinks isisMetrics
 answer f refusal = orThen (readRefusal f lent) (refusedBy f)
 answer f root = planned f .root
 answer f ranks = take (routers f) (planned f .ranks)
@@ -143,3 +154,5 @@ answer f allSteps = replied f
 answer f printed = rehearsal f lent lentFive
 answer f oldRefusal = fileRefusal Old f
 answer f rewrites = written f
+answer f (isis n identities cells) = isisRefusal n identities f (replicate cells 0)
+answer f (isisMetric n identities i j) = cell width (isisMetrics n identities f lent) i j

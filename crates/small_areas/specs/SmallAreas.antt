@@ -5,6 +5,8 @@
 --     orders           lists of changes in several orders (02, No. 2)
 --     halfLinks        links that are up at one end only (02, No. 4)
 --     deadLinks        files that list dead links (02, No. 5)
+--     isisAreas        lists of IS-IS entries (02, No. 6), and
+--     isisFaults       those that are refused
 --     rehearsed        and all that the rehearsal replies and prints
 --     agreed           the theorem
 use Prim.Native.Nat.{ℕ, _/_, _%_}
@@ -15,7 +17,7 @@ use Rattle.machine.specs.Answers.{ok, ignored, refused}
 use Rattle.text.specs.Text.{word}
 use Rattle.small_areas.specs.Questions.{Question, refusal, root, ranks, waits, distance, set, oldSet, newSet}
 use Rattle.small_areas.specs.Questions.{distanceBy, setBy, sheet, step, allSteps, printed}
-use Rattle.small_areas.specs.Questions.{oldRefusal, rewrites, Value, answer}
+use Rattle.small_areas.specs.Questions.{oldRefusal, rewrites, isis, isisMetric, Value, answer}
 
 -- ---- bench files as bytes (01, "The bench file")
 -- a number in two bytes
@@ -379,6 +381,77 @@ deadLinks =
     ∷ deadElsewhere (link 0 1 down ++ link 1 0 0) 30 6
     ∷ deadChange ∷ []
 
+-- ---- areas from IS-IS (02, No. 6)
+-- an identity, all of whose seven bytes are x; a row of the table of identities; an entry at the metric m
+abbrev identity : (x : ℕ) → List ℕ
+identity x = replicate 7 x
+
+abbrev row : (x router : ℕ) → List ℕ
+row x router = identity x ++ (router ∷ [])
+
+abbrev entry : (x m : ℕ) (subTlvs : List ℕ) → List ℕ
+entry x m subTlvs = identity x ++ (m / 65_536 ∷ m / 256 % 256 ∷ m % 256 ∷ length subTlvs ∷ subTlvs)
+
+-- a list behind its length
+abbrev list : (entries : List ℕ) → List ℕ
+list entries = two (length entries) ++ entries
+
+-- A is router 0, and B and C are router 1. A stands a second time, as router 1, and that row does not count.
+abbrev identities : List ℕ
+identities = row 0xA 0 ++ row 0xB 1 ++ row 0xA 1 ++ row 0xC 1
+
+abbrev isisLink : (i j m : ℕ) → Result
+isisLink i j m = isisMetric 2 identities i j is m
+
+-- A link in both directions, each from its own end.
+abbrev bothEnds : Case
+bothEnds =
+    case (list (entry 0xB 5 []) ++ list (entry 0xA 7 []))
+    (isis 2 identities 1_024 is 0
+    ∷ isisLink 0 1 5 ∷ isisLink 1 0 7 ∷ isisLink 0 0 down ∷ isisLink 2 0 down ∷ [])
+
+-- Of two entries for one router the lower counts, whichever identity it has. Sub-TLVs are skipped.
+abbrev lowestEntry : Case
+lowestEntry =
+    case (list (entry 0xB 5 [] ++ entry 0xC 3 (1 ∷ 2 ∷ 3 ∷ [])) ++ list [])
+    (isis 2 identities 1_024 is 0 ∷ isisLink 0 1 3 ∷ isisLink 1 0 down ∷ [])
+
+-- An entry may have the metric of a link that is not used, and gives no link.
+abbrev deadEntry : Case
+deadEntry = case (list (entry 0xB down []) ++ list []) (isis 2 identities 1_024 is 0 ∷ isisLink 0 1 down ∷ [])
+
+-- After a refusal the metric table has no link, not even one of a list before the fault.
+abbrev afterRefusal : Case
+afterRefusal =
+    case (list (entry 0xB 5 []) ++ list (entry 0xC 7 []))
+    (isis 2 identities 1_024 is 5 ∷ isisLink 0 1 down ∷ [])
+
+abbrev isisAreas : List Case
+isisAreas = bothEnds ∷ lowestEntry ∷ deadEntry ∷ afterRefusal ∷ []
+
+-- lists of two routers, and the number with which they are refused: 0 where they are not, as for 244 bytes of sub-TLVs
+abbrev isisRow : (lists : List ℕ) (number : ℕ) → Case
+isisRow lists number = case lists (isis 2 identities 1_024 is number ∷ [])
+
+-- The size of the metric table, then n, then the rows of the table of identities, then the lists.
+abbrev tableOrder : (n : ℕ) (table : List ℕ) (cells number : ℕ) → Case
+tableOrder n table cells number = case [] (isis n table cells is number ∷ [])
+
+abbrev isisFaults : List Case
+isisFaults =
+    isisRow (0x00 ∷ 0x05 ∷ word "abcd") 1
+    ∷ isisRow (list (word "ab") ++ list []) 31
+    ∷ isisRow (list (entry 0xB 5 (replicate 245 0)) ++ list []) 32
+    ∷ isisRow (list (entry 0xB 5 (replicate 244 0)) ++ list []) 0
+    ∷ isisRow (list (entry 0xF 0 []) ++ list []) 33
+    ∷ isisRow (list (entry 0xA 0 []) ++ list []) 5
+    ∷ isisRow (list (entry 0xB 0 []) ++ list (word "a")) 6
+    ∷ isisRow (list [] ++ list [] ++ word "a") 2
+    ∷ tableOrder 2 (row 0xA 2 ++ (0x00 ∷ [])) 1_024 4
+    ∷ tableOrder 2 (identities ++ (0x00 ∷ [])) 1_024 1
+    ∷ tableOrder 33 (0x00 ∷ []) 1_024 3
+    ∷ tableOrder 33 (0x00 ∷ []) 1_023 8 ∷ []
+
 -- ---- the rehearsal, with the lines that 01 has below its file, as they are since 02, No. 2
 abbrev routerLines : List ℕ
 routerLines =
@@ -407,7 +480,7 @@ rehearsed = replied ∷ wholeText ∷ []
 cases : List Case
 cases =
     C1 ∷ C2 ∷ C3 ∷ C4 ∷ C5 ∷ C6 ∷ C7 ∷ C8 ∷ C9 ∷ C10 ∷ C11 ∷ C12 ∷ C13
-    ∷ sheets ++ orders ++ halfLinks ++ deadLinks ++ rehearsed
+    ∷ sheets ++ orders ++ halfLinks ++ deadLinks ++ isisAreas ++ isisFaults ++ rehearsed
 
 -- the questions of a row, with the definitions' answers
 abbrev answered : (c : Case) → List Result
@@ -418,16 +491,24 @@ abbrev Agree : (cs : List Case) → Type 0
 Agree [] = Unit {0}
 Agree (c ∷ cs) = (answered c ≡ c .results) × Agree cs
 
--- The definitions agree with the list: both sides are computed, in each of its 43 rows.
-last-rows : Agree (deadLinks ++ rehearsed)
+-- The definitions agree with the list: both sides are computed, in each of its 59 rows.
+last-rows : Agree rehearsed
 unfolding answer
-last-rows = (refl, (refl, (refl, (refl, (refl, (refl, (refl, (refl, (refl, (refl, tt))))))))))
+last-rows = (refl, (refl, tt))
 
-half-rows : Agree (halfLinks ++ deadLinks ++ rehearsed)
+isis-rows : Agree (isisFaults ++ rehearsed)
 unfolding answer
-half-rows = (refl, (refl, (refl, (refl, (refl, (refl, (refl, (refl, (refl, (refl, (refl, last-rows)))))))))))
+isis-rows = (refl, (refl, (refl, (refl, (refl, (refl, (refl, (refl, (refl, (refl, (refl, (refl, last-rows))))))))))))
 
-others : Agree (sheets ++ orders ++ halfLinks ++ deadLinks ++ rehearsed)
+dead-rows : Agree (deadLinks ++ isisAreas ++ isisFaults ++ rehearsed)
+unfolding answer
+dead-rows = (refl, (refl, (refl, (refl, (refl, (refl, (refl, (refl, (refl, (refl, (refl, (refl, isis-rows))))))))))))
+
+half-rows : Agree (halfLinks ++ deadLinks ++ isisAreas ++ isisFaults ++ rehearsed)
+unfolding answer
+half-rows = (refl, (refl, (refl, (refl, (refl, (refl, (refl, (refl, (refl, (refl, (refl, dead-rows)))))))))))
+
+others : Agree (sheets ++ orders ++ halfLinks ++ deadLinks ++ isisAreas ++ isisFaults ++ rehearsed)
 unfolding answer
 others = (refl, (refl, (refl, (refl, (refl, (refl, (refl, (refl, (refl, half-rows)))))))))
 

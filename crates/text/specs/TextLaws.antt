@@ -1,7 +1,8 @@
 -- Laws of texts and of numbers in decimal.
 --     appended-none, appended-then, appended-anew      nothing is appended; one after the other; from the start again
 --     appended-field, appended-line        a number after its name
---     line-after                           a line whose name is made of two parts
+--     field-is, line-is                    a field is a name and a number, a line a field and the end of the line
+--     field-after, line-after              a name that is made of two parts
 --     appended-all                         what is appended to the empty text is the text, where there is room
 --     shorter, digits-one, digits-more     a number without its last digit, one digit, and a digit more
 --     decimal-some, decimal-most           a number has one to ten digits
@@ -71,7 +72,19 @@ pub appended-line :
 unfolding line
 appended-line name x u v = appended-then u v
 
--- the first part of a name may stand before the line
+-- the first part of a name may stand before the number, and before the line
+pub field-after : (v w : List ℕ) (x : ℕ) → field (v ++ w) x ≡ v ++ field w x
+unfolding field
+field-after v w x = append-assoc v w (decimal x)
+
+pub field-is : (name : List ℕ) (x : ℕ) → field name x ≡ name ++ decimal x
+unfolding field
+field-is name x = refl
+
+pub line-is : (name : List ℕ) (x : ℕ) → line name x ≡ field name x ++ word "\n"
+unfolding line
+line-is name x = refl
+
 pub line-after : (v w : List ℕ) (x : ℕ) → line (v ++ w) x ≡ v ++ line w x
 unfolding line field
 line-after v w x = simp append-assoc

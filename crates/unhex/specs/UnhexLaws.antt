@@ -17,7 +17,8 @@ use Rattle.bench_file.specs.Faults.{fileRefusal}
 use Rattle.bench_file.specs.FaultLaws.{accepted-of}
 use Rattle.bench_file.specs.FileLaws.{accepted-largest}
 use Rattle.hex.specs.Hex.{most, unhexed, isFaulty, isText}
-use Rattle.hex.specs.HexLaws.{hexed, length-hexed, unhexed-fits, unhexed-hexed}
+use Rattle.hex.specs.Digits.{hexed}
+use Rattle.hex.specs.HexLaws.{length-hexed, unhexed-fits, unhexed-hexed}
 use Rattle.hex.specs.FaultLaws.{hexed-sound, unhexed-first, faulty-first}
 use Rattle.hex.specs.BinaryLaws.{accepted-binary, hexed-text}
 use Rattle.unhex.specs.Unhex.{part, written, isError}

@@ -1,14 +1,11 @@
 -- Each number that is read is that of the definition, one count after another.
 --     described    then so is what is handed back
---     steps-in     the step count, which the file's length puts in the file
 use mathlib.Core.Path.{_≡_, refl}
 use mathlib.Core.List.{List}
-use Prim.Native.Nat.{ℕ, _+_, _*_, _<_}
-use native.Mathlib.Omega.{arith}
+use Prim.Native.Nat.{ℕ, _+_, _*_}
 use borrow.Author.Needs.{needs}
-use lib.ListN.{length, getD}
 use denote.Ref.{now}
-use Rattle.bench_file.specs.Sections.{routers, linkCount, changeCount, stepCount, end}
+use Rattle.bench_file.specs.Sections.{routers, linkCount, changeCount, stepCount}
 use Rattle.bench_file.specs.FaultLaws.{read-changes, read-steps}
 use Rattle.bench_file.specs.declared.Contents.{Contents}
 use Rattle.bench_file.specs.Read.{contents}
@@ -32,11 +29,6 @@ described :
     (contents f)
 unfolding contents
 described f n k x y a b c d = rw (a, b, c, d) refl
-
--- the step count is in the file
-module _ (f : List ℕ) (size : length f ≡ end f) (k x : ℕ) (is : k ≡ linkCount f) (told : x ≡ getD f (3 + 5 * k) 0) where
-  steps-in : 3 + 5 * k + 1 + 5 * x + 1 < length f
-  steps-in = omega (arith, size, is, read-changes f is told)
 
 two-requires : tie.Need-two-requires
 two-requires c κs = search needs
@@ -66,7 +58,7 @@ add-t7 : tie.Need-add-t7
 add-t7 c = search needs
 
 two-requires-2 : tie.Need-two-requires-2
-two-requires-2 c κs = search steps-in
+two-requires-2 c κs = search needs
 
 add-t10 : tie.Need-add-t10
 add-t10 c = search needs

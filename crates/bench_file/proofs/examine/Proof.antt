@@ -1,6 +1,5 @@
 -- `examine` has two returns: the file is refused, or it is accepted. Each owes the answer and the contents (`Owed`).
 --     refused, passed      the law of each return, by what the calls before it gave
---     sized                what an accepted file gives to `describe`
 use mathlib.Core.Path.{_≡_, sym, _∙_}
 use mathlib.Core.Bool.{Bool, true, false, not}
 use mathlib.Core.Logic.{_≢_}
@@ -10,14 +9,11 @@ use borrow.Author.Needs.{needs}
 use borrow.Author.Tests.{eqb-true, eqb-false, not-true, not-false}
 use denote.Ref.{now}
 use lib.Dec.{eqb}
-use lib.ListN.{length}
 use Rattle.area.specs.declared.refusal.Verdict.{Verdict}
 use Rattle.area.specs.Refusals.{verdictNumber}
 use Rattle.bench_file.specs.declared.Format.{Format}
 use Rattle.bench_file.specs.declared.Contents.{Contents}
-use Rattle.bench_file.specs.Sections.{end}
 use Rattle.bench_file.specs.Faults.{fileRefusal}
-use Rattle.bench_file.specs.FaultLaws.{accepted-of}
 use Rattle.bench_file.specs.Read.{contents, noContents, contentsBy}
 use Rattle.bench_file.specs.ReadLaws.{by-refused, by-accepted}
 use Rattle.bench_file.proofs.examine.Statement.{statement}
@@ -42,9 +38,6 @@ module _
       none : fileRefusal format f ≡ 0
       none = sym told ∙ eqb-true (verdictNumber v) 0 (sym good ∙ not-false ok h)
 
-      sized : length f ≡ end f
-      sized = accepted-of format f none .size
-
       passed : (c : Contents) → c ≡ contents f → Owed c
       passed c e = (told, e ∙ sym (by-accepted format f none))
 
@@ -67,7 +60,7 @@ returns c =
     (c .no-contents .result) (c .no-contents .ensures)
 
 describe-requires : tie.Need-describe-requires
-describe-requires c κs = search sized
+describe-requires c κs = search needs
 
 returns-2 : tie.Need-returns-2
 returns-2 c =

@@ -24,7 +24,8 @@ use Rattle.bench_file.specs.declared.BenchFile.{BenchFile}
 use Rattle.bench_file.specs.declared.Contents.{Contents}
 use Rattle.bench_file.specs.declared.Format.the-variants.{New}
 use Rattle.bench_file.specs.Read.{readRefusal, contents, noContents, contentsBy, contentsOf, linked, metricsOf}
-use Rattle.bench_file.specs.ReadLaws.{InTable, read-size, read-file, contents-refused, contents-accepted}
+use Rattle.bench_file.specs.ReadLaws.{InTable, linked-clear, read-size, read-file}
+use Rattle.bench_file.specs.ReadLaws.{contents-refused, contents-accepted}
 use Rattle.bench_file.specs.ReadLaws.{by-refused, by-accepted, metrics-kept, metrics-refused, metrics-accepted}
 use Rattle.bench_file.specs.FileLaws.{contents-links}
 use Rattle.bench_file.proofs.read.Statement.{statement}
@@ -141,7 +142,7 @@ returns-2 c =
     let a = cleared .before .before .before .before .before .args in
     refused (now (a .file)) (now (a .table)) (omega arith)
     (found .result) (found .ensures .0) (found .ensures .1) (ok .is-accepted .result) (ok .is-accepted .ensures)
-    (c .if2 .taken) _ (cleared .clear .ensures)
+    (c .if2 .taken) _ (linked-clear (now (a .table)) (omega arith) _ (cleared .clear .ensures))
 
 sub-put : tie.Need-sub-put
 sub-put c = search long
@@ -153,7 +154,7 @@ part-put-end : tie.Need-part-put-end
 part-put-end c = search needs
 
 put-requires : tie.Need-put-requires
-put-requires c κs = (search needs, search in-table)
+put-requires c κs = (search linked-clear, search in-table)
 
 same-length-2 : tie.Need-same-length-2
 same-length-2 c = search needs

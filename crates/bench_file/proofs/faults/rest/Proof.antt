@@ -7,9 +7,10 @@ use Prim.Native.Nat.{ℕ, _+_, _*_, _<_, _≤_}
 use native.Mathlib.Omega.{arith}
 use borrow.Author.Needs.{needs}
 use lib.ListN.{length, getD}
+use Rattle.area.specs.Bytes.{two}
 use Rattle.area.specs.Limits.{mostChanges, mostSteps}
 use Rattle.area.specs.Refusals.{incomplete, trailing, tooMany}
-use Rattle.bench_file.specs.Sections.{two, linkCount, changeCount, changesAt, stepCount, stepsAt, end}
+use Rattle.bench_file.specs.Sections.{linkCount, changeCount, changesAt, stepCount, stepsAt, end}
 use Rattle.bench_file.specs.Faults.{restRefusal}
 use Rattle.bench_file.specs.FaultLaws.{read-changes, read-steps, rest-cut-count, rest-many-changes}
 use Rattle.bench_file.specs.FaultLaws.{rest-cut-changes, rest-many-steps, rest-cut-steps, rest-more, rest-passes}

@@ -1,0 +1,27 @@
+-- `capture::fill` is safe and ends. The loop has passed `at` bytes.
+use Prim.Native.Nat.{_-_, _≤_}
+use lib.ListN.{length}
+use native.Mathlib.Omega.{arith}
+use borrow.Author.Needs.{needs}
+use Rattle.isis_test.proofs.capture.fill.Statement.{statement}
+use Rattle.isis_test.proofs.capture.fill.Tie as tie
+
+abbrev Inv-loop : tie.InvT-loop
+Inv-loop expected₀ text at₀ at-end expected at = at ≤ length text
+
+abbrev μ-loop : tie.MeasureT-loop
+μ-loop expected₀ text at₀ at-end expected at = length text - at
+
+pub fill-spec : {M : Type 1} → statement M
+fill-spec =
+    tie.close
+    (tie.spec
+    Inv-loop
+    μ-loop
+    (λ c. search needs)
+    (λ c κs. omega arith)
+    (λ c κs. omega arith)
+    (λ c. omega arith)
+    (λ c. omega arith)
+    (λ c. search needs)
+    (λ c. search needs))
