@@ -1,8 +1,8 @@
-//! The inputs: areas of 32 routers with a change each, lists of steps, and the largest bench file.
+//! The inputs: areas of 64 routers with a change each, lists of steps, and the largest bench file.
 //! Random numbers have fixed seeds, so every run has the same inputs.
 
 use crate::isis;
-use crate::limits::{CELLS, ENTRY, MOST_STEPS, STEP, UNUSED, WIDTH};
+use crate::limits::{CELLS, ENTRY, MOST_STEPS, STEP, Set, UNUSED, WIDTH};
 use crate::plan::Record;
 
 pub struct Area {
@@ -74,7 +74,8 @@ pub fn dense() -> Area {
 /// A hypercube of metrics 1. The links between router 0 and the router opposite come up.
 pub fn hypercube() -> Area {
     let metric = |i: usize, j: usize| if (i ^ j).is_power_of_two() { 1 } else { UNUSED };
-    area(metric, &[(0, 31), (31, 0)], |_| 1)
+    let opposite = WIDTH - 1;
+    area(metric, &[(0, opposite), (opposite, 0)], |_| 1)
 }
 
 /// A link from each router to each other, all of metric 1. Those between router 0 and the odd ones become worse.
@@ -105,7 +106,7 @@ pub fn progress(fresh: &Record) -> Vec<u8> {
     steps
 }
 
-fn routers(set: u32) -> impl Iterator<Item = u8> {
+fn routers(set: Set) -> impl Iterator<Item = u8> {
     (0..WIDTH as u8).filter(move |&r| set >> r & 1 == 1)
 }
 
@@ -122,17 +123,19 @@ pub fn mixed(fresh: &Record) -> Vec<u8> {
             steps.extend(&progress[STEP * taken..][..STEP]);
             taken += 1;
         } else {
-            steps.extend([
-                1 + random.below(6) as u8,
-                random.below(33) as u8,
-                random.below(33) as u8,
-            ]);
+            let kind = 1 + random.below(6) as u8;
+            steps.extend([kind, any_router(&mut random), any_router(&mut random)]);
         }
     }
     steps
 }
 
-/// The largest file: all 992 links of the dense area, its 62 changes, and 4,096 steps.
+/// Any router, or the first number beyond them.
+fn any_router(random: &mut Random) -> u8 {
+    random.below(WIDTH as u32 + 1) as u8
+}
+
+/// The largest file: all links of the dense area, the changes of router 0, and as many steps as may be.
 pub fn largest_file(area: &Area, steps: &[u8]) -> Vec<u8> {
     let mut links = Vec::new();
     for i in 0..WIDTH {
@@ -155,9 +158,11 @@ fn identity(router: usize) -> [u8; isis::IDENTITY] {
     [0x49, 0, 1, 0, 0, router as u8 + 1, 0]
 }
 
-/// The table of identities of 32 routers.
+/// The table of identities of all routers.
 pub fn identities() -> Vec<u8> {
-    (0..WIDTH).flat_map(|r| identity(r).into_iter().chain([r as u8])).collect()
+    (0..WIDTH)
+        .flat_map(|r| identity(r).into_iter().chain([r as u8]))
+        .collect()
 }
 
 /// The links of an area as lists of IS-IS entries, each entry with sub-TLVs of 6 bytes.

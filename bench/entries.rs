@@ -1,6 +1,6 @@
 //! Entries of five bytes, as links and changes are listed, and sets of router pairs.
 
-use crate::limits::{ENTRY, WIDTH};
+use crate::limits::{ENTRY, Set, WIDTH};
 use crate::refusal::Refusal;
 
 #[derive(Clone, Copy)]
@@ -46,10 +46,13 @@ pub fn entries(list: &[u8]) -> impl Iterator<Item = Entry> {
 }
 
 /// A set of ordered pairs of routers.
-#[derive(Default)]
-pub struct Pairs([u32; WIDTH]);
+pub struct Pairs([Set; WIDTH]);
 
 impl Pairs {
+    pub fn none() -> Pairs {
+        Pairs([0; WIDTH])
+    }
+
     /// Adds the entry's pair, and says whether it was absent.
     pub fn insert(&mut self, entry: &Entry) -> bool {
         let bit = 1 << entry.to;
@@ -60,7 +63,7 @@ impl Pairs {
 }
 
 /// The members of a router set, from the lowest on.
-pub fn members(mut set: u32) -> impl Iterator<Item = usize> {
+pub fn members(mut set: Set) -> impl Iterator<Item = usize> {
     std::iter::from_fn(move || {
         if set == 0 {
             return None;

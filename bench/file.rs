@@ -58,7 +58,7 @@ fn sections(file: &[u8], table: &mut [u32]) -> Result<Contents, Refusal> {
 
 /// Puts the links into the table, up to the first faulty one.
 fn put_links(n: usize, file: &[u8], links: usize, table: &mut [u32]) -> Result<(), Refusal> {
-    let mut seen = Pairs::default();
+    let mut seen = Pairs::none();
     for e in 0..links {
         let at = 3 + ENTRY * e;
         let bytes = file.get(at..at + ENTRY).ok_or(Refusal::Incomplete)?;

@@ -43,7 +43,11 @@ fn area(n: usize, identities: &[u8], lists: &[u8], table: &mut [u32]) -> Result<
         put_list(i, identities, list, &mut table[WIDTH * i..WIDTH * i + WIDTH])?;
         rest = after;
     }
-    if rest.is_empty() { Ok(()) } else { Err(Refusal::Trailing) }
+    if rest.is_empty() {
+        Ok(())
+    } else {
+        Err(Refusal::Trailing)
+    }
 }
 
 /// Lowers the row of router i by the metrics of its list, up to the first faulty entry.
@@ -73,5 +77,6 @@ fn put_list(i: usize, identities: &[u8], list: &[u8], row: &mut [u32]) -> Result
 /// The router of the first row with an identity.
 fn router_of(identities: &[u8], identity: &[u8]) -> Option<usize> {
     let mut rows = identities.chunks_exact(ROW);
-    rows.find(|row| row[..IDENTITY] == *identity).map(|row| row[IDENTITY] as usize)
+    rows.find(|row| row[..IDENTITY] == *identity)
+        .map(|row| row[IDENTITY] as usize)
 }

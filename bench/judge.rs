@@ -35,7 +35,7 @@ pub fn change(n: usize, old: &[u32], list: &[u8]) -> Result<Change, Refusal> {
 
 /// The refusal of the first faulty entry.
 fn check_entries(n: usize, list: &[u8]) -> Result<(), Refusal> {
-    let mut seen = Pairs::default();
+    let mut seen = Pairs::none();
     for entry in entries(list) {
         entry.check(n)?;
         if !seen.insert(&entry) {
@@ -45,8 +45,8 @@ fn check_entries(n: usize, list: &[u8]) -> Result<(), Refusal> {
     Ok(())
 }
 
-/// Whether the usable metrics rise. No other pair than a listed one goes a way of its own; the new metrics are worked out
-/// aside, since a refusal writes no cell.
+/// Whether the usable metrics rise. No other pair than a listed one goes a way of its own; the new metrics are worked
+/// out aside, since a refusal writes no cell.
 fn direction(n: usize, old: &[u32], list: &[u8]) -> Result<bool, Refusal> {
     let mut new = [0; CELLS];
     apply(n, old, list, &mut new);

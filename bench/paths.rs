@@ -1,11 +1,11 @@
 //! Distances and next-hop sets of one topology: Dijkstra's search from each router, with all next hops of equal cost.
 
-use crate::limits::{CELLS, UNREACHED, UNUSED, WIDTH};
+use crate::limits::{CELLS, Set, UNREACHED, UNUSED, WIDTH};
 use crate::refusal::Refusal;
 
 /// Paths: fills both tables, or refuses and writes no cell.
-pub fn paths(n: usize, metric: &[u32], dist: &mut [u32], hops: &mut [u32]) -> Result<(), Refusal> {
-    check(n, metric, [metric, dist, hops].iter().all(|table| table.len() == CELLS))?;
+pub fn paths(n: usize, metric: &[u32], dist: &mut [u32], hops: &mut [Set]) -> Result<(), Refusal> {
+    check(n, metric, [metric.len(), dist.len(), hops.len()] == [CELLS; 3])?;
     dist.fill(UNREACHED);
     hops.fill(0);
     for source in 0..n {
@@ -42,8 +42,8 @@ pub fn usable(metric: &[u32], i: usize, j: usize) -> u32 {
 }
 
 /// The source's rows, which are blank before. They have as many cells as there are routers.
-fn search(metric: &[u32], source: usize, dist: &mut [u32], hops: &mut [u32]) {
-    let mut settled = 0u32;
+fn search(metric: &[u32], source: usize, dist: &mut [u32], hops: &mut [Set]) {
+    let mut settled: Set = 0;
     dist[source] = 0;
     while let Some(q) = nearest(dist, settled) {
         settled |= 1 << q;
@@ -52,7 +52,7 @@ fn search(metric: &[u32], source: usize, dist: &mut [u32], hops: &mut [u32]) {
 }
 
 /// The nearest reached router that is not settled.
-fn nearest(dist: &[u32], settled: u32) -> Option<usize> {
+fn nearest(dist: &[u32], settled: Set) -> Option<usize> {
     let mut best = None;
     let mut low = UNREACHED;
     for (k, &d) in dist.iter().enumerate() {
@@ -65,7 +65,7 @@ fn nearest(dist: &[u32], settled: u32) -> Option<usize> {
 }
 
 /// Offers the way by the settled router q to every router that has a link from q.
-fn relax(metric: &[u32], source: usize, q: usize, dist: &mut [u32], hops: &mut [u32]) {
+fn relax(metric: &[u32], source: usize, q: usize, dist: &mut [u32], hops: &mut [Set]) {
     let base = dist[q];
     let via = hops[q];
     for j in 0..dist.len() {

@@ -2,22 +2,22 @@
 
 use crate::entries::{entries, members};
 use crate::judge;
-use crate::limits::{CELLS, UNUSED, WIDTH};
+use crate::limits::{CELLS, Set, UNUSED, WIDTH};
 use crate::paths::{self, paths};
 use crate::refusal::Refusal;
 
 /// A plan's record. Entry r of a table per router belongs to router r, and is 0 from n on.
-#[derive(Clone, Debug, Default, PartialEq, Eq)]
+#[derive(Clone, Debug, PartialEq, Eq)]
 pub struct Record {
     pub n: u8,
     pub root: u8,
     pub direction: u8,
     pub ranks: [u8; WIDTH],
-    pub waiting: [u32; WIDTH],
-    pub telling: [u32; WIDTH],
-    pub due: [u32; WIDTH],
+    pub waiting: [Set; WIDTH],
+    pub telling: [Set; WIDTH],
+    pub due: [Set; WIDTH],
     pub states: [u8; WIDTH],
-    pub written: [u32; WIDTH],
+    pub written: [Set; WIDTH],
 }
 
 /// The old metrics, and the tables that a plan fills.
@@ -26,34 +26,33 @@ pub struct Tables {
     pub new: Vec<u32>,
     pub old_dist: Vec<u32>,
     pub new_dist: Vec<u32>,
-    pub old_hops: Vec<u32>,
-    pub new_hops: Vec<u32>,
+    pub old_hops: Vec<Set>,
+    pub new_hops: Vec<Set>,
 }
 
 impl Tables {
     pub fn blank() -> Tables {
         let table = vec![0; CELLS];
+        let sets = vec![0; CELLS];
         Tables {
             old: table.clone(),
             new: table.clone(),
             old_dist: table.clone(),
-            new_dist: table.clone(),
-            old_hops: table.clone(),
-            new_hops: table,
+            new_dist: table,
+            old_hops: sets.clone(),
+            new_hops: sets,
         }
     }
 
     fn are_sized(&self) -> bool {
         [
-            &self.old,
-            &self.new,
-            &self.old_dist,
-            &self.new_dist,
-            &self.old_hops,
-            &self.new_hops,
-        ]
-        .iter()
-        .all(|table| table.len() == CELLS)
+            self.old.len(),
+            self.new.len(),
+            self.old_dist.len(),
+            self.new_dist.len(),
+            self.old_hops.len(),
+            self.new_hops.len(),
+        ] == [CELLS; 6]
     }
 }
 
@@ -96,7 +95,7 @@ pub fn apply(n: usize, old: &[u32], list: &[u8], new: &mut [u32]) {
 }
 
 /// Each router's next hops to the root.
-fn toward(n: usize, root: usize, hops: &[u32]) -> [u32; WIDTH] {
+fn toward(n: usize, root: usize, hops: &[Set]) -> [Set; WIDTH] {
     let mut out = [0; WIDTH];
     for r in 0..n {
         out[r] = hops[WIDTH * r + root];
@@ -105,7 +104,7 @@ fn toward(n: usize, root: usize, hops: &[u32]) -> [u32; WIDTH] {
 }
 
 /// For each router, those whose set it is a member of.
-fn converse(n: usize, sets: &[u32; WIDTH]) -> [u32; WIDTH] {
+fn converse(n: usize, sets: &[Set; WIDTH]) -> [Set; WIDTH] {
     let mut out = [0; WIDTH];
     for s in 0..n {
         for r in members(sets[s]) {
@@ -116,7 +115,7 @@ fn converse(n: usize, sets: &[u32; WIDTH]) -> [u32; WIDTH] {
 }
 
 /// The ranks: each round allows chains of one link more, up to a round that changes nothing.
-fn ranks(n: usize, waiting: &[u32; WIDTH]) -> [u8; WIDTH] {
+fn ranks(n: usize, waiting: &[Set; WIDTH]) -> [u8; WIDTH] {
     let mut ranks = [0u8; WIDTH];
     loop {
         let mut next = [0; WIDTH];
@@ -131,7 +130,7 @@ fn ranks(n: usize, waiting: &[u32; WIDTH]) -> [u8; WIDTH] {
 }
 
 /// The destinations at each router whose next hops change.
-fn due(n: usize, old: &[u32], new: &[u32]) -> [u32; WIDTH] {
+fn due(n: usize, old: &[Set], new: &[Set]) -> [Set; WIDTH] {
     let mut out = [0; WIDTH];
     for r in 0..n {
         for d in 0..n {

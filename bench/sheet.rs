@@ -1,6 +1,6 @@
 //! The running sheet of a plan: the routers in an order in which they can be upgraded.
 
-use crate::limits::WIDTH;
+use crate::limits::{Set, WIDTH};
 use crate::plan::{Tables, plan};
 use crate::refusal::Refusal;
 
@@ -11,9 +11,9 @@ pub fn sheet(n: usize, list: &[u8], t: &mut Tables) -> Result<[u8; WIDTH], Refus
 }
 
 /// At each place the lowest router that is not placed yet and waits only for routers that are.
-fn in_turn(n: usize, waiting: &[u32; WIDTH]) -> [u8; WIDTH] {
+fn in_turn(n: usize, waiting: &[Set; WIDTH]) -> [u8; WIDTH] {
     let mut routers = [0; WIDTH];
-    let mut placed = 0u32;
+    let mut placed: Set = 0;
     for place in &mut routers[..n] {
         let could_come = |&r: &usize| placed >> r & 1 == 0 && waiting[r] & !placed == 0;
         let next = (0..n).find(could_come).expect("no routers wait for each other");

@@ -10,7 +10,7 @@ use crate::step::{Answer, step};
 pub fn rehearse(file: &[u8], tables: &mut Tables, out: &mut Vec<u8>) {
     out.clear();
     if let Err(why) = lines(file, tables, out) {
-        field(out, b"refused ", why.number() as u32);
+        field(out, b"refused ", why.number() as u64);
         out.push(b'\n');
     }
 }
@@ -22,7 +22,7 @@ fn lines(file: &[u8], tables: &mut Tables, out: &mut Vec<u8>) -> Result<(), Refu
     routers(&record, out);
     for (k, s) in file[contents.steps_at..].chunks_exact(STEP).enumerate() {
         let answer = step(&mut record, s[0], s[1], s[2]);
-        field(out, b"step ", k as u32 + 1);
+        field(out, b"step ", k as u64 + 1);
         said(answer, out);
     }
     out.extend_from_slice(b"end\n");
@@ -32,8 +32,8 @@ fn lines(file: &[u8], tables: &mut Tables, out: &mut Vec<u8>) -> Result<(), Refu
 /// A line for each router.
 fn routers(record: &Record, out: &mut Vec<u8>) {
     for r in 0..record.n as usize {
-        field(out, b"router ", r as u32);
-        field(out, b" rank ", record.ranks[r] as u32);
+        field(out, b"router ", r as u64);
+        field(out, b" rank ", record.ranks[r] as u64);
         field(out, b" waits ", record.waiting[r]);
         field(out, b" tells ", record.telling[r]);
         field(out, b" due ", record.due[r]);
@@ -47,16 +47,16 @@ fn said(answer: Answer, out: &mut Vec<u8>) {
         Answer::Ok => out.extend_from_slice(b" ok\n"),
         Answer::Ignored => out.extend_from_slice(b" ignored\n"),
         Answer::Refused(why) => {
-            field(out, b" refused ", why.number() as u32);
+            field(out, b" refused ", why.number() as u64);
             out.push(b'\n');
         }
     }
 }
 
 /// A number in decimal after its name.
-fn field(out: &mut Vec<u8>, name: &[u8], x: u32) {
+fn field(out: &mut Vec<u8>, name: &[u8], x: u64) {
     out.extend_from_slice(name);
-    let mut digits = [0; 10];
+    let mut digits = [0; 20];
     let mut from = digits.len();
     let mut rest = x;
     loop {

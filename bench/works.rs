@@ -13,9 +13,6 @@ use crate::sheet::sheet;
 use crate::step::{self, Answer};
 use crate::text;
 
-/// Room for the text of any file.
-const ROOM: usize = 147_456;
-
 /// One kind of work. A call of a side does `operations` operations.
 pub struct Work {
     pub name: &'static str,
@@ -101,7 +98,7 @@ fn are_same(a: &Tables, b: &Tables) -> bool {
     new && a.old == b.old && a.old_dist == b.old_dist && a.old_hops == b.old_hops
 }
 
-/// A full plan of an area of 32 routers.
+/// A full plan of an area.
 fn plan_of(name: &'static str, area: Area) -> Work {
     let (mut proved, mut rust) = (tables_of(&area), tables_of(&area));
     let list = area.changes;
@@ -131,7 +128,7 @@ fn plan_of(name: &'static str, area: Area) -> Work {
     }
 }
 
-/// The running sheet of an area of 32 routers, with the plan that it needs.
+/// The running sheet of an area, with the plan that it needs.
 fn sheet_of(name: &'static str, area: Area) -> Work {
     let (mut proved, mut rust) = (tables_of(&area), tables_of(&area));
     let list = area.changes;
@@ -262,13 +259,16 @@ fn read_of(name: &'static str, file: Vec<u8>) -> Work {
     }
 }
 
-/// A dense area from IS-IS: 992 entries, with sub-TLVs of 6 bytes.
+/// A dense area from IS-IS: an entry for each pair, with sub-TLVs of 6 bytes.
 fn isis_of(name: &'static str, area: &Area) -> Work {
     let (identities, lists) = (areas::identities(), areas::lists(area));
     let (mut proved, mut rust) = (Tables::blank().old, Tables::blank().old);
     let number = ofib::isis(WIDTH, &identities, &lists, &mut proved);
     let answer = isis::read(WIDTH, &identities, &lists, &mut rust);
-    require(name, number == 0 && answer == Ok(()) && proved == rust && proved == area.metric);
+    require(
+        name,
+        number == 0 && answer == Ok(()) && proved == rust && proved == area.metric,
+    );
     let (table, bytes) = (identities.clone(), lists.clone());
     Work {
         name,
@@ -286,8 +286,8 @@ fn isis_of(name: &'static str, area: &Area) -> Work {
 /// The rehearsal of the largest file, from its bytes to the last byte of the text, in a buffer that has room.
 fn rehearsal_of(name: &'static str, file: Vec<u8>) -> Work {
     let (mut proved, mut rust) = (Tables::blank(), Tables::blank());
-    let mut out = vec![0; ROOM];
-    let mut expected = Vec::with_capacity(ROOM);
+    let mut out = vec![0; ofib::REHEARSAL_ROOM];
+    let mut expected = Vec::with_capacity(ofib::REHEARSAL_ROOM);
     let length = ofib::rehearse(&file, &mut lent(&mut proved), &mut out);
     text::rehearse(&file, &mut rust, &mut expected);
     require(name, out[..length] == expected);

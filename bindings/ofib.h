@@ -38,8 +38,10 @@ extern "C" {
 
 // ---- Sizes and numbers.
 
-// Routers of an area, and so entries of a table per router and members of a set: bit k stands for router k.
-#define OFIB_WIDTH 32
+// Routers of an area, and so entries of a table per router and members of a set.
+#define OFIB_WIDTH 64
+// A set of routers: bit k stands for router k, so it has OFIB_WIDTH bits.
+typedef uint64_t ofib_set;
 // Cells of a table; that of (i, j) is at OFIB_WIDTH * i + j.
 #define OFIB_CELLS (OFIB_WIDTH * OFIB_WIDTH)
 // The metric of a link that is not used. Used ones have 1 to 16,777,214 in both directions.
@@ -54,11 +56,12 @@ extern "C" {
 #define OFIB_STEP 3
 // Steps of a bench file, at most.
 #define OFIB_MOST_STEPS 4096
-// Bytes of a bench file, at most: 17,564. A program that reads one lends one byte more, to see that it is too long.
+// Bytes of a bench file, at most: 33,084. A program that reads one lends one byte more, to see that it is too long.
 #define OFIB_LARGEST \
     (6 + OFIB_ENTRY * OFIB_WIDTH * (OFIB_WIDTH - 1) + OFIB_ENTRY * OFIB_MOST_CHANGES + OFIB_STEP * OFIB_MOST_STEPS)
-// As many bytes have room for the text of any file.
-#define OFIB_ROOM 147456
+// As many bytes have room for the rehearsal of any file, and for its routes.
+#define OFIB_REHEARSAL_ROOM (133 * OFIB_WIDTH + 55 * OFIB_MOST_STEPS + 4)
+#define OFIB_ROUTES_ROOM (148 * OFIB_CELLS)
 
 // The places of the six numbers that ofib_read gives.
 enum {
@@ -92,7 +95,7 @@ enum {
     // Of ofib_read, ofib_paths, ofib_plan, ofib_sheet and ofib_isis.
     OFIB_INCOMPLETE = 1,     // a file, a list from IS-IS or a row ends too early; changes are not OFIB_ENTRY bytes each
     OFIB_TRAILING = 2,       // bytes follow the last step of the file, or the last list from IS-IS
-    OFIB_ROUTER_COUNT = 3,   // n is not 1 to 32
+    OFIB_ROUTER_COUNT = 3,   // n is not 1 to OFIB_WIDTH
     OFIB_UNKNOWN_ROUTER = 4, // a router is not below n; of a step too
     OFIB_SELF_LINK = 5,      // a link or a change goes from a router to itself, or a list has its own router
     OFIB_BAD_METRIC = 6,     // a metric is 0, or above OFIB_UNUSED
@@ -105,7 +108,7 @@ enum {
     OFIB_MIXED = 12,            // of those that do, neither every one rises nor every one falls
     OFIB_NO_COMMON_ROUTER = 13, // no router is an end of every change
     // Of ofib_step.
-    OFIB_BAD_RECORD = 20,    // n is not 1 to 32, or one of the 32 states is above 3
+    OFIB_BAD_RECORD = 20,    // n is not 1 to OFIB_WIDTH, or one of the states is above OFIB_DONE
     OFIB_UNKNOWN_KIND = 21,  // the kind is not 1 to 5
     OFIB_WRONG_STATE = 23,   // router a is not in the state from which the step moves it on
     OFIB_STILL_WAITING = 24, // router a waits for another
@@ -155,7 +158,7 @@ uint8_t ofib_paths(
     size_t n,
     const uint32_t *OFIB_ALONE metric, size_t metric_len,
     uint32_t *OFIB_ALONE dist, size_t dist_len,
-    uint32_t *OFIB_ALONE hops, size_t hops_len);
+    ofib_set *OFIB_ALONE hops, size_t hops_len);
 
 // Plan: judges a change of n routers with the metrics `old`. `list` is the changes, OFIB_ENTRY bytes each. The tables
 // get the metrics after the change, and the distances and next hops before and after it. The last nine places get the
@@ -171,17 +174,17 @@ uint8_t ofib_plan(
     uint32_t *OFIB_ALONE new_, size_t new_len,
     uint32_t *OFIB_ALONE old_dist, size_t old_dist_len,
     uint32_t *OFIB_ALONE new_dist, size_t new_dist_len,
-    uint32_t *OFIB_ALONE old_hops, size_t old_hops_len,
-    uint32_t *OFIB_ALONE new_hops, size_t new_hops_len,
+    ofib_set *OFIB_ALONE old_hops, size_t old_hops_len,
+    ofib_set *OFIB_ALONE new_hops, size_t new_hops_len,
     uint8_t *OFIB_ALONE routers,
     uint8_t *OFIB_ALONE root,
     uint8_t *OFIB_ALONE direction,
     uint8_t ranks[OFIB_WHOLE OFIB_WIDTH],
-    uint32_t waiting[OFIB_WHOLE OFIB_WIDTH],
-    uint32_t telling[OFIB_WHOLE OFIB_WIDTH],
-    uint32_t due[OFIB_WHOLE OFIB_WIDTH],
+    ofib_set waiting[OFIB_WHOLE OFIB_WIDTH],
+    ofib_set telling[OFIB_WHOLE OFIB_WIDTH],
+    ofib_set due[OFIB_WHOLE OFIB_WIDTH],
     uint8_t states[OFIB_WHOLE OFIB_WIDTH],
-    uint32_t written[OFIB_WHOLE OFIB_WIDTH]);
+    ofib_set written[OFIB_WHOLE OFIB_WIDTH]);
 
 // The running sheet: an order in which the routers can be upgraded. It takes what ofib_plan takes, fills the same
 // tables and refuses the same. `routers` gets the numbers of the n routers, each after all that it waits for, and of
@@ -196,8 +199,8 @@ uint8_t ofib_sheet(
     uint32_t *OFIB_ALONE new_, size_t new_len,
     uint32_t *OFIB_ALONE old_dist, size_t old_dist_len,
     uint32_t *OFIB_ALONE new_dist, size_t new_dist_len,
-    uint32_t *OFIB_ALONE old_hops, size_t old_hops_len,
-    uint32_t *OFIB_ALONE new_hops, size_t new_hops_len,
+    ofib_set *OFIB_ALONE old_hops, size_t old_hops_len,
+    ofib_set *OFIB_ALONE new_hops, size_t new_hops_len,
     uint8_t routers[OFIB_WHOLE OFIB_WIDTH]);
 
 // Step: one step of a record, of which it reads n and five tables, and changes three of them in place.
@@ -205,11 +208,11 @@ uint8_t ofib_sheet(
 // release; 23, 24, 25 of write; 23, 24, 26 of finish; 27, 28 of deliver. Ignored or refused, it leaves all as it was.
 uint8_t ofib_step(
     uint8_t n,
-    uint32_t waiting[OFIB_WHOLE OFIB_WIDTH],
-    const uint32_t telling[OFIB_WHOLE OFIB_WIDTH],
-    const uint32_t due[OFIB_WHOLE OFIB_WIDTH],
+    ofib_set waiting[OFIB_WHOLE OFIB_WIDTH],
+    const ofib_set telling[OFIB_WHOLE OFIB_WIDTH],
+    const ofib_set due[OFIB_WHOLE OFIB_WIDTH],
     uint8_t states[OFIB_WHOLE OFIB_WIDTH],
-    uint32_t written[OFIB_WHOLE OFIB_WIDTH],
+    ofib_set written[OFIB_WHOLE OFIB_WIDTH],
     uint8_t kind, uint8_t a, uint8_t b);
 
 // All the steps that the bytes stand for, OFIB_STEP bytes each, one after another; a refused one changes nothing, and
@@ -220,11 +223,11 @@ void ofib_run(
     uint8_t *OFIB_ALONE root,
     uint8_t *OFIB_ALONE direction,
     uint8_t ranks[OFIB_WHOLE OFIB_WIDTH],
-    uint32_t waiting[OFIB_WHOLE OFIB_WIDTH],
-    uint32_t telling[OFIB_WHOLE OFIB_WIDTH],
-    uint32_t due[OFIB_WHOLE OFIB_WIDTH],
+    ofib_set waiting[OFIB_WHOLE OFIB_WIDTH],
+    ofib_set telling[OFIB_WHOLE OFIB_WIDTH],
+    ofib_set due[OFIB_WHOLE OFIB_WIDTH],
     uint8_t states[OFIB_WHOLE OFIB_WIDTH],
-    uint32_t written[OFIB_WHOLE OFIB_WIDTH],
+    ofib_set written[OFIB_WHOLE OFIB_WIDTH],
     const uint8_t *OFIB_ALONE bytes, size_t bytes_len);
 
 // The text of the rehearsal of a file, as the program `rehearse` prints it: put at the start of `out`, as far as that
@@ -238,8 +241,8 @@ size_t ofib_rehearse(
     uint32_t *OFIB_ALONE new_, size_t new_len,
     uint32_t *OFIB_ALONE old_dist, size_t old_dist_len,
     uint32_t *OFIB_ALONE new_dist, size_t new_dist_len,
-    uint32_t *OFIB_ALONE old_hops, size_t old_hops_len,
-    uint32_t *OFIB_ALONE new_hops, size_t new_hops_len,
+    ofib_set *OFIB_ALONE old_hops, size_t old_hops_len,
+    ofib_set *OFIB_ALONE new_hops, size_t new_hops_len,
     uint8_t *OFIB_ALONE out, size_t out_len);
 
 // The text of its routes, as the program `routes` prints it; the same in all else.
@@ -249,8 +252,8 @@ size_t ofib_routes(
     uint32_t *OFIB_ALONE new_, size_t new_len,
     uint32_t *OFIB_ALONE old_dist, size_t old_dist_len,
     uint32_t *OFIB_ALONE new_dist, size_t new_dist_len,
-    uint32_t *OFIB_ALONE old_hops, size_t old_hops_len,
-    uint32_t *OFIB_ALONE new_hops, size_t new_hops_len,
+    ofib_set *OFIB_ALONE old_hops, size_t old_hops_len,
+    ofib_set *OFIB_ALONE new_hops, size_t new_hops_len,
     uint8_t *OFIB_ALONE out, size_t out_len);
 
 // ---- The same with the record and the six tables as one place each. Their sizes are right, so 8 does not occur.
@@ -260,11 +263,11 @@ typedef struct ofib_record {
     uint8_t root;
     uint8_t direction;
     uint8_t ranks[OFIB_WIDTH];
-    uint32_t waiting[OFIB_WIDTH];
-    uint32_t telling[OFIB_WIDTH];
-    uint32_t due[OFIB_WIDTH];
+    ofib_set waiting[OFIB_WIDTH];
+    ofib_set telling[OFIB_WIDTH];
+    ofib_set due[OFIB_WIDTH];
     uint8_t states[OFIB_WIDTH];
-    uint32_t written[OFIB_WIDTH];
+    ofib_set written[OFIB_WIDTH];
 } ofib_record;
 
 typedef struct ofib_tables {
@@ -272,8 +275,8 @@ typedef struct ofib_tables {
     uint32_t new_[OFIB_CELLS]; // and after it; `new` is a word of C++
     uint32_t old_dist[OFIB_CELLS];
     uint32_t new_dist[OFIB_CELLS];
-    uint32_t old_hops[OFIB_CELLS];
-    uint32_t new_hops[OFIB_CELLS];
+    ofib_set old_hops[OFIB_CELLS];
+    ofib_set new_hops[OFIB_CELLS];
 } ofib_tables;
 
 // Plan over t->old: fills the other tables and the record.

@@ -1,22 +1,52 @@
 //! The proved library `libexports.a`, as safe Rust. No exported function asks anything of its caller, so nothing has to
 //! be tested before a call: a slice goes over as its pointer and its length, an array as its pointer. The declarations
-//! are those of `crates/exports/src/lib.rt`: `.ci/bindings` compares the names and types of all places and results.
+//! are those of `crates/exports/src/lib.rt`: `.ci/bindings` compares the names and types of all places and results, and
+//! the numbers too.
 
-pub const WIDTH: usize = 32;
+pub const WIDTH: usize = 64;
 pub const CELLS: usize = WIDTH * WIDTH;
+pub const ENTRY: usize = 5;
+pub const MOST_CHANGES: usize = 2 * (WIDTH - 1);
+pub const STEP: usize = 3;
+pub const MOST_STEPS: usize = 4096;
+pub const LARGEST: usize = 6 + ENTRY * WIDTH * (WIDTH - 1) + ENTRY * MOST_CHANGES + STEP * MOST_STEPS;
+
+/// Room for the rehearsal of any file, and for its routes.
+pub const REHEARSAL_ROOM: usize = 133 * WIDTH + 55 * MOST_STEPS + 4;
+pub const ROUTES_ROOM: usize = 148 * CELLS;
+
+/// A set of routers: bit k stands for router k, so it has WIDTH bits.
+pub type Set = u64;
 
 /// A plan's record. Entry r of a table per router belongs to router r, and is 0 from n on.
-#[derive(Clone, Debug, Default, PartialEq, Eq, Hash)]
+#[derive(Clone, Debug, PartialEq, Eq, Hash)]
 pub struct Record {
     pub n: u8,
     pub root: u8,
     pub direction: u8,
     pub ranks: [u8; WIDTH],
-    pub waiting: [u32; WIDTH],
-    pub telling: [u32; WIDTH],
-    pub due: [u32; WIDTH],
+    pub waiting: [Set; WIDTH],
+    pub telling: [Set; WIDTH],
+    pub due: [Set; WIDTH],
     pub states: [u8; WIDTH],
-    pub written: [u32; WIDTH],
+    pub written: [Set; WIDTH],
+}
+
+/// All 0, as with a refusal. Rust has no default for arrays of more than 32 entries.
+impl Default for Record {
+    fn default() -> Record {
+        Record {
+            n: 0,
+            root: 0,
+            direction: 0,
+            ranks: [0; WIDTH],
+            waiting: [0; WIDTH],
+            telling: [0; WIDTH],
+            due: [0; WIDTH],
+            states: [0; WIDTH],
+            written: [0; WIDTH],
+        }
+    }
 }
 
 /// What a file says of itself: all 0 with a refusal.
@@ -44,12 +74,12 @@ pub struct Tables<'a> {
     pub new: &'a mut [u32],
     pub old_dist: &'a mut [u32],
     pub new_dist: &'a mut [u32],
-    pub old_hops: &'a mut [u32],
-    pub new_hops: &'a mut [u32],
+    pub old_hops: &'a mut [Set],
+    pub new_hops: &'a mut [Set],
 }
 
 mod c {
-    use super::WIDTH;
+    use super::{Set, WIDTH};
 
     #[link(name = "exports", kind = "static")]
     unsafe extern "C" {
@@ -75,7 +105,7 @@ mod c {
             metric_len: usize,
             dist: *mut u32,
             dist_len: usize,
-            hops: *mut u32,
+            hops: *mut Set,
             hops_len: usize,
         ) -> u8;
         pub fn ofib_plan(
@@ -90,19 +120,19 @@ mod c {
             old_dist_len: usize,
             new_dist: *mut u32,
             new_dist_len: usize,
-            old_hops: *mut u32,
+            old_hops: *mut Set,
             old_hops_len: usize,
-            new_hops: *mut u32,
+            new_hops: *mut Set,
             new_hops_len: usize,
             routers: *mut u8,
             root: *mut u8,
             direction: *mut u8,
             ranks: *mut [u8; WIDTH],
-            waiting: *mut [u32; WIDTH],
-            telling: *mut [u32; WIDTH],
-            due: *mut [u32; WIDTH],
+            waiting: *mut [Set; WIDTH],
+            telling: *mut [Set; WIDTH],
+            due: *mut [Set; WIDTH],
             states: *mut [u8; WIDTH],
-            written: *mut [u32; WIDTH],
+            written: *mut [Set; WIDTH],
         ) -> u8;
         pub fn ofib_sheet(
             n: usize,
@@ -116,19 +146,19 @@ mod c {
             old_dist_len: usize,
             new_dist: *mut u32,
             new_dist_len: usize,
-            old_hops: *mut u32,
+            old_hops: *mut Set,
             old_hops_len: usize,
-            new_hops: *mut u32,
+            new_hops: *mut Set,
             new_hops_len: usize,
             routers: *mut [u8; WIDTH],
         ) -> u8;
         pub fn ofib_step(
             n: u8,
-            waiting: *mut [u32; WIDTH],
-            telling: *const [u32; WIDTH],
-            due: *const [u32; WIDTH],
+            waiting: *mut [Set; WIDTH],
+            telling: *const [Set; WIDTH],
+            due: *const [Set; WIDTH],
             states: *mut [u8; WIDTH],
-            written: *mut [u32; WIDTH],
+            written: *mut [Set; WIDTH],
             kind: u8,
             a: u8,
             b: u8,
@@ -138,11 +168,11 @@ mod c {
             root: *mut u8,
             direction: *mut u8,
             ranks: *mut [u8; WIDTH],
-            waiting: *mut [u32; WIDTH],
-            telling: *mut [u32; WIDTH],
-            due: *mut [u32; WIDTH],
+            waiting: *mut [Set; WIDTH],
+            telling: *mut [Set; WIDTH],
+            due: *mut [Set; WIDTH],
             states: *mut [u8; WIDTH],
-            written: *mut [u32; WIDTH],
+            written: *mut [Set; WIDTH],
             bytes: *const u8,
             bytes_len: usize,
         );
@@ -157,9 +187,9 @@ mod c {
             old_dist_len: usize,
             new_dist: *mut u32,
             new_dist_len: usize,
-            old_hops: *mut u32,
+            old_hops: *mut Set,
             old_hops_len: usize,
-            new_hops: *mut u32,
+            new_hops: *mut Set,
             new_hops_len: usize,
             out: *mut u8,
             out_len: usize,
@@ -175,9 +205,9 @@ mod c {
             old_dist_len: usize,
             new_dist: *mut u32,
             new_dist_len: usize,
-            old_hops: *mut u32,
+            old_hops: *mut Set,
             old_hops_len: usize,
-            new_hops: *mut u32,
+            new_hops: *mut Set,
             new_hops_len: usize,
             out: *mut u8,
             out_len: usize,
@@ -218,7 +248,7 @@ pub fn isis(n: usize, identities: &[u8], lists: &[u8], table: &mut [u32]) -> u8 
 }
 
 /// Paths: the number of its refusal, or 0.
-pub fn paths(n: usize, metric: &[u32], dist: &mut [u32], hops: &mut [u32]) -> u8 {
+pub fn paths(n: usize, metric: &[u32], dist: &mut [u32], hops: &mut [Set]) -> u8 {
     unsafe {
         c::ofib_paths(
             n,
@@ -352,9 +382,9 @@ type TextCall = unsafe extern "C" fn(
     usize,
     *mut u32,
     usize,
-    *mut u32,
+    *mut Set,
     usize,
-    *mut u32,
+    *mut Set,
     usize,
     *mut u8,
     usize,

@@ -21,27 +21,33 @@ static void number(const char *what, unsigned long got, unsigned long wanted)
     }
 }
 
+// Entry k of a list, or cell k of a table: is it the wanted one?
+static int is_same(const char *what, size_t k, unsigned long got, unsigned long wanted)
+{
+    if (got != wanted) {
+        printf("ofib_test: %s, at %zu: %lu, and not %lu\n", what, k, got, wanted);
+        failures++;
+    }
+    return got == wanted;
+}
+
+// Each up to the first that differs.
 static void bytes(const char *what, const uint8_t *got, const uint8_t *wanted, size_t count)
 {
-    for (size_t k = 0; k < count; k++) {
-        if (got[k] != wanted[k]) {
-            printf("ofib_test: %s, byte %zu: %u, and not %u\n", what, k, got[k], wanted[k]);
-            failures++;
-            return;
-        }
-    }
+    for (size_t k = 0; k < count && is_same(what, k, got[k], wanted[k]);)
+        k++;
 }
 
 static void cells(const char *what, const uint32_t *got, const uint32_t *wanted, size_t count)
 {
-    for (size_t k = 0; k < count; k++) {
-        if (got[k] != wanted[k]) {
-            printf("ofib_test: %s, cell %zu: %lu, and not %lu\n", what, k, (unsigned long)got[k],
-                   (unsigned long)wanted[k]);
-            failures++;
-            return;
-        }
-    }
+    for (size_t k = 0; k < count && is_same(what, k, got[k], wanted[k]);)
+        k++;
+}
+
+static void sets(const char *what, const ofib_set *got, const ofib_set *wanted, size_t count)
+{
+    for (size_t k = 0; k < count && is_same(what, k, got[k], wanted[k]);)
+        k++;
 }
 
 static void records(const char *what, const ofib_record *got, const ofib_record *wanted)
@@ -50,17 +56,20 @@ static void records(const char *what, const ofib_record *got, const ofib_record 
     number(what, got->root, wanted->root);
     number(what, got->direction, wanted->direction);
     bytes(what, got->ranks, wanted->ranks, OFIB_WIDTH);
-    cells(what, got->waiting, wanted->waiting, OFIB_WIDTH);
-    cells(what, got->telling, wanted->telling, OFIB_WIDTH);
-    cells(what, got->due, wanted->due, OFIB_WIDTH);
+    sets(what, got->waiting, wanted->waiting, OFIB_WIDTH);
+    sets(what, got->telling, wanted->telling, OFIB_WIDTH);
+    sets(what, got->due, wanted->due, OFIB_WIDTH);
     bytes(what, got->states, wanted->states, OFIB_WIDTH);
-    cells(what, got->written, wanted->written, OFIB_WIDTH);
+    sets(what, got->written, wanted->written, OFIB_WIDTH);
 }
 
 // ---- What the calls are made on.
 
+// The file and its texts are small.
+#define MOST 4096
+
 typedef struct text {
-    uint8_t bytes[OFIB_ROOM];
+    uint8_t bytes[MOST];
     size_t len;
 } text;
 
@@ -75,15 +84,38 @@ static void load(const char *path, text *t)
     }
     t->len = fread(t->bytes, 1, sizeof t->bytes, f);
     fclose(f);
+    if (t->len == sizeof t->bytes) {
+        fprintf(stderr, "%s: too long\n", path);
+        exit(2);
+    }
 }
 
-// A table with these nine cells for three routers, and `rest` everywhere else.
-static void triangle(uint32_t *table, const uint32_t nine[9], uint32_t rest)
+// The cell that number k of nine has, of the three routers from this one on.
+static size_t cell_of(size_t first, size_t k)
+{
+    return OFIB_WIDTH * (first + k / 3) + first + k % 3;
+}
+
+// A table with these nine cells for three routers, the lowest ones unless said otherwise, and `rest` everywhere else.
+static void triangle_from(size_t first, uint32_t *table, const uint32_t nine[9], uint32_t rest)
 {
     for (size_t k = 0; k < OFIB_CELLS; k++)
         table[k] = rest;
     for (size_t k = 0; k < 9; k++)
-        table[OFIB_WIDTH * (k / 3) + k % 3] = nine[k];
+        table[cell_of(first, k)] = nine[k];
+}
+
+static void triangle(uint32_t *table, const uint32_t nine[9], uint32_t rest)
+{
+    triangle_from(0, table, nine, rest);
+}
+
+// The same of sets, which are empty elsewhere.
+static void triangle_of_sets(ofib_set *table, const ofib_set nine[9])
+{
+    memset(table, 0, OFIB_CELLS * sizeof *table);
+    for (size_t k = 0; k < 9; k++)
+        table[cell_of(0, k)] = nine[k];
 }
 
 #define NO OFIB_UNUSED
@@ -92,8 +124,8 @@ static const uint32_t old_metrics[9] = {NO, 1, 3, 1, NO, 1, 3, 1, NO};
 static const uint32_t new_metrics[9] = {NO, 1, 3, 1, NO, NO, 3, NO, NO};
 static const uint32_t old_distances[9] = {0, 1, 2, 1, 0, 1, 2, 1, 0};
 static const uint32_t new_distances[9] = {0, 1, 3, 1, 0, 4, 3, 4, 0};
-static const uint32_t old_next_hops[9] = {0, 2, 2, 1, 0, 4, 2, 2, 0};
-static const uint32_t new_next_hops[9] = {0, 2, 4, 1, 0, 1, 1, 1, 0};
+static const ofib_set old_next_hops[9] = {0, 2, 2, 1, 0, 4, 2, 2, 0};
+static const ofib_set new_next_hops[9] = {0, 2, 4, 1, 0, 1, 1, 1, 0};
 
 static const uint8_t change[] = {1, 2, 255, 255, 255, 2, 1, 255, 255, 255};
 
@@ -103,22 +135,20 @@ static const ofib_record blank;
 // The routers on the running sheet, and on the one of a refusal.
 static const uint8_t in_order[OFIB_WIDTH] = {0, 2, 1}, no_order[OFIB_WIDTH];
 
-// What the tables hold before a call that must not write them.
-#define UNTOUCHED 7u
+// Every byte of the tables before a call that must not write them.
+#define UNTOUCHED 7
 static ofib_tables tables, untouched, planned;
 
 static void fill_tables(void)
 {
-    uint32_t *cell = (uint32_t *)&untouched;
-    for (size_t k = 0; k < sizeof untouched / sizeof *cell; k++)
-        cell[k] = UNTOUCHED;
+    memset(&untouched, UNTOUCHED, sizeof untouched);
     triangle(untouched.old, old_metrics, OFIB_UNUSED);
     triangle(planned.old, old_metrics, OFIB_UNUSED);
     triangle(planned.new_, new_metrics, OFIB_UNUSED);
     triangle(planned.old_dist, old_distances, OFIB_UNREACHED);
     triangle(planned.new_dist, new_distances, OFIB_UNREACHED);
-    triangle(planned.old_hops, old_next_hops, 0);
-    triangle(planned.new_hops, new_next_hops, 0);
+    triangle_of_sets(planned.old_hops, old_next_hops);
+    triangle_of_sets(planned.new_hops, new_next_hops);
 }
 
 static void same_tables(const char *what, const ofib_tables *wanted)
@@ -127,8 +157,8 @@ static void same_tables(const char *what, const ofib_tables *wanted)
     cells(what, tables.new_, wanted->new_, OFIB_CELLS);
     cells(what, tables.old_dist, wanted->old_dist, OFIB_CELLS);
     cells(what, tables.new_dist, wanted->new_dist, OFIB_CELLS);
-    cells(what, tables.old_hops, wanted->old_hops, OFIB_CELLS);
-    cells(what, tables.new_hops, wanted->new_hops, OFIB_CELLS);
+    sets(what, tables.old_hops, wanted->old_hops, OFIB_CELLS);
+    sets(what, tables.new_hops, wanted->new_hops, OFIB_CELLS);
 }
 
 // ---- The tests.
@@ -171,7 +201,7 @@ static void test_read(void)
     one_read("ofib_read, an empty file", 0, OFIB_CELLS, OFIB_INCOMPLETE, nothing, unused);
     one_read("ofib_read, a byte less", file.len - 1, OFIB_CELLS, OFIB_INCOMPLETE, nothing, unused);
     one_read("ofib_read, a byte more", file.len + 1, OFIB_CELLS, OFIB_TRAILING, nothing, unused);
-    one_read("ofib_read, 1,023 cells", file.len, OFIB_CELLS - 1, OFIB_TABLE_SIZE, nothing, untouched.new_);
+    one_read("ofib_read, a cell less", file.len, OFIB_CELLS - 1, OFIB_TABLE_SIZE, nothing, untouched.new_);
     one_read("ofib_read, no cell", file.len, 0, OFIB_TABLE_SIZE, nothing, untouched.new_);
     test_bad_link(nothing, unused);
 }
@@ -221,11 +251,11 @@ static void test_isis(void)
     one_isis("ofib_isis, a byte more", 2, ROWS, lists, len + 1, OFIB_TRAILING, no_link);
     one_isis("ofib_isis, a row cut short", 2, ROWS - 1, lists, len, OFIB_INCOMPLETE, no_link);
     tables = untouched;
-    number("ofib_isis, 1,023 cells", ofib_isis(0, identities, 1, lists, 0, tables.new_, OFIB_CELLS - 1),
+    number("ofib_isis, a cell less", ofib_isis(0, identities, 1, lists, 0, tables.new_, OFIB_CELLS - 1),
            OFIB_TABLE_SIZE);
-    same_tables("ofib_isis, 1,023 cells", &untouched);
+    same_tables("ofib_isis, a cell less", &untouched);
     one_isis("ofib_isis, n = 0", 0, 1, lists, len, OFIB_ROUTER_COUNT, no_link);
-    one_isis("ofib_isis, n = 33", 33, 1, lists, len, OFIB_ROUTER_COUNT, no_link);
+    one_isis("ofib_isis, a router too many", OFIB_WIDTH + 1, 1, lists, len, OFIB_ROUTER_COUNT, no_link);
     one_isis("ofib_isis, n = 1 and a row of router 1", 1, ROWS - 1, lists, len, OFIB_UNKNOWN_ROUTER, no_link);
     test_bad_entries();
 }
@@ -237,7 +267,7 @@ static void one_paths(const char *what, size_t n, const size_t lens[3], uint8_t 
     number(what, ofib_paths(n, tables.old, lens[0], tables.old_dist, lens[1], tables.old_hops, lens[2]), answer);
     cells(what, tables.old, untouched.old, OFIB_CELLS);
     cells(what, tables.old_dist, wanted->old_dist, OFIB_CELLS);
-    cells(what, tables.old_hops, wanted->old_hops, OFIB_CELLS);
+    sets(what, tables.old_hops, wanted->old_hops, OFIB_CELLS);
 }
 
 static void test_paths(void)
@@ -245,10 +275,10 @@ static void test_paths(void)
     size_t lens[3] = {OFIB_CELLS, OFIB_CELLS, OFIB_CELLS};
     one_paths("ofib_paths", 3, lens, OFIB_OK, &planned);
     one_paths("ofib_paths, n = 0", 0, lens, OFIB_ROUTER_COUNT, &untouched);
-    one_paths("ofib_paths, n = 33", 33, lens, OFIB_ROUTER_COUNT, &untouched);
+    one_paths("ofib_paths, a router too many", OFIB_WIDTH + 1, lens, OFIB_ROUTER_COUNT, &untouched);
     for (size_t k = 0; k < 3; k++) {
         lens[k] = OFIB_CELLS - 1;
-        one_paths("ofib_paths, 1,023 cells", 3, lens, OFIB_TABLE_SIZE, &untouched);
+        one_paths("ofib_paths, a cell less", 3, lens, OFIB_TABLE_SIZE, &untouched);
         lens[k] = OFIB_CELLS;
     }
     untouched.old[1] = 0;
@@ -283,7 +313,7 @@ static void one_plan(const char *what, const uint8_t *list, size_t list_len, uin
 static void test_sheet_sizes(void)
 {
     size_t lens[6] = {OFIB_CELLS, OFIB_CELLS, OFIB_CELLS, OFIB_CELLS, OFIB_CELLS, OFIB_CELLS};
-    const char *what = "ofib_sheet, 1,023 cells";
+    const char *what = "ofib_sheet, a cell less";
     for (size_t k = 0; k < 6; k++) {
         uint8_t routers[OFIB_WIDTH] = {2, 1};
         tables = untouched;
@@ -301,7 +331,7 @@ static void test_sheet_sizes(void)
 static void test_plan_sizes(void)
 {
     size_t lens[6] = {OFIB_CELLS, OFIB_CELLS, OFIB_CELLS, OFIB_CELLS, OFIB_CELLS, OFIB_CELLS};
-    const char *what = "ofib_plan, 1,023 cells";
+    const char *what = "ofib_plan, a cell less";
     for (size_t k = 0; k < 6; k++) {
         ofib_record r = fresh;
         tables = untouched;
@@ -334,8 +364,8 @@ static void test_fall(void)
     cells("ofib_plan, C2, new metrics", tables.new_, planned.old, OFIB_CELLS);
     cells("ofib_plan, C2, old distances", tables.old_dist, planned.new_dist, OFIB_CELLS);
     cells("ofib_plan, C2, new distances", tables.new_dist, planned.old_dist, OFIB_CELLS);
-    cells("ofib_plan, C2, old next hops", tables.old_hops, planned.new_hops, OFIB_CELLS);
-    cells("ofib_plan, C2, new next hops", tables.new_hops, planned.old_hops, OFIB_CELLS);
+    sets("ofib_plan, C2, old next hops", tables.old_hops, planned.new_hops, OFIB_CELLS);
+    sets("ofib_plan, C2, new next hops", tables.new_hops, planned.old_hops, OFIB_CELLS);
 }
 
 // The link of 1 and 2 goes down at one end only. All is as where both directions go down, but for the new metrics.
@@ -359,7 +389,7 @@ static void test_plan(void)
     one_plan("ofib_plan, C1", change, sizeof change, OFIB_OK);
     one_plan("ofib_plan, C4", other_order, sizeof other_order, OFIB_OK);
     one_plan("ofib_plan, nine bytes", change, sizeof change - 1, OFIB_INCOMPLETE);
-    one_plan("ofib_plan, 63 changes", many, sizeof many, OFIB_TOO_MANY);
+    one_plan("ofib_plan, a change too many", many, sizeof many, OFIB_TOO_MANY);
     one_plan("ofib_plan, no change", change, 0, OFIB_NO_CHANGE);
     one_plan("ofib_plan, router 3", unknown, sizeof unknown, OFIB_UNKNOWN_ROUTER);
     one_plan("ofib_plan, from 1 to 1", self, sizeof self, OFIB_SELF_LINK);
@@ -414,9 +444,9 @@ static void test_refused_steps(void)
 {
     ofib_record r = fresh;
     one_refused(blank, OFIB_LEARN, 0, 0, OFIB_BAD_RECORD);
-    r.states[31] = OFIB_DONE + 1;
+    r.states[OFIB_WIDTH - 1] = OFIB_DONE + 1;
     one_refused(r, OFIB_LEARN, 0, 0, OFIB_BAD_RECORD);
-    r.states[31] = OFIB_IDLE;
+    r.states[OFIB_WIDTH - 1] = OFIB_IDLE;
     one_refused(r, 0, 0, 0, OFIB_UNKNOWN_KIND);
     one_refused(r, OFIB_DELIVER + 1, 0, 0, OFIB_UNKNOWN_KIND);
     one_refused(r, OFIB_LEARN, 3, 0, OFIB_UNKNOWN_ROUTER);
@@ -432,11 +462,70 @@ static void test_refused_steps(void)
     one_refused(r, OFIB_DELIVER, 0, 2, OFIB_NOT_TOLD);
 }
 
+#define BIT(k) ((ofib_set)1 << (k))
+
+// C1 with the routers 61, 62 and 63 of an area of 64, whose other routers have no link: the highest bits of sets.
+static const uint8_t last_change[] = {62, 63, 255, 255, 255, 63, 62, 255, 255, 255};
+static const ofib_record last_fresh = {
+    .n = 64,
+    .root = 62,
+    .direction = OFIB_RISE,
+    .ranks = {[62] = 1},
+    .waiting = {[62] = BIT(61) | BIT(63)},
+    .telling = {[61] = BIT(62), [63] = BIT(62)},
+    .due = {[61] = BIT(63), [62] = BIT(63), [63] = BIT(61) | BIT(62)},
+};
+
+static void test_last_plan(void)
+{
+    const char *what = "plan of routers 61 to 63";
+    ofib_record r = blank;
+    tables = untouched;
+    triangle_from(61, tables.old, old_metrics, OFIB_UNUSED);
+    number(what, ofib_record_plan(&r, 64, &tables, last_change, sizeof last_change), OFIB_OK);
+    records(what, &r, &last_fresh);
+    for (size_t k = 0; k < 9; k++) {
+        number(what, tables.old_hops[cell_of(61, k)], old_next_hops[k] << 61);
+        number(what, tables.new_hops[cell_of(61, k)], new_next_hops[k] << 61);
+    }
+}
+
+// Those that wait for none come in the order of their numbers, and then router 62.
+static void test_last_sheet(void)
+{
+    const char *what = "sheet of routers 61 to 63";
+    uint8_t routers[OFIB_WIDTH] = {0};
+    tables = untouched;
+    triangle_from(61, tables.old, old_metrics, OFIB_UNUSED);
+    number(what, ofib_tables_sheet(&tables, 64, last_change, sizeof last_change, routers), OFIB_OK);
+    for (size_t k = 0; k < 62; k++)
+        number(what, routers[k], k);
+    number(what, routers[62], 63);
+    number(what, routers[63], 62);
+}
+
+// Router 63 gets done and tells router 62, which then waits for router 61 alone.
+static void test_last_steps(void)
+{
+    static const uint8_t steps[][OFIB_STEP] = {
+        {OFIB_LEARN, 62, 0},  {OFIB_LEARN, 63, 0},  {OFIB_RELEASE, 63, 0},  {OFIB_WRITE, 63, 61},
+        {OFIB_WRITE, 63, 62}, {OFIB_FINISH, 63, 0}, {OFIB_DELIVER, 63, 62},
+    };
+    const char *what = "steps of router 63";
+    ofib_record r = last_fresh;
+    for (size_t k = 0; k < sizeof steps / sizeof *steps; k++)
+        number(what, ofib_record_step(&r, steps[k][0], steps[k][1], steps[k][2]), OFIB_OK);
+    number(what, r.written[63], BIT(61) | BIT(62));
+    number(what, r.waiting[62], BIT(61));
+    one_refused(r, OFIB_LEARN, 64, 0, OFIB_UNKNOWN_ROUTER);
+    one_refused(r, OFIB_WRITE, 63, 64, OFIB_UNKNOWN_ROUTER);
+}
+
 // A text, in a buffer of each length up to one byte more than it has. The bytes beyond the length are not touched.
 static void one_text(const char *what, size_t (*call)(ofib_tables *, const uint8_t *, size_t, uint8_t *, size_t),
                      size_t file_len, const uint8_t *wanted, size_t wanted_len)
 {
-    static uint8_t out[OFIB_ROOM + 1], beyond[OFIB_ROOM + 1];
+    static uint8_t out[MOST + 1], beyond[MOST + 1];
     memset(beyond, 170, sizeof beyond);
     for (size_t room = 0; room <= wanted_len + 1; room++) {
         size_t most = room < wanted_len ? room : wanted_len;
@@ -458,19 +547,19 @@ static void test_texts(void)
     one_text("ofib_rehearse, an empty file", ofib_tables_rehearse, 0, (const uint8_t *)too_early, 10);
     one_text("ofib_routes, an empty file", ofib_tables_routes, 0, (const uint8_t *)too_early, 10);
     memset(out, 0, sizeof out);
-    number("ofib_rehearse, 1,023 cells",
+    number("ofib_rehearse, a cell less",
            ofib_rehearse(file.bytes, file.len, tables.old, OFIB_CELLS, tables.new_, OFIB_CELLS, tables.old_dist,
                          OFIB_CELLS, tables.new_dist, OFIB_CELLS, tables.old_hops, OFIB_CELLS, tables.new_hops,
                          OFIB_CELLS - 1, out, sizeof out),
            10);
-    bytes("ofib_rehearse, 1,023 cells", out, (const uint8_t *)a_table, 10);
+    bytes("ofib_rehearse, a cell less", out, (const uint8_t *)a_table, 10);
     memset(out, 0, sizeof out);
-    number("ofib_routes, 1,025 cells",
+    number("ofib_routes, a cell more",
            ofib_routes(file.bytes, file.len, longer, OFIB_CELLS + 1, tables.new_, OFIB_CELLS, tables.old_dist,
                        OFIB_CELLS, tables.new_dist, OFIB_CELLS, tables.old_hops, OFIB_CELLS, tables.new_hops,
                        OFIB_CELLS, out, sizeof out),
            10);
-    bytes("ofib_routes, 1,025 cells", out, (const uint8_t *)a_table, 10);
+    bytes("ofib_routes, a cell more", out, (const uint8_t *)a_table, 10);
 }
 
 int main(int argc, char **argv)
@@ -489,7 +578,11 @@ int main(int argc, char **argv)
     test_plan();
     test_steps();
     test_refused_steps();
+    test_last_plan();
+    test_last_sheet();
+    test_last_steps();
     test_texts();
-    number("OFIB_LARGEST", OFIB_LARGEST, 17564);
+    number("OFIB_WIDTH", OFIB_WIDTH, 64);
+    number("OFIB_LARGEST", OFIB_LARGEST, 33084);
     return failures != 0;
 }

@@ -8,7 +8,7 @@ use crate::difference::{Difference, case_title, describe_area};
 use crate::flaw::Flaw;
 use crate::ofib::{self, CELLS, Record};
 use crate::paths::{at, pairs, usable};
-use crate::plan::{Change, changes_of, first_fault, has_effect, raw_moves, root};
+use crate::plan::{Change, changes_of, first_fault, raw_moves, root, with_effect};
 use crate::random::Random;
 use crate::steps::{self, Caller};
 
@@ -49,7 +49,7 @@ fn compare_calls(
     comparison.paths(random, area.n, &area.metric, [CELLS; 2])?;
     let planned = comparison.plan(random, area.n, &area.metric, [CELLS; 5], list)?;
     if planned.answer == 0 {
-        let new = planned.tables.tables[1].cells();
+        let new = planned.tables.new.cells();
         comparison.paths(random, area.n, new, [CELLS; 2])?;
         let last = compare_steps(comparison, random, &planned.record, calls)?;
         compare_run(comparison, random, &planned.record, calls, &last)?;
@@ -120,8 +120,7 @@ fn count_usable(comparison: &mut Comparison, area: &Area, changes: &[Change], pl
         return;
     }
     let raw = raw_moves(n, old, changes);
-    let mut active = changes.to_vec();
-    active.retain(|&change| has_effect(n, old, changes, change, Flaw::None));
+    let active = with_effect(n, old, changes, Flaw::None);
     let root_of_active = root(&active, Flaw::None);
     let seen = match planned.answer {
         0 => vec![
@@ -129,7 +128,7 @@ fn count_usable(comparison: &mut Comparison, area: &Area, changes: &[Change], pl
             (Usable::RawMixed, raw.rise && raw.fall),
             (
                 Usable::Unlisted,
-                moves_unlisted(n, old, planned.tables.tables[1].cells(), changes),
+                moves_unlisted(n, old, planned.tables.new.cells(), changes),
             ),
             (Usable::IdleRoot, root_of_active != Some(planned.record.root)),
         ],

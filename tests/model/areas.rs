@@ -11,17 +11,19 @@ pub struct Area {
 }
 
 pub fn area(random: &mut Random) -> Area {
-    let n = match random.below(10) {
-        0..=3 => random.between(1, WIDTH),
-        4..=6 => random.between(2, 8),
-        7 | 8 => random.between(3, 16),
+    let n = match random.below(50) {
+        0..4 => random.between(1, WIDTH),
+        // Sets of 32 bits are just enough, or not, and tables are full, or not.
+        4 => random.pick(&[31, 32, 33, WIDTH - 2, WIDTH - 1, WIDTH]),
+        5..20 => random.between(3, 24),
+        20..40 => random.between(2, 8),
         _ => random.between(1, 4),
     };
     area_of_size(random, n)
 }
 
 pub fn area_of_size(random: &mut Random, n: usize) -> Area {
-    let links = match random.below(9) {
+    let links = match random.below(10) {
         0 => random_links(random, n),
         1 => ring(random, n),
         2 => tree(random, n),
@@ -30,6 +32,7 @@ pub fn area_of_size(random: &mut Random, n: usize) -> Area {
         5 => parts(random, n),
         6 => half_ring(random, n),
         7 => pairs(n).collect(),
+        8 => hypercube(n),
         _ => sparse(random, n),
     };
     let mut area = Area {
@@ -165,10 +168,15 @@ fn tree(random: &mut Random, n: usize) -> Vec<(usize, usize)> {
 }
 
 fn grid(random: &mut Random, n: usize) -> Vec<(usize, usize)> {
-    let width = random.between(1, n.min(6));
+    let width = random.between(1, n.min(8));
     let right = (1..n).filter(|i| i % width != 0).map(|i| (i, i - 1));
     let down = (width..n).map(|i| (i, i - width));
     both_ways(right.chain(down))
+}
+
+/// Routers whose numbers differ in one bit are neighbours, as far as there are both: six neighbours each of 64 routers.
+fn hypercube(n: usize) -> Vec<(usize, usize)> {
+    pairs(n).filter(|(i, j)| (i ^ j).is_power_of_two()).collect()
 }
 
 /// Every router of a layer is linked with every router of the next: many walks of equal cost.

@@ -1,6 +1,7 @@
 //! Change lists: rises and falls, also with entries that have no effect, and lists with one or more faults.
 
 use crate::areas::Area;
+use crate::ofib::WIDTH;
 use crate::paths::{UNUSED, at, pairs};
 use crate::plan::{Change, MOST_CHANGES};
 use crate::random::Random;
@@ -38,7 +39,7 @@ pub fn list(random: &mut Random, area: &mut Area) -> Vec<u8> {
         20 => bytes_of(&without_effect(random, area)),
         14..=18 => faulty(random, area),
         _ => {
-            let length = random.between(0, 400);
+            let length = random.between(0, 6 * MOST_CHANGES);
             random.bytes(length)
         }
     }
@@ -95,7 +96,8 @@ fn change(i: usize, j: usize, metric: u32) -> Change {
     }
 }
 
-fn router_down(area: &Area, router: usize) -> Vec<Change> {
+/// All links of the router go down.
+pub fn router_down(area: &Area, router: usize) -> Vec<Change> {
     let used = links_of(area.n, router).filter(|&(i, j)| area.metric[at(i, j)] < UNUSED);
     used.map(|(i, j)| change(i, j, UNUSED)).collect()
 }
@@ -316,7 +318,7 @@ fn spoiled(
 /// One end or both become a router that the area does not have.
 fn with_unknown_router(random: &mut Random, area: &Area, entry: Change) -> Change {
     let n = area.n as u8;
-    let unknown = random.pick(&[n, n + 1, 32, 33, 128, 255]).max(n);
+    let unknown = random.pick(&[n, n + 1, WIDTH as u8, WIDTH as u8 + 1, 128, 255]).max(n);
     match random.below(5) {
         0 => Change {
             from: unknown,

@@ -1,19 +1,18 @@
 //! One call of the library beside the same call of the model: every answer, every cell and every field.
 
 use std::fmt::Debug;
+use std::path::Path;
 
 use crate::counts::{Counts, Numbers};
 use crate::flaw::Flaw;
 use crate::lent::{Lent, RIGHT_SIZES, SixTables};
 use crate::link_state::Input;
-use crate::ofib::{self, Answer, CELLS, Contents, Record, Tables, WIDTH};
+use crate::ofib::{self, Answer, CELLS, Contents, REHEARSAL_ROOM, ROUTES_ROOM, Record, Tables, WIDTH};
 use crate::paths::{self, UNUSED};
 use crate::random::Random;
 use crate::read::Format;
-use crate::{changes, files as bench_files, from_isis, isis, plan, read, rewriting, sheet, step, steps, text};
+use crate::{changes, files as bench_files, from_isis, isis, plan, process, read, rewriting, sheet, step, steps, text};
 
-/// Room for every text.
-pub const ROOM: usize = 147_456;
 /// The byte that stands in the room before a call; it is in no text.
 const BEFORE: u8 = 0xA5;
 /// Bytes after the room, which no call may touch.
@@ -35,17 +34,21 @@ pub struct Planned {
 /// A text as the library gives it and as the model does.
 struct TextCall {
     name: &'static str,
+    /// Room for every such text.
+    most: usize,
     library: fn(&[u8], &mut Tables, &mut [u8]) -> usize,
     model: fn(&[u8], &mut Tables, Flaw) -> String,
 }
 
 const REHEARSAL: TextCall = TextCall {
     name: "rehearsal",
+    most: REHEARSAL_ROOM,
     library: ofib::rehearse,
     model: text::rehearsal,
 };
 const ROUTES: TextCall = TextCall {
     name: "routes",
+    most: ROUTES_ROOM,
     library: ofib::routes,
     model: text::routes,
 };
@@ -55,12 +58,12 @@ impl Comparison {
         Comparison {
             flaw,
             counts: Counts::new(),
-            out: vec![BEFORE; ROOM + AFTER],
+            out: vec![BEFORE; REHEARSAL_ROOM.max(ROUTES_ROOM) + AFTER],
         }
     }
 
     pub fn paths(&mut self, random: &mut Random, n: usize, metric: &[u32], sizes: [usize; 2]) -> Result<u8, String> {
-        let [mut dist, mut hops] = sizes.map(|size| Lent::filled(random, size));
+        let (mut dist, mut hops) = (Lent::filled(random, sizes[0]), Lent::filled(random, sizes[1]));
         let (mut model_dist, mut model_hops) = (dist.clone(), hops.clone());
         let answer = ofib::paths(n, metric, dist.cells_mut(), hops.cells_mut());
         let model = paths::paths(n, metric, model_dist.cells_mut(), model_hops.cells_mut(), self.flaw);
@@ -83,7 +86,7 @@ impl Comparison {
     ) -> Result<Planned, String> {
         let [new, old_dist, new_dist, old_hops, new_hops] = sizes;
         let mut tables = SixTables::filled(random, [0, new, old_dist, new_dist, old_hops, new_hops]);
-        tables.tables[0] = Lent::holding(random, old);
+        tables.old = Lent::holding(random, old);
         let planned = self.plan_alone(random, n, tables.clone(), list)?;
         self.other_order(random, n, tables.clone(), list, &planned)?;
         let routers = self.sheet(random, n, tables, list, &planned)?;
@@ -265,12 +268,23 @@ impl Comparison {
         read.compare(&table, "of Read of the printed file")
     }
 
+    /// What is printed of the steps of a sheet.
+    pub fn sheet_steps(&mut self, random: &mut Random, program: &Path, file: &[u8]) -> Result<(), String> {
+        let text = process::compare_sheet_steps(random, program, file, self.flaw)?;
+        if text.starts_with(text::TOO_MANY_STEPS) {
+            self.counts.too_many_steps += 1;
+        } else {
+            count_text(&mut self.counts.sheet_steps, &text);
+        }
+        Ok(())
+    }
+
     pub fn rehearsal(
         &mut self,
         random: &mut Random,
         file: &[u8],
         sizes: [usize; 6],
-        room: usize,
+        room: Option<usize>,
     ) -> Result<String, String> {
         let text = self.text(random, &REHEARSAL, file, sizes, room)?;
         count_text(&mut self.counts.rehearsal, &text);
@@ -282,28 +296,36 @@ impl Comparison {
         random: &mut Random,
         file: &[u8],
         sizes: [usize; 6],
-        room: usize,
+        room: Option<usize>,
     ) -> Result<String, String> {
         let text = self.text(random, &ROUTES, file, sizes, room)?;
         count_text(&mut self.counts.routes, &text);
         Ok(text)
     }
 
-    /// Compares the text as far as it has room, and the six tables; gives the whole text.
+    /// Compares the text as far as it has room, and the six tables; gives the whole text. Where no room is given, the
+    /// text gets as much as it needs or a little more.
     fn text(
         &mut self,
         random: &mut Random,
         call: &TextCall,
         file: &[u8],
         sizes: [usize; 6],
-        room: usize,
+        room: Option<usize>,
     ) -> Result<String, String> {
         let name = call.name;
         let mut tables = SixTables::filled(random, sizes);
         let mut model_tables = tables.clone();
+        let text = (call.model)(file, &mut model_tables.lend(), self.flaw);
+        let room = room.unwrap_or(text.len() + random.pick(&[0, 1, 100]));
+        if text.len().max(room) > call.most {
+            return Err(format!(
+                "{name}: {} bytes are more than any text has",
+                text.len().max(room)
+            ));
+        }
         self.out[..room + AFTER].fill(BEFORE);
         let length = (call.library)(file, &mut tables.lend(), &mut self.out[..room]);
-        let text = (call.model)(file, &mut model_tables.lend(), self.flaw);
         let shown = text.len().min(room);
         texts(name, &self.out[..shown], &text.as_bytes()[..shown])?;
         same(&format!("{name}, length of the text"), length, shown)?;
@@ -318,8 +340,8 @@ impl Comparison {
     /// Read, rehearsal and routes of one file, with all the room they need, and the file as a stored one.
     pub fn file(&mut self, random: &mut Random, file: &[u8]) -> Result<String, String> {
         let (answer, _) = self.read(random, file, CELLS)?;
-        let text = self.rehearsal(random, file, RIGHT_SIZES, ROOM)?;
-        self.routes(random, file, RIGHT_SIZES, ROOM)?;
+        let text = self.rehearsal(random, file, RIGHT_SIZES, None)?;
+        self.routes(random, file, RIGHT_SIZES, None)?;
         self.stored(random, file, answer)?;
         self.counts.files += 1;
         Ok(text)
@@ -366,8 +388,8 @@ impl Comparison {
             old_behind,
             behind,
         )?;
-        self.rehearsal(random, rewritten, RIGHT_SIZES, ROOM)?;
-        self.routes(random, rewritten, RIGHT_SIZES, ROOM)?;
+        self.rehearsal(random, rewritten, RIGHT_SIZES, None)?;
+        self.routes(random, rewritten, RIGHT_SIZES, None)?;
         Ok(())
     }
 }

@@ -1,7 +1,7 @@
 //! What has been compared, and which answers of 01 have come up.
 
 use crate::isis::{self, Part};
-use crate::ofib::Answer;
+use crate::ofib::{Answer, WIDTH};
 use crate::plan::{MOST_CHANGES, RISE};
 use crate::read::{Fault, Section};
 
@@ -64,9 +64,9 @@ const USABLE: [(Usable, &str); 7] = [
 pub struct Counts {
     pub areas: u64,
     /// Accepted rises and falls, by the number of routers.
-    pub rises: [u64; 33],
-    pub falls: [u64; 33],
-    pub sizes: [u64; 33],
+    pub rises: [u64; WIDTH + 1],
+    pub falls: [u64; WIDTH + 1],
+    pub sizes: [u64; WIDTH + 1],
     pub finished_runs: u64,
     /// Accepted plans that another order of the changes left the same.
     orders: u64,
@@ -101,21 +101,24 @@ pub struct Counts {
     read_sections: [[u64; 8]; 31],
     pub isis: Numbers,
     /// Link-state data that was accepted, by the number of routers.
-    pub isis_sizes: [u64; 33],
+    pub isis_sizes: [u64; WIDTH + 1],
     /// For each refusal of link-state data, how often its cause lay in each part.
     isis_parts: [[u64; PARTS.len()]; 34],
     /// What the program that prints areas answered, and how many lists were too long for it.
     pub printed: Numbers,
     pub too_long: u64,
+    /// What the program that prints the steps of a sheet answered, and how many sheets have too many for a file.
+    pub sheet_steps: Numbers,
+    pub too_many_steps: u64,
 }
 
 impl Counts {
     pub fn new() -> Counts {
         Counts {
             areas: 0,
-            rises: [0; 33],
-            falls: [0; 33],
-            sizes: [0; 33],
+            rises: [0; WIDTH + 1],
+            falls: [0; WIDTH + 1],
+            sizes: [0; WIDTH + 1],
             finished_runs: 0,
             orders: 0,
             other_numbers: 0,
@@ -141,10 +144,12 @@ impl Counts {
             list_places: [[0; MOST_CHANGES]; 16],
             read_sections: [[0; 8]; 31],
             isis: [0; 256],
-            isis_sizes: [0; 33],
+            isis_sizes: [0; WIDTH + 1],
             isis_parts: [[0; PARTS.len()]; 34],
             printed: [0; 256],
             too_long: 0,
+            sheet_steps: [0; 256],
+            too_many_steps: 0,
         }
     }
 
@@ -199,10 +204,11 @@ impl Counts {
         self.missing_steps(&mut missing);
         self.missing_places(&mut missing);
         self.missing_isis(&mut missing);
-        for n in 1..=32 {
+        self.missing_sheet_steps(&mut missing);
+        for n in 1..=WIDTH {
             require(&mut missing, self.sizes[n], || format!("area of {n} routers"));
         }
-        for n in 2..=32 {
+        for n in 2..=WIDTH {
             require(&mut missing, self.rises[n], || {
                 format!("accepted rise with {n} routers")
             });
@@ -320,7 +326,7 @@ impl Counts {
                 });
             }
         }
-        for n in 1..=32 {
+        for n in 1..=WIDTH {
             require(missing, self.isis_sizes[n], || {
                 format!("lists from IS-IS of {n} routers")
             });
@@ -334,6 +340,21 @@ impl Counts {
             }
             require(missing, self.too_long, || "lists too long to be printed".to_string());
         }
+    }
+
+    /// The program that prints the steps of a sheet may not be run.
+    fn missing_sheet_steps(&self, missing: &mut Vec<String>) {
+        if self.sheet_steps.iter().all(|&count| count == 0) {
+            return;
+        }
+        for number in [0, 1, 2, 3, 4, 5, 6, 7, 9, 10, 11, 12, 13, 30] {
+            require(missing, self.sheet_steps[number], || {
+                format!("program that prints the steps of a sheet answering {number}")
+            });
+        }
+        require(missing, self.too_many_steps, || {
+            "sheet with too many steps for a file".to_string()
+        });
     }
 
     pub fn print(&self) {
@@ -365,20 +386,30 @@ impl Counts {
             "files: {}, texts cut short {}, runs of the program {}",
             self.files, self.short_texts, self.processes
         );
+        self.print_programs();
+        let [_, _, two, three, four] = self.small_plans;
+        println!("reachable records: {}, walks {}", self.records, self.walks);
+        println!("plans searched for them: {two} with 2 routers, {three} with 3, {four} with 4");
+    }
+
+    /// Lists from IS-IS, stored files, and what the programs made of them and of sheets.
+    fn print_programs(&self) {
         println!("lists from IS-IS: {}", answers(&self.isis));
         println!(
             "areas printed from them: {}, too long {}",
             answers(&self.printed),
             self.too_long
         );
+        println!(
+            "steps of sheets printed: {}, too many {}",
+            answers(&self.sheet_steps),
+            self.too_many_steps
+        );
         println!("the old reader: {}", answers(&self.rewriting));
         println!(
             "stored files: {} with dead links, {} without, runs of the program that rewrites them {}",
             self.with_dead_links, self.without_dead_links, self.rewrites
         );
-        let [_, _, two, three, four] = self.small_plans;
-        println!("reachable records: {}, walks {}", self.records, self.walks);
-        println!("plans searched for them: {two} with 2 routers, {three} with 3, {four} with 4");
     }
 }
 

@@ -6,7 +6,8 @@ use std::{fs, io};
 
 use crate::areas::Area;
 use crate::link_state::Input;
-use crate::ofib::Record;
+use crate::ofib::{Record, WIDTH};
+use crate::paths::UNUSED;
 
 pub enum Case {
     /// A bench file, byte for byte.
@@ -67,8 +68,8 @@ pub fn case_of(text: &str) -> Option<(&str, u64, u64)> {
 pub fn describe_area(title: &str, area: &Area, list: &[u8], steps: &[u8]) -> String {
     let mut text = format!("{title}\nn {}\n", area.n);
     for (cell, &metric) in area.metric.iter().enumerate() {
-        let (i, j) = (cell / 32, cell % 32);
-        if i < area.n && j < area.n && i != j && metric < 16_777_215 {
+        let (i, j) = (cell / WIDTH, cell % WIDTH);
+        if i < area.n && j < area.n && i != j && metric < UNUSED {
             add(&mut text, format_args!("link {i} {j} metric {metric}\n"));
         }
     }

@@ -3,7 +3,7 @@
 use crate::area_cases::compare_area;
 use crate::areas::{self, Area};
 use crate::changes::{self, FAULTS};
-use crate::compare::{Comparison, ROOM};
+use crate::compare::Comparison;
 use crate::difference::{Difference, describe_area, describe_step};
 use crate::files;
 use crate::lent::RIGHT_SIZES;
@@ -14,26 +14,27 @@ use crate::random::Random;
 use crate::steps;
 
 const PART: u64 = 2;
-/// Among them numbers that are 0 to 32 when cut to 8, 16 or 32 bits.
+/// Among them numbers that are 0 to 64 when cut to 8, 16 or 32 bits.
 pub const WRONG_N: [usize; 16] = [
     0,
-    33,
-    34,
-    64,
+    WIDTH + 1,
+    WIDTH + 2,
+    2 * WIDTH,
     255,
     256,
     257,
-    288,
+    256 + WIDTH,
     65_541,
     1 << 32,
     (1 << 32) + 1,
-    (1 << 32) + 32,
+    (1 << 32) + WIDTH,
     1 << 63,
-    usize::MAX - 223,
+    usize::MAX - 255 + WIDTH,
     usize::MAX - 1,
     usize::MAX,
 ];
-pub const WRONG_SIZES: [usize; 7] = [0, 1, 32, 1023, 1025, 2048, 1 << 16];
+/// Among them the cells of 32 rows of 32.
+pub const WRONG_SIZES: [usize; 8] = [0, 1, WIDTH, 1024, CELLS - 1, CELLS + 1, 2 * CELLS, 1 << 16];
 const WRONG_METRICS: [u32; 5] = [0, UNUSED + 1, UNUSED + 2, 1 << 31, u32::MAX];
 
 /// The calls that are the same for every seed but for the areas they are made on, and then `count` random ones of each
@@ -90,7 +91,7 @@ fn one_effect_at_each_place(comparison: &mut Comparison, random: &mut Random) ->
     Ok(())
 }
 
-/// A full mesh of 32 routers, and a rise or fall of all 62 links of one of them.
+/// A full mesh of all routers, and a rise or fall of all links of one of them.
 fn longest_list(random: &mut Random) -> (Area, Vec<Change>) {
     let area = areas::full_mesh(random, WIDTH);
     let router = random.below(WIDTH);
@@ -134,7 +135,7 @@ fn two_faults(comparison: &mut Comparison, random: &mut Random) -> Result<(), Di
 
 fn wrong_n(comparison: &mut Comparison, random: &mut Random) -> Result<(), Difference> {
     for n in WRONG_N {
-        for size in [CELLS, 0, 1023] {
+        for size in [CELLS, 0, CELLS - 1] {
             let (mut area, list) = area_and_list(random);
             area.n = n;
             area.metric.resize(size, 0);
@@ -175,8 +176,8 @@ fn wrong_sizes_with_a_file(comparison: &mut Comparison, random: &mut Random) -> 
             sizes[random.below(6)] = random.pick(&[CELLS, CELLS, size]);
             let mut compare = || {
                 comparison.read(random, &file, size)?;
-                comparison.rehearsal(random, &file, sizes, ROOM)?;
-                comparison.routes(random, &file, sizes, ROOM)
+                comparison.rehearsal(random, &file, sizes, None)?;
+                comparison.routes(random, &file, sizes, None)
             };
             compare().map_err(|what| Difference::in_file(format!("table sizes {sizes:?}: {what}"), &file))?;
         }
@@ -186,7 +187,7 @@ fn wrong_sizes_with_a_file(comparison: &mut Comparison, random: &mut Random) -> 
 
 /// At the places that are read a wrong metric is refused, at the others it changes nothing.
 fn wrong_metric_at_each_place(comparison: &mut Comparison, random: &mut Random) -> Result<(), Difference> {
-    for n in [1, 2, 5, 31, 32] {
+    for n in [1, 2, 5, 32, 33, WIDTH - 1, WIDTH] {
         let mut area = areas::area_of_size(random, n);
         for place in 0..CELLS {
             let metric = random.pick(&WRONG_METRICS);
@@ -264,7 +265,7 @@ fn every_kind(comparison: &mut Comparison, random: &mut Random) -> Result<(), Di
 fn wrong_state_at_each_index(comparison: &mut Comparison, random: &mut Random) -> Result<(), Difference> {
     for index in 0..WIDTH {
         for state in [0, 3, 4, 5, 128, 255] {
-            for n in [0, 1, 16, 31, 32, 33, 255] {
+            for n in [0, 1, 16, 32, 33, WIDTH as u8 - 1, WIDTH as u8, WIDTH as u8 + 1, 255] {
                 let mut record = steps::any_record(random);
                 record.n = n;
                 record.states = record.states.map(|state| state % 4);

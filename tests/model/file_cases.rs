@@ -1,12 +1,14 @@
-//! Bench files: Read, the texts of the rehearsal and of the routes, the rewriting of stored files, and both programs.
+//! Bench files: Read, the texts of the rehearsal and of the routes, the rewriting of stored files, and the programs
+//! that read them.
 
 use std::path::PathBuf;
 
 use crate::areas;
-use crate::compare::{Comparison, ROOM};
+use crate::compare::Comparison;
 use crate::difference::Difference;
-use crate::files::{self, LINK_FAULTS, Parts};
+use crate::files::{self, LINK_FAULTS, LONG_SHEETS, Parts};
 use crate::lent::RIGHT_SIZES;
+use crate::ofib::{ROUTES_ROOM, WIDTH};
 use crate::process;
 use crate::random::Random;
 use crate::read::LARGEST;
@@ -27,6 +29,9 @@ pub struct Amount {
     /// The program that rewrites stored files, and from one file that it is run with to the next.
     pub rewrite: Option<PathBuf>,
     pub rewrite_stride: u64,
+    /// The program that prints the steps of a sheet, and from one file that it is run with to the next.
+    pub sheet_steps: Option<PathBuf>,
+    pub sheet_stride: u64,
 }
 
 impl Amount {
@@ -35,6 +40,7 @@ impl Amount {
         Amount {
             program_stride: 1,
             rewrite_stride: 1,
+            sheet_stride: 1,
             ..self.clone()
         }
     }
@@ -44,7 +50,8 @@ pub fn file_cases(comparison: &mut Comparison, seed: u64, amount: &Amount) -> Re
     let mut random = Random::for_case(seed, PART, u64::MAX);
     largest_file(comparison, &mut random, amount)?;
     dead_links(comparison, &mut random, amount)?;
-    for (n, stride) in [(2, 1), (5, 1), (32, amount.link_stride)] {
+    long_sheets(comparison, &mut random, amount)?;
+    for (n, stride) in [(2, 1), (5, 1), (WIDTH, amount.link_stride)] {
         link_faults(comparison, &mut random, n, stride, amount)?;
     }
     for number in 0..amount.cases {
@@ -56,7 +63,7 @@ pub fn file_cases(comparison: &mut Comparison, seed: u64, amount: &Amount) -> Re
 /// One file that the old reader takes, sometimes with all that can be cut off it, or one file with faults.
 pub fn file_case(comparison: &mut Comparison, seed: u64, number: u64, amount: &Amount) -> Result<(), Difference> {
     let mut random = Random::for_case(seed, PART, number);
-    let most_routers = random.pick(&[2, 3, 4, 8, 16, 32]);
+    let most_routers = random.pick(&[2, 3, 4, 8, 8, 16, 16, WIDTH]);
     match random.below(40) {
         0 => {
             let parts = files::stored(&mut random, most_routers);
@@ -135,9 +142,18 @@ fn largest_file(comparison: &mut Comparison, random: &mut Random, amount: &Amoun
     Ok(())
 }
 
-/// Dead links at chosen places, in areas of some sizes and in the largest: half of its 992 links, among others.
+/// Sheets with about as many steps as a file can have, and more.
+fn long_sheets(comparison: &mut Comparison, random: &mut Random, amount: &Amount) -> Result<(), Difference> {
+    for steps in LONG_SHEETS {
+        let file = files::long_sheet(random, steps).bytes();
+        compare_file(comparison, random, &file, &amount.with_each_file())?;
+    }
+    Ok(())
+}
+
+/// Dead links at chosen places, in areas of some sizes and in the largest: half of its links, among others.
 fn dead_links(comparison: &mut Comparison, random: &mut Random, amount: &Amount) -> Result<(), Difference> {
-    for n in [2, 3, 5, 17, 32] {
+    for n in [2, 3, 5, 33, WIDTH] {
         for parts in files::dead_on_purpose(random, n) {
             compare_file(comparison, random, &parts.bytes(), &amount.with_each_file())?;
         }
@@ -180,10 +196,10 @@ pub fn compare_file(
         let text = comparison.file(random, file)?;
         if random.chance(15) {
             let room = random.below(text.len() + 4);
-            comparison.rehearsal(random, file, RIGHT_SIZES, room)?;
-            let most = random.pick(&[12, 200, ROOM]);
+            comparison.rehearsal(random, file, RIGHT_SIZES, Some(room))?;
+            let most = random.pick(&[12, 200, ROUTES_ROOM]);
             let room = random.below(most);
-            comparison.routes(random, file, RIGHT_SIZES, room)?;
+            comparison.routes(random, file, RIGHT_SIZES, Some(room))?;
         }
         run_programs(comparison, random, file, amount)
     };
@@ -203,6 +219,11 @@ fn run_programs(comparison: &mut Comparison, random: &mut Random, file: &[u8], a
     {
         comparison.counts.rewrites += 1;
         process::compare_rewriting(random, program, file, comparison.flaw)?;
+    }
+    if let Some(program) = &amount.sheet_steps
+        && number % amount.sheet_stride == 0
+    {
+        comparison.sheet_steps(random, program, file)?;
     }
     Ok(())
 }

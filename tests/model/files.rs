@@ -3,7 +3,8 @@
 use crate::areas::{self, Area};
 use crate::changes;
 use crate::flaw::Flaw;
-use crate::ofib::{CELLS, Record, Tables, WIDTH};
+use crate::lent::{RIGHT_SIZES, SixTables};
+use crate::ofib::{CELLS, Record, WIDTH};
 use crate::paths::{UNUSED, at, pairs};
 use crate::plan::{Change, MOST_CHANGES, plan};
 use crate::random::Random;
@@ -79,9 +80,10 @@ pub fn stored(random: &mut Random, most_routers: usize) -> Parts {
     parts
 }
 
-/// A file that lists such a part of the pairs that are not used.
+/// A file that lists such a part of the pairs that are not used, often of just as many routers as there may be.
 fn with_dead_links(random: &mut Random, most_routers: usize, percent: usize) -> Parts {
-    let n = random.between(1, most_routers);
+    let least = if random.chance(10) { most_routers } else { 1 };
+    let n = random.between(least, most_routers);
     let mut area = areas::area_of_size(random, n);
     let mut list = changes::list(random, &mut area);
     list.truncate(list.len().min(5 * MOST_CHANGES) / 5 * 5);
@@ -93,15 +95,34 @@ fn with_dead_links(random: &mut Random, most_routers: usize, percent: usize) -> 
 pub fn largest(random: &mut Random) -> Parts {
     let area = areas::full_mesh(random, WIDTH);
     let router = random.below(WIDTH);
-    let of_router = pairs(WIDTH).filter(|&(i, j)| i == router || j == router);
-    let down = of_router.map(|(i, j)| Change {
-        from: i as u8,
-        to: j as u8,
-        metric: UNUSED,
-    });
-    let list = changes::bytes_of(&down.collect::<Vec<Change>>());
+    let list = changes::bytes_of(&changes::router_down(&area, router));
     let steps = calls(random, &area, &list, MOST_STEPS);
     Parts::new(WIDTH, links_of(random, &area, 0), list, steps)
+}
+
+/// How many steps a sheet of `long_sheet` can have: the fewest, about as many as a file can have, and the most.
+pub const LONG_SHEETS: [usize; 5] = [
+    FEWEST,
+    MOST_STEPS - 1,
+    MOST_STEPS,
+    MOST_STEPS + 1,
+    FEWEST + (WIDTH - 1) * (WIDTH - 2),
+];
+/// Three of each router, the writes of router 0 and those to it, and a message from each other router to router 0.
+const FEWEST: usize = 3 * WIDTH + 2 * (WIDTH - 1) + (WIDTH - 1);
+
+/// All links of router 0, over which any two others reach each other at 2, go down. Two others write to each other,
+/// unless their own link is better, so by the number of better ones the sheet has as many steps as wanted.
+pub fn long_sheet(random: &mut Random, steps: usize) -> Parts {
+    let mut others: Vec<(usize, usize)> = pairs(WIDTH).filter(|&(i, j)| i > 0 && j > 0).collect();
+    random.shuffle(&mut others);
+    let mut metric = vec![1; CELLS];
+    for &(i, j) in &others[..steps - FEWEST] {
+        metric[at(i, j)] = random.pick(&[2, 3, 9]);
+    }
+    let area = Area { n: WIDTH, metric };
+    let list = changes::bytes_of(&changes::router_down(&area, 0));
+    Parts::new(WIDTH, links_of(random, &area, 0), list, Vec::new())
 }
 
 /// The area's links in any order; such a part of the pairs that are not used is listed as well.
@@ -125,21 +146,10 @@ fn steps_for(random: &mut Random, area: &Area, list: &[u8]) -> Vec<u8> {
 
 /// Calls chosen along the run of the area's plan; any bytes where there is no plan.
 fn calls(random: &mut Random, area: &Area, list: &[u8], count: usize) -> Vec<u8> {
-    let mut cells = vec![vec![0; CELLS]; 5];
-    let mut old = area.metric.clone();
+    let mut tables = SixTables::filled(random, RIGHT_SIZES);
+    tables.old.cells_mut().copy_from_slice(&area.metric);
     let mut record = Record::default();
-    let [new, old_dist, new_dist, old_hops, new_hops] = cells.as_mut_slice() else {
-        unreachable!("five tables")
-    };
-    let mut tables = Tables {
-        old: &mut old,
-        new,
-        old_dist,
-        new_dist,
-        old_hops,
-        new_hops,
-    };
-    if plan(area.n, list, &mut tables, &mut record, Flaw::None) != 0 {
+    if plan(area.n, list, &mut tables.lend(), &mut record, Flaw::None) != 0 {
         return random.bytes(3 * count);
     }
     let mut caller = Caller::new(random);
@@ -215,7 +225,9 @@ pub const LINK_FAULTS: [LinkFault; 6] = [
 /// Puts a fault into the link at the place. The first link repeats none.
 pub fn spoil_link(random: &mut Random, parts: &mut Parts, fault: LinkFault, place: usize) {
     let earlier = parts.links[random.below(place)];
-    let unknown = random.pick(&[parts.n, parts.n.wrapping_add(1), 32, 255]).max(parts.n);
+    let unknown = random
+        .pick(&[parts.n, parts.n.wrapping_add(1), 32, WIDTH as u8, 255])
+        .max(parts.n);
     let link = &mut parts.links[place];
     match fault {
         LinkFault::UnknownRouter if random.chance(50) => link.from = unknown,
@@ -256,7 +268,17 @@ pub fn faulty(random: &mut Random, most_routers: usize) -> Vec<u8> {
 pub fn spoil(random: &mut Random, parts: &mut Parts) {
     let n = usize::from(parts.n);
     match random.below(8) {
-        0 => parts.n = random.pick(&[0, 33, 64, 255, parts.n.wrapping_sub(1), parts.n.wrapping_add(1)]),
+        0 => {
+            let beyond = WIDTH as u8 + 1;
+            parts.n = random.pick(&[
+                0,
+                beyond,
+                2 * WIDTH as u8,
+                255,
+                parts.n.wrapping_sub(1),
+                parts.n.wrapping_add(1),
+            ]);
+        }
         1 => parts.link_count = near(random, parts.link_count, n * n.saturating_sub(1), u16::MAX.into()),
         2 => parts.change_count = near(random, parts.change_count, MOST_CHANGES, u8::MAX.into()),
         3 => parts.step_count = near(random, parts.step_count, MOST_STEPS, u16::MAX.into()),

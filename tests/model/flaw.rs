@@ -1,5 +1,8 @@
 //! Mistakes that can be put into the model on purpose, to show that the comparison sees them.
 
+use crate::ofib::{Set, WIDTH};
+use crate::plan::MOST_CHANGES;
+
 #[derive(Clone, Copy, Debug, PartialEq, Eq)]
 pub enum Flaw {
     None,
@@ -119,10 +122,65 @@ pub enum Flaw {
     OneByteMoreTaken,
     /// It does not list a link with the largest metric that is used.
     LargestNotListed,
+    /// Paths and Plan refuse more than 32 routers.
+    PathsUpTo32,
+    /// Paths and Plan refuse 64 routers.
+    PathsUpTo63,
+    /// Read refuses more than 32 routers.
+    ReadUpTo32,
+    /// Read refuses 64 routers.
+    ReadUpTo63,
+    /// Step refuses the record of more than 32 routers.
+    StepUpTo32,
+    /// Step refuses the record of 64 routers.
+    StepUpTo63,
+    /// Link-state data of more than 32 routers is refused.
+    IsisUpTo32,
+    /// Link-state data of 64 routers is refused.
+    IsisUpTo63,
+    /// Plan refuses more than 62 changes.
+    PlanUpTo62,
+    /// Read refuses more than 62 changes.
+    ReadUpTo62,
+    /// Next-hop sets are cut to 32 bits.
+    HopsOf32Bits,
+    /// Due sets are cut to 32 bits.
+    DueOf32Bits,
+    /// What is written is cut to 32 bits.
+    WrittenOf32Bits,
+    /// A message strikes the router whose number is the sender's modulo 32.
+    StruckModulo32,
+    /// The row of the last router that an area can have is left blank.
+    LastRowLeftOut,
+    /// A sheet is printed, however many steps it has.
+    AnySheetPrinted,
+}
+
+impl Flaw {
+    /// How many routers a part takes, which has two mistakes of this sort.
+    pub fn most_routers(self, up_to_32: Flaw, up_to_63: Flaw) -> usize {
+        if self == up_to_32 {
+            32
+        } else if self == up_to_63 {
+            63
+        } else {
+            WIDTH
+        }
+    }
+
+    /// How many changes a part takes, which has this mistake.
+    pub fn most_changes(self, up_to_62: Flaw) -> usize {
+        if self == up_to_62 { 62 } else { MOST_CHANGES }
+    }
+
+    /// The set, cut to 32 bits by this mistake.
+    pub fn cut_by(self, cut: Flaw, set: Set) -> Set {
+        if self == cut { set & Set::from(u32::MAX) } else { set }
+    }
 }
 
 /// Those that areas and files show.
-pub const FLAWS: [Flaw; 33] = [
+pub const FLAWS: [Flaw; 46] = [
     Flaw::ReadTwoForOne,
     Flaw::ReadKeepsLinks,
     Flaw::DeadAfterRepeated,
@@ -156,10 +214,23 @@ pub const FLAWS: [Flaw; 33] = [
     Flaw::SheetHighestFirst,
     Flaw::SheetByRank,
     Flaw::SheetKeptIfRefused,
+    Flaw::PathsUpTo32,
+    Flaw::PathsUpTo63,
+    Flaw::ReadUpTo32,
+    Flaw::ReadUpTo63,
+    Flaw::StepUpTo32,
+    Flaw::StepUpTo63,
+    Flaw::PlanUpTo62,
+    Flaw::ReadUpTo62,
+    Flaw::HopsOf32Bits,
+    Flaw::DueOf32Bits,
+    Flaw::WrittenOf32Bits,
+    Flaw::StruckModulo32,
+    Flaw::LastRowLeftOut,
 ];
 
 /// Those that link-state data shows.
-pub const ISIS_FLAWS: [Flaw; 22] = [
+pub const ISIS_FLAWS: [Flaw; 24] = [
     Flaw::CountBeforeSize,
     Flaw::RowsBeforeCount,
     Flaw::CutRowFirst,
@@ -182,6 +253,8 @@ pub const ISIS_FLAWS: [Flaw; 22] = [
     Flaw::LowestByIdentity,
     Flaw::IsisKeepsLinks,
     Flaw::TableAsItWas,
+    Flaw::IsisUpTo32,
+    Flaw::IsisUpTo63,
 ];
 
 /// Those that what is printed for link-state data shows.

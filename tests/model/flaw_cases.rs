@@ -1,6 +1,6 @@
 //! Each mistake that the model can be given must show: in the comparison, where it breaks the order of the writes also
 //! in the walks along the pointers, where the plan hangs on the order of the changes also beside another order, and
-//! where a stored file is rewritten or an area printed also beside the program that does it.
+//! where a stored file is rewritten, or an area or the steps of a sheet printed, also beside the program that does it.
 
 use std::path::Path;
 
@@ -10,7 +10,7 @@ use crate::changes::in_another_order;
 use crate::compare::{Comparison, Planned, same_plan};
 use crate::difference::Difference;
 use crate::file_cases::{self, file_case};
-use crate::files;
+use crate::files::{self, LONG_SHEETS};
 use crate::flaw::{FLAWS, Flaw, ISIS_FLAWS, PRINTED_FLAWS, REWRITING_FLAWS};
 use crate::isis_cases::{isis_case, printed_case, printed_on_purpose};
 use crate::lent::{RIGHT_SIZES, SixTables};
@@ -28,7 +28,7 @@ const MOST_CASES: u64 = 2000;
 const MOST_LISTS: u64 = 20_000;
 const MOST_SEARCHES: u64 = 2000;
 
-pub fn flaw_cases(seed: u64, rewrite: Option<&Path>, from_isis: Option<&Path>) -> Result<(), String> {
+pub fn flaw_cases(seed: u64, programs: &file_cases::Amount, from_isis: Option<&Path>) -> Result<(), String> {
     for flaw in FLAWS {
         let (cases, what) =
             first_difference(flaw, seed).ok_or(format!("flaw {flaw:?}: the comparison did not see it"))?;
@@ -49,8 +49,11 @@ pub fn flaw_cases(seed: u64, rewrite: Option<&Path>, from_isis: Option<&Path>) -
     let flaw = Flaw::RootFarEnd;
     let (plans, what) = first_other_plan(flaw, seed).ok_or(format!("flaw {flaw:?}: no other order showed it"))?;
     println!("flaw {flaw:?}: caught by another order at plan {plans} ({what})");
-    if let Some(program) = rewrite {
+    if let Some(program) = &programs.rewrite {
         rewriting_flaws(seed, program)?;
+    }
+    if let Some(program) = &programs.sheet_steps {
+        sheet_flaw(seed, program)?;
     }
     if let Some(program) = from_isis {
         printed_flaws(seed, program)?;
@@ -71,6 +74,8 @@ fn first_difference(flaw: Flaw, seed: u64) -> Option<(u64, String)> {
         program_stride: 1,
         rewrite: None,
         rewrite_stride: 1,
+        sheet_steps: None,
+        sheet_stride: 1,
     };
     for number in 0..MOST_CASES {
         let outcome = area_case(&mut comparison, seed, number);
@@ -109,6 +114,21 @@ fn rewriting_flaws(seed: u64, program: &Path) -> Result<(), String> {
         println!("flaw {flaw:?}: caught by the program at file {files} ({what})");
     }
     Ok(())
+}
+
+/// The steps that the program prints of long sheets show that they are counted.
+fn sheet_flaw(seed: u64, program: &Path) -> Result<(), String> {
+    let flaw = Flaw::AnySheetPrinted;
+    let mut random = Random::for_case(seed, PART, 3);
+    let mut comparison = Comparison::new(flaw);
+    for steps in LONG_SHEETS {
+        let file = files::long_sheet(&mut random, steps).bytes();
+        if let Err(what) = comparison.sheet_steps(&mut random, program, &file) {
+            println!("flaw {flaw:?}: caught by the program at a sheet of {steps} steps ({what})");
+            return Ok(());
+        }
+    }
+    Err(format!("flaw {flaw:?}: the program did not show it"))
 }
 
 /// What the program prints for link-state data shows the mistakes of the printing, at inputs that are made for it or at
@@ -171,7 +191,7 @@ fn first_other_plan(flaw: Flaw, seed: u64) -> Option<(u64, String)> {
 }
 
 fn model_plan(area: &Area, list: &[u8], mut tables: SixTables, flaw: Flaw) -> Planned {
-    tables.tables[0].cells_mut().copy_from_slice(&area.metric);
+    tables.old.cells_mut().copy_from_slice(&area.metric);
     let mut record = Record::default();
     let answer = plan(area.n, list, &mut tables.lend(), &mut record, flaw);
     Planned { answer, record, tables }

@@ -12,7 +12,7 @@ use crate::ofib::CELLS;
 use crate::paths::{UNUSED, at, pairs};
 
 /// Lists of more bytes are not taken.
-pub const MOST_BYTES: usize = 131_072;
+pub const MOST_BYTES: usize = 262_144;
 pub const TOO_LONG: &str = "too long\n";
 
 /// The program's input, where the table has a length of two bytes.

@@ -4,7 +4,7 @@
 use std::collections::HashMap;
 
 use crate::flaw::Flaw;
-use crate::ofib::{CELLS, WIDTH};
+use crate::ofib::CELLS;
 use crate::paths::{UNUSED, at};
 
 pub const ROW: usize = 8;
@@ -51,7 +51,7 @@ struct Found {
 pub fn isis(n: usize, identities: &[u8], lists: &[u8], table: &mut [u32], flaw: Flaw) -> u8 {
     if table.len() != CELLS {
         let counts_first = flaw == Flaw::CountBeforeSize;
-        return if counts_first && !is_count(n) { 3 } else { 8 };
+        return if counts_first && !is_count(n, flaw) { 3 } else { 8 };
     }
     let before = table.to_vec();
     table.fill(UNUSED);
@@ -70,12 +70,12 @@ pub fn fault_of(n: usize, identities: &[u8], lists: &[u8]) -> Option<Fault> {
     judge(n, identities, lists, Flaw::None).1
 }
 
-fn is_count(n: usize) -> bool {
-    (1..=WIDTH).contains(&n)
+fn is_count(n: usize, flaw: Flaw) -> bool {
+    (1..=flaw.most_routers(Flaw::IsisUpTo32, Flaw::IsisUpTo63)).contains(&n)
 }
 
 fn judge(n: usize, identities: &[u8], lists: &[u8], flaw: Flaw) -> (Vec<Link>, Option<Fault>) {
-    let count = (!is_count(n)).then_some(Fault {
+    let count = (!is_count(n, flaw)).then_some(Fault {
         number: 3,
         part: Part::Routers,
     });

@@ -155,7 +155,7 @@ fn full_data(random: &mut Random, n: usize) -> Data {
     }
 }
 
-/// Lists for 32 routers as for any other number of them, and for each number of routers the right number of lists.
+/// Lists for all routers as for any other number of them, and for each number of routers the right number of lists.
 fn every_n(comparison: &mut Comparison, random: &mut Random) -> Result<(), Difference> {
     for n in 1..=WIDTH {
         let input = link_state::faultless(random, n).input();
@@ -170,7 +170,7 @@ fn every_n(comparison: &mut Comparison, random: &mut Random) -> Result<(), Diffe
     let input = link_state::faultless(random, WIDTH).input();
     for n in (0..=WIDTH + 8).chain(WRONG_N) {
         let other = Input { n, ..input.clone() };
-        compare_input(comparison, random, "lists for 32 routers", &other, CELLS)?;
+        compare_input(comparison, random, "lists for all routers", &other, CELLS)?;
         let alone = Input {
             n,
             identities: Vec::new(),
@@ -188,7 +188,7 @@ fn wrong_sizes(comparison: &mut Comparison, random: &mut Random) -> Result<(), D
     let mut short_list = whole.clone();
     short_list.lists.pop();
     for size in WRONG_SIZES {
-        for n in [0, 3, 33] {
+        for n in [0, 3, WIDTH + 1] {
             for input in [&whole, &short_row, &short_list] {
                 let input = Input { n, ..input.clone() };
                 compare_input(comparison, random, "wrong size", &input, size)?;
@@ -281,7 +281,7 @@ fn faults_in_each_row(comparison: &mut Comparison, random: &mut Random) -> Resul
     let n = 5;
     let data = full_data(random, n);
     for place in 0..data.rows.len() {
-        for router in [n as u8 - 1, n as u8, 32, 128, 255] {
+        for router in [n as u8 - 1, n as u8, 32, WIDTH as u8, 128, 255] {
             let mut other = data.clone();
             other.rows[place].1 = router;
             let mut input = other.input();
@@ -300,23 +300,18 @@ fn faults_in_each_row(comparison: &mut Comparison, random: &mut Random) -> Resul
 
 /// Data cut after every byte of the table or of the lists, and with a byte more at every place.
 fn cut_everywhere(comparison: &mut Comparison, random: &mut Random) -> Result<(), Difference> {
-    let input = full_data(random, 6).input();
-    let Input { identities, lists, .. } = &input;
-    for length in 0..identities.len() {
-        let mut cut = input.clone();
-        cut.identities.truncate(length);
-        compare_input(comparison, random, "a table cut short", &cut, CELLS)?;
-        let mut longer = input.clone();
-        longer.identities.insert(length, random.byte());
-        compare_input(comparison, random, "a table with a byte more", &longer, CELLS)?;
-    }
-    for length in 0..lists.len() {
-        let mut cut = input.clone();
-        cut.lists.truncate(length);
-        compare_input(comparison, random, "lists cut short", &cut, CELLS)?;
-        let mut longer = input.clone();
-        longer.lists.insert(length, random.byte());
-        compare_input(comparison, random, "lists with a byte more", &longer, CELLS)?;
+    let mut input = full_data(random, 6).input();
+    let parts: [(&str, fn(&mut Input) -> &mut Vec<u8>); 2] =
+        [("a table", |input| &mut input.identities), ("lists", |input| &mut input.lists)];
+    for (name, part) in parts {
+        for length in 0..part(&mut input).len() {
+            let mut cut = input.clone();
+            part(&mut cut).truncate(length);
+            compare_input(comparison, random, &format!("{name} cut short"), &cut, CELLS)?;
+            let mut longer = input.clone();
+            part(&mut longer).insert(length, random.byte());
+            compare_input(comparison, random, &format!("{name} with a byte more"), &longer, CELLS)?;
+        }
     }
     Ok(())
 }
@@ -375,9 +370,9 @@ pub fn printed_on_purpose(comparison: &mut Comparison, random: &mut Random, prog
     Ok(())
 }
 
-/// As many rows and bytes of lists as are taken, in three lists, and then more bytes.
+/// As many rows and bytes of lists as are taken, in five lists, and then more bytes.
 fn longest_taken(random: &mut Random, more: usize) -> Input {
-    let data = link_state::with_lengths(random, &[65_535, 65_531, 0]);
+    let data = link_state::with_lengths(random, &[65_535, 65_535, 65_535, 65_529, 0]);
     let mut input = data.input();
     assert_eq!(input.lists.len(), MOST_BYTES, "bytes of the longest lists");
     let last = data.rows[2];

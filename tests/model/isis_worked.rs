@@ -61,7 +61,7 @@ const LISTS: [(&str, Result<&[Link], u8>); 27] = [
 ];
 
 /// A number of routers, a table of identities beside lists without an entry, and the answer.
-const TABLES: [(usize, &str, u8); 10] = [
+const TABLES: [(usize, &str, u8); 13] = [
     (2, "", 0),
     (2, "AAAAAAAAAAAAAA 02 01", 4),
     (2, "AAAAAAAAAAAAAA 00 01", 1),
@@ -71,7 +71,10 @@ const TABLES: [(usize, &str, u8); 10] = [
     (1, TABLE, 4),
     (0, "", 3),
     (0, TABLE, 3),
-    (33, "AAAAAAAAAAAAAA", 3),
+    (33, "AAAAAAAAAAAAAA 20 AA", 1),
+    (64, "AAAAAAAAAAAAAA 3F AA", 1),
+    (64, "AAAAAAAAAAAAAA 40", 4),
+    (65, "AAAAAAAAAAAAAA", 3),
 ];
 
 /// Data as it was sent, the identity table beside it, and the links that it stands for.
@@ -117,8 +120,8 @@ pub fn check_model() -> Result<(), String> {
         same(&format!("{name}, the table"), filled, table)?;
         let mut short = vec![7; CELLS - 1];
         let number = isis(*n, identities, lists, &mut short, Flaw::None);
-        same(&format!("{name}, 1,023 cells"), number, 8)?;
-        same(&format!("{name}, 1,023 cells, the table"), short, vec![7; CELLS - 1])?;
+        same(&format!("{name}, a cell less"), number, 8)?;
+        same(&format!("{name}, a cell less, the table"), short, vec![7; CELLS - 1])?;
     }
     Ok(())
 }

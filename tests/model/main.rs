@@ -75,7 +75,7 @@ fn compare_all(options: &Options) -> Result<String, String> {
     println!("model: seed {seed}");
     let worked = worked::check_model().and_then(|()| isis_worked::check_model());
     worked.map_err(|what| format!("the model contradicts the papers: {what}"))?;
-    flaw_cases::flaw_cases(seed, options.files.rewrite.as_deref(), options.isis.program.as_deref())?;
+    flaw_cases::flaw_cases(seed, &options.files, options.isis.program.as_deref())?;
     let mut comparison = Comparison::new(Flaw::None);
     compare_parts(&mut comparison, options).map_err(|difference| saved(options, &difference))?;
     comparison.counts.print();
@@ -95,7 +95,7 @@ fn compare_all(options: &Options) -> Result<String, String> {
 
 fn compare_parts(comparison: &mut Comparison, options: &Options) -> Result<(), Difference> {
     let seed = options.seed;
-    worked::compare_library(comparison)?;
+    worked::compare_library(comparison, &options.files)?;
     isis_worked::compare_library(comparison)?;
     timed("areas", || {
         (0..options.areas).try_for_each(|number| area_cases::area_case(comparison, seed, number))

@@ -34,11 +34,13 @@ impl Options {
             },
             files: file_cases::Amount {
                 cases: 150_000,
-                link_stride: 1,
+                link_stride: 3,
                 program: None,
                 program_stride: 97,
                 rewrite: None,
                 rewrite_stride: 19,
+                sheet_steps: None,
+                sheet_stride: 29,
             },
             small: reachable::Amount {
                 stride: 1,
@@ -52,7 +54,7 @@ impl Options {
         self.direct = 20_000;
         self.isis.cases = 40_000;
         self.files.cases = 15_000;
-        self.files.link_stride = 31;
+        self.files.link_stride = 127;
         self.small = reachable::Amount {
             stride: 5,
             records: 1_000_000,
@@ -70,6 +72,7 @@ pub fn parse(mut words: impl Iterator<Item = String>) -> Result<Options, String>
             "--seed" => options.seed = value()?.parse().map_err(|_| "--seed needs a number".to_string())?,
             "--program" => options.files.program = Some(PathBuf::from(value()?)),
             "--rewrite" => options.files.rewrite = Some(PathBuf::from(value()?)),
+            "--sheet-steps" => options.files.sheet_steps = Some(PathBuf::from(value()?)),
             "--from-isis" => options.isis.program = Some(PathBuf::from(value()?)),
             "--out" => options.out = PathBuf::from(value()?),
             "--replay" => options.replay = Some(PathBuf::from(value()?)),

@@ -1,7 +1,7 @@
 //! Paths: distances and next-hop sets of an area (01, "The area and its paths"; 02, No. 4, for the links).
 
 use crate::flaw::Flaw;
-use crate::ofib::{CELLS, WIDTH};
+use crate::ofib::{CELLS, Set, WIDTH};
 
 /// The metric of a link that is not used.
 pub const UNUSED: u32 = 16_777_215;
@@ -23,8 +23,8 @@ pub fn pairs(n: usize) -> impl Iterator<Item = (usize, usize)> {
 }
 
 /// The refusals that Paths and Plan have in common, in their order; 0 for none.
-pub fn refusal(n: usize, metric: &[u32], other_sizes: &[usize]) -> u8 {
-    if n == 0 || n > WIDTH {
+pub fn refusal(n: usize, metric: &[u32], other_sizes: &[usize], flaw: Flaw) -> u8 {
+    if n == 0 || n > flaw.most_routers(Flaw::PathsUpTo32, Flaw::PathsUpTo63) {
         return 3;
     }
     if metric.len() != CELLS || other_sizes.iter().any(|&size| size != CELLS) {
@@ -38,24 +38,25 @@ pub fn refusal(n: usize, metric: &[u32], other_sizes: &[usize]) -> u8 {
     }
 }
 
-pub fn paths(n: usize, metric: &[u32], dist: &mut [u32], hops: &mut [u32], flaw: Flaw) -> u8 {
-    let refused = refusal(n, metric, &[dist.len(), hops.len()]);
+pub fn paths(n: usize, metric: &[u32], dist: &mut [u32], hops: &mut [Set], flaw: Flaw) -> u8 {
+    let refused = refusal(n, metric, &[dist.len(), hops.len()], flaw);
     if refused == 0 {
         fill(n, metric, dist, hops, flaw);
     }
     refused
 }
 
-/// Writes all 1,024 cells of both tables; the input has no fault.
-pub fn fill(n: usize, metric: &[u32], dist: &mut [u32], hops: &mut [u32], flaw: Flaw) {
+/// Writes all cells of both tables; the input has no fault.
+pub fn fill(n: usize, metric: &[u32], dist: &mut [u32], hops: &mut [Set], flaw: Flaw) {
     let links = usable(n, metric, flaw);
     let least = least_sums(n, &links);
     dist.fill(UNREACHED);
     hops.fill(0);
-    for i in 0..n {
+    let is_filled = |i: usize| flaw != Flaw::LastRowLeftOut || i < WIDTH - 1;
+    for i in (0..n).filter(|&i| is_filled(i)) {
         dist[at(i, i)] = 0;
     }
-    for (i, j) in pairs(n).filter(|&(i, j)| least[at(i, j)] < FAR) {
+    for (i, j) in pairs(n).filter(|&(i, j)| is_filled(i) && least[at(i, j)] < FAR) {
         dist[at(i, j)] = least[at(i, j)] as u32;
         hops[at(i, j)] = next_hops(n, &links, &least, i, j, flaw);
     }
@@ -91,8 +92,8 @@ fn least_sums(n: usize, links: &[u64]) -> Vec<u64> {
 }
 
 /// The definition itself: each k whose link and remaining distance together make up the distance.
-fn next_hops(n: usize, links: &[u64], least: &[u64], i: usize, j: usize, flaw: Flaw) -> u32 {
-    let mut set: u32 = 0;
+fn next_hops(n: usize, links: &[u64], least: &[u64], i: usize, j: usize, flaw: Flaw) -> Set {
+    let mut set: Set = 0;
     for k in (0..n).filter(|&k| k != i) {
         if links[at(i, k)] + least[at(k, j)] == least[at(i, j)] {
             set |= 1 << k;
@@ -101,5 +102,5 @@ fn next_hops(n: usize, links: &[u64], least: &[u64], i: usize, j: usize, flaw: F
     if flaw == Flaw::OneNextHop && set != 0 {
         return 1 << set.trailing_zeros();
     }
-    set
+    flaw.cut_by(Flaw::HopsOf32Bits, set)
 }

@@ -2,10 +2,10 @@
 //! and No. 4 for rise, fall and refusal 11).
 
 use crate::flaw::Flaw;
-use crate::ofib::{CELLS, Record, Tables, WIDTH};
+use crate::ofib::{CELLS, Record, Set, Tables, WIDTH};
 use crate::paths::{self, UNUSED, at, pairs, usable};
 
-pub const MOST_CHANGES: usize = 62;
+pub const MOST_CHANGES: usize = 126;
 pub const RISE: u8 = 1;
 pub const FALL: u8 = 2;
 
@@ -31,7 +31,7 @@ impl Change {
         [self.from, self.to, high, middle, low]
     }
 
-    /// The cell of the link that is changed; both routers are below 32.
+    /// The cell of the link that is changed; both routers are below the width.
     pub fn cell(self) -> usize {
         at(self.from.into(), self.to.into())
     }
@@ -75,14 +75,14 @@ fn refusal(n: usize, list: &[u8], t: &Tables, flaw: Flaw) -> u8 {
         t.old_hops.len(),
         t.new_hops.len(),
     ];
-    let common = paths::refusal(n, t.old, &sizes);
+    let common = paths::refusal(n, t.old, &sizes, flaw);
     if common != 0 {
         return common;
     }
     if list.len() % 5 != 0 {
         return 1;
     }
-    if list.len() / 5 > MOST_CHANGES {
+    if list.len() / 5 > flaw.most_changes(Flaw::PlanUpTo62) {
         return 9;
     }
     if list.is_empty() {
@@ -125,7 +125,7 @@ fn together(n: usize, old: &[u32], changes: &[Change], flaw: Flaw) -> u8 {
     match flaw {
         Flaw::CommonRouterFirst if has_no_common => return 13,
         Flaw::MixedFirst if !moved.rise && !moved.fall => return 12,
-        Flaw::EqualEntry if changes.iter().any(|&change| !has_effect(n, old, changes, change, flaw)) => return 11,
+        Flaw::EqualEntry if with_effect(n, old, changes, flaw).len() < changes.len() => return 11,
         _ => {}
     }
     if !moved.rise && !moved.fall {
@@ -167,10 +167,11 @@ pub fn raw_moves(n: usize, old: &[u32], changes: &[Change]) -> Moves {
     Moves::between(n, old, &new_metrics(n, old, changes))
 }
 
-/// Whether the change's pair has another usable metric after all the changes.
-pub fn has_effect(n: usize, old: &[u32], changes: &[Change], change: Change, flaw: Flaw) -> bool {
-    let new = new_metrics(n, old, changes);
-    usable(n, old, flaw)[change.cell()] != usable(n, &new, flaw)[change.cell()]
+/// The changes whose pairs have another usable metric after all of them.
+pub fn with_effect(n: usize, old: &[u32], changes: &[Change], flaw: Flaw) -> Vec<Change> {
+    let (before, after) = (usable(n, old, flaw), usable(n, &new_metrics(n, old, changes), flaw));
+    let has_effect = |change: &&Change| before[change.cell()] != after[change.cell()];
+    changes.iter().filter(has_effect).copied().collect()
 }
 
 /// Rise or fall by the pairs whose usable metrics differ; none where both occur, or neither.
@@ -188,11 +189,10 @@ fn direction(n: usize, old: &[u32], changes: &[Change], flaw: Flaw) -> Option<u8
 
 /// The changes among which the common router is sought: all of them.
 fn deciding(n: usize, old: &[u32], changes: &[Change], flaw: Flaw) -> Vec<Change> {
-    let mut all = changes.to_vec();
-    if flaw == Flaw::RootByEffect {
-        all.retain(|&change| has_effect(n, old, changes, change, flaw));
+    match flaw {
+        Flaw::RootByEffect => with_effect(n, old, changes, flaw),
+        _ => changes.to_vec(),
     }
-    all
 }
 
 /// The router that is an end of every change; of two the one with the lower number (02, No. 2).
@@ -245,7 +245,8 @@ fn fresh_record(n: usize, changes: &[Change], t: &Tables, flaw: Flaw) -> Record 
     };
     for r in 0..n {
         record.waiting[r] = waiting_set(n, r, root.into(), direction, t, flaw);
-        record.due[r] = set_of(n, |d| t.old_hops[at(r, d)] != t.new_hops[at(r, d)]);
+        let due = set_of(n, |d| t.old_hops[at(r, d)] != t.new_hops[at(r, d)]);
+        record.due[r] = flaw.cut_by(Flaw::DueOf32Bits, due);
     }
     let mut known = [None; WIDTH];
     for r in 0..n {
@@ -257,7 +258,7 @@ fn fresh_record(n: usize, changes: &[Change], t: &Tables, flaw: Flaw) -> Record 
 
 /// In a rise, r waits for the routers that used r towards the root in the old topology; in a fall, for the routers that
 /// r will use towards the root in the new one.
-fn waiting_set(n: usize, r: usize, root: usize, direction: u8, t: &Tables, flaw: Flaw) -> u32 {
+fn waiting_set(n: usize, r: usize, root: usize, direction: u8, t: &Tables, flaw: Flaw) -> Set {
     if direction == RISE || flaw == Flaw::FallAsRise {
         set_of(n, |other| has(t.old_hops[at(other, root)], r))
     } else {
@@ -267,7 +268,7 @@ fn waiting_set(n: usize, r: usize, root: usize, direction: u8, t: &Tables, flaw:
 
 /// The links of the longest chain from r in which each router waits for the next. There is no cycle: along a chain the
 /// distance to the root rises (in a rise) or falls (in a fall) with every link, since no metric is 0.
-fn rank(r: usize, waiting: &[u32; WIDTH], known: &mut [Option<u8>; WIDTH], flaw: Flaw) -> u8 {
+fn rank(r: usize, waiting: &[Set; WIDTH], known: &mut [Option<u8>; WIDTH], flaw: Flaw) -> u8 {
     if let Some(rank) = known[r] {
         return rank;
     }
@@ -287,15 +288,15 @@ fn rank(r: usize, waiting: &[u32; WIDTH], known: &mut [Option<u8>; WIDTH], flaw:
     rank
 }
 
-pub fn has(set: u32, router: usize) -> bool {
+pub fn has(set: Set, router: usize) -> bool {
     set >> router & 1 == 1
 }
 
-pub fn members(set: u32) -> impl Iterator<Item = usize> {
+pub fn members(set: Set) -> impl Iterator<Item = usize> {
     (0..WIDTH).filter(move |&router| has(set, router))
 }
 
-fn set_of(n: usize, belongs: impl Fn(usize) -> bool) -> u32 {
+fn set_of(n: usize, belongs: impl Fn(usize) -> bool) -> Set {
     (0..n)
         .filter(|&router| belongs(router))
         .fold(0, |set, router| set | 1 << router)

@@ -1,5 +1,5 @@
-//! The rehearsal program, the one that rewrites stored files and the one that prints areas from IS-IS, run as processes
-//! with a file as their standard input.
+//! The rehearsal program, the one that prints the steps of a sheet, the one that rewrites stored files and the one that
+//! prints areas from IS-IS, run as processes with a file as their standard input.
 
 use std::io::{self, ErrorKind, Write};
 use std::path::Path;
@@ -11,11 +11,12 @@ use crate::flaw::Flaw;
 use crate::from_isis;
 use crate::lent::{RIGHT_SIZES, SixTables};
 use crate::random::Random;
+use crate::read::LARGEST;
 use crate::rewriting::rewritten;
-use crate::text::rehearsal;
+use crate::text::{rehearsal, sheet_steps};
 
-/// How much of its input the program reads.
-const READ: usize = 17_565;
+/// How much of a bench file a program reads.
+const READ: usize = LARGEST + 1;
 
 /// The program's output beside the model's text of what the program reads.
 pub fn compare(random: &mut Random, program: &Path, file: &[u8]) -> Result<(), String> {
@@ -24,6 +25,16 @@ pub fn compare(random: &mut Random, program: &Path, file: &[u8]) -> Result<(), S
     let mut tables = SixTables::filled(random, RIGHT_SIZES);
     let text = rehearsal(&file[..file.len().min(READ)], &mut tables.lend(), Flaw::None);
     texts("output of the program", &output, text.as_bytes())
+}
+
+/// The same of the program that prints the steps of the sheet, whose text is given back.
+pub fn compare_sheet_steps(random: &mut Random, program: &Path, file: &[u8], flaw: Flaw) -> Result<String, String> {
+    let in_pieces = random.chance(20);
+    let output = output(program, file, in_pieces).map_err(|error| format!("{}: {error}", program.display()))?;
+    let mut tables = SixTables::filled(random, RIGHT_SIZES);
+    let text = sheet_steps(&file[..file.len().min(READ)], &mut tables.lend(), flaw);
+    texts("output of the program that prints steps", &output, text.as_bytes())?;
+    Ok(text)
 }
 
 /// What the program writes for a stored file beside what the model does. The whole file counts, though no more of it

@@ -1,5 +1,7 @@
 //! Numbers that look random and are fixed by a seed (splitmix64).
 
+use crate::ofib::{Set, WIDTH};
+
 pub struct Random {
     state: u64,
 }
@@ -59,14 +61,14 @@ impl Random {
         }
     }
 
-    /// A router set in which each of the 32 bits is present with a chance that is itself chosen first.
-    pub fn set(&mut self) -> u32 {
+    /// A router set in which each bit is present with a chance that is itself chosen first.
+    pub fn set(&mut self) -> Set {
         match self.below(6) {
             0 | 1 => 0,
-            2 => 1 << self.below(32),
-            3 => self.word() & self.word() & self.word(),
-            4 => self.word(),
-            _ => self.word() | self.word(),
+            2 => 1 << self.below(WIDTH),
+            3 => self.next() & self.next() & self.next(),
+            4 => self.next(),
+            _ => self.next() | self.next(),
         }
     }
 }

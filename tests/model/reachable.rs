@@ -9,7 +9,7 @@ use crate::changes::{self, bytes_of};
 use crate::compare::Comparison;
 use crate::difference::{Difference, describe_area};
 use crate::lent::SixTables;
-use crate::ofib::{CELLS, Record};
+use crate::ofib::{CELLS, Record, Set};
 use crate::paths::{UNREACHED, UNUSED, at, pairs};
 use crate::plan::{Change, has, members};
 use crate::random::Random;
@@ -173,11 +173,15 @@ pub fn search(
     while let Some(record) = open.pop() {
         found.records += 1;
         found.walks += judge_pointers(tables, &record)?;
+        let mut next = record.clone();
         for call in all_calls(record.n, found.records as u8) {
-            let mut next = record.clone();
             step(&mut next, call).map_err(|what| format!("from {record:?}: {what}"))?;
-            if seen.insert(key(&next)) {
-                open.push(next);
+            if key(&next) == key(&record) {
+                continue;
+            }
+            let reached = std::mem::replace(&mut next, record.clone());
+            if seen.insert(key(&reached)) {
+                open.push(reached);
             }
         }
     }
@@ -196,7 +200,7 @@ fn all_calls(n: u8, any: u8) -> impl Iterator<Item = [u8; 3]> {
 fn key(record: &Record) -> u64 {
     let routers = 0..usize::from(record.n).min(4);
     routers.fold(0, |key, r| {
-        key << 10 | u64::from(record.states[r]) << 8 | u64::from(record.waiting[r]) << 4 | u64::from(record.written[r])
+        key << 10 | u64::from(record.states[r]) << 8 | record.waiting[r] << 4 | record.written[r]
     })
 }
 
@@ -243,9 +247,8 @@ fn judge_pointers(tables: &SixTables, record: &Record) -> Result<u64, String> {
 }
 
 fn reaches(tables: &SixTables, start: usize, destination: usize) -> bool {
-    let [_, _, old_dist, new_dist, _, _] = &tables.tables;
     let cell = at(start, destination);
-    old_dist.cells()[cell] != UNREACHED && new_dist.cells()[cell] != UNREACHED
+    tables.old_dist.cells()[cell] != UNREACHED && tables.new_dist.cells()[cell] != UNREACHED
 }
 
 /// The pointers of all routers for one destination.
@@ -258,10 +261,13 @@ struct Pointers<'a> {
 
 impl Pointers<'_> {
     /// The new next hops where the router has written the destination, else the old ones.
-    fn of(&self, router: usize) -> u32 {
-        let [_, _, _, _, old_hops, new_hops] = &self.tables.tables;
+    fn of(&self, router: usize) -> Set {
         let written = has(self.record.written[router], self.destination);
-        let hops = if written { new_hops } else { old_hops };
+        let hops = if written {
+            &self.tables.new_hops
+        } else {
+            &self.tables.old_hops
+        };
         hops.cells()[at(router, self.destination)]
     }
 

@@ -1,13 +1,13 @@
 //! Read: the bench file (01, "The bench file"), and the old reader of stored files (02, No. 5).
 
 use crate::flaw::Flaw;
-use crate::ofib::{CELLS, Contents, WIDTH};
+use crate::ofib::{CELLS, Contents};
 use crate::paths::{UNUSED, at};
-use crate::plan::{Change, MOST_CHANGES};
+use crate::plan::Change;
 
 pub const MOST_STEPS: usize = 4096;
 /// The size of the largest file.
-pub const LARGEST: usize = 17_564;
+pub const LARGEST: usize = 33_084;
 
 /// Whose file it is: that of the old reader, which takes dead links, or that of Read.
 #[derive(Clone, Copy, Debug, PartialEq, Eq)]
@@ -84,11 +84,12 @@ pub fn read(file: &[u8], table: &mut [u32], flaw: Flaw) -> (u8, Contents) {
     }
 }
 
-/// What the file says of itself, or its first fault in file order. The links go into the table, which has 1,024 cells.
+/// What the file says of itself, or its first fault in file order. The links go into the table, which has the
+/// right size.
 pub fn judge(file: &[u8], table: &mut [u32], format: Format, flaw: Flaw) -> Result<Contents, Fault> {
     let mut reader = Reader { file, at: 0 };
     let n = usize::from(reader.take(1, Section::Routers)?[0]);
-    if n == 0 || n > WIDTH {
+    if n == 0 || n > flaw.most_routers(Flaw::ReadUpTo32, Flaw::ReadUpTo63) {
         return Err(Fault {
             number: 3,
             section: Section::Routers,
@@ -99,7 +100,8 @@ pub fn judge(file: &[u8], table: &mut [u32], format: Format, flaw: Flaw) -> Resu
     for _ in 0..links {
         entered.enter(Change::from_bytes(reader.take(5, Section::Links)?))?;
     }
-    let changes = reader.count(1, MOST_CHANGES, Section::ChangeCount)?;
+    let most_changes = flaw.most_changes(Flaw::ReadUpTo62);
+    let changes = reader.count(1, most_changes, Section::ChangeCount)?;
     let changes_at = reader.at;
     reader.take(5 * changes, Section::Changes)?;
     let steps = reader.count(2, MOST_STEPS, Section::StepCount)?;

@@ -1,7 +1,7 @@
 //! Step: the machine of learn, release, write, finish and deliver (01, "The steps").
 
 use crate::flaw::Flaw;
-use crate::ofib::{Answer, Record, WIDTH};
+use crate::ofib::{Answer, Record};
 use crate::plan::has;
 
 pub const LEARN: u8 = 1;
@@ -25,7 +25,7 @@ pub fn step(record: &mut Record, [kind, a, b]: [u8; 3], flaw: Flaw) -> Answer {
         LEARN => record.states[a] = HOLDING,
         RELEASE => record.states[a] = ONGOING,
         WRITE if flaw == Flaw::WriteMovesNothing => {}
-        WRITE => record.written[a] |= 1 << b,
+        WRITE => record.written[a] |= flaw.cut_by(Flaw::WrittenOf32Bits, 1 << b),
         FINISH => record.states[a] = DONE,
         _ => return deliver(record, a, b, flaw),
     }
@@ -49,13 +49,15 @@ fn deliver(record: &mut Record, a: usize, b: usize, flaw: Flaw) -> Answer {
     if !listens || !has(record.waiting[b], a) {
         return Answer::Ignored;
     }
-    record.waiting[b] &= !(1 << a);
+    let struck = if flaw == Flaw::StruckModulo32 { a % 32 } else { a };
+    record.waiting[b] &= !(1 << struck);
     Answer::Ok
 }
 
 /// The number of the first refusal in the order of 01, or 0.
 fn refusal(record: &Record, kind: u8, a: u8, b: u8, flaw: Flaw) -> u8 {
-    if record.n == 0 || usize::from(record.n) > WIDTH || record.states.iter().any(|&state| state > DONE) {
+    let most = flaw.most_routers(Flaw::StepUpTo32, Flaw::StepUpTo63);
+    if record.n == 0 || usize::from(record.n) > most || record.states.iter().any(|&state| state > DONE) {
         return 20;
     }
     if !(LEARN..=DELIVER).contains(&kind) {

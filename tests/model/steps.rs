@@ -1,6 +1,6 @@
 //! Lists of steps: orderly runs, random calls, repeated and late messages, and any bytes.
 
-use crate::ofib::{Record, WIDTH};
+use crate::ofib::{Record, Set, WIDTH};
 use crate::plan::{has, members};
 use crate::random::Random;
 use crate::step::{DELIVER, DONE, FINISH, HOLDING, IDLE, LEARN, ONGOING, RELEASE, WRITE};
@@ -10,7 +10,7 @@ pub struct Caller {
     orderly_percent: usize,
     any_bytes_percent: usize,
     /// Routers that learn of the change only when no other router can go on, so that messages find them idle.
-    late_learners: u32,
+    late_learners: Set,
     last: [u8; 3],
 }
 
@@ -82,6 +82,10 @@ pub fn edge(random: &mut Random, record: &Record) -> [u8; 3] {
         record.n.wrapping_add(1),
         31,
         32,
+        WIDTH as u8 - 2,
+        WIDTH as u8 - 1,
+        WIDTH as u8,
+        WIDTH as u8 + 1,
         255,
     ];
     let [kind, a, b] = within(random, record);
@@ -123,7 +127,7 @@ fn hasty(random: &mut Random, record: &Record) -> [u8; 3] {
 }
 
 /// A call that brings some router forward; none when all are done.
-fn useful(random: &mut Random, record: &Record, late_learners: u32) -> Option<[u8; 3]> {
+fn useful(random: &mut Random, record: &Record, late_learners: Set) -> Option<[u8; 3]> {
     let n = usize::from(record.n);
     let first = random.below(n);
     let routers = (0..n).map(|k| (first + k) % n);
@@ -139,7 +143,7 @@ fn useful(random: &mut Random, record: &Record, late_learners: u32) -> Option<[u
 fn useful_for(random: &mut Random, record: &Record, r: usize) -> Option<[u8; 3]> {
     let a = r as u8;
     let told = members(record.waiting[r]).filter(|&other| record.states[other] == DONE);
-    let senders = told.fold(0, |set, other| set | 1 << other);
+    let senders = told.fold(0, |set: Set, other| set | 1 << other);
     match record.states[r] {
         IDLE => Some([LEARN, a, random.byte()]),
         HOLDING if senders != 0 && random.chance(50) => Some([DELIVER, member(random, senders)?, a]),
@@ -154,7 +158,7 @@ fn useful_for(random: &mut Random, record: &Record, r: usize) -> Option<[u8; 3]>
 }
 
 /// A random member of the set.
-fn member(random: &mut Random, set: u32) -> Option<u8> {
+fn member(random: &mut Random, set: Set) -> Option<u8> {
     let start = random.below(WIDTH);
     (0..WIDTH)
         .map(|k| (start + k) % WIDTH)
@@ -169,7 +173,7 @@ pub fn any_record(random: &mut Random) -> Record {
         ..Record::default()
     };
     if random.chance(5) {
-        record.n = random.pick(&[0, 33, 34, 64, 128, 255]);
+        record.n = random.pick(&[0, WIDTH as u8 + 1, WIDTH as u8 + 2, 128, 255]);
     }
     record.root = random.byte();
     record.direction = random.byte();

@@ -1,13 +1,17 @@
-//! The text of the rehearsal (01, "The rehearsal") and of the routes.
+//! The text of the rehearsal (01, "The rehearsal"), of the routes, and of the steps of the running sheet.
 
 use std::fmt::Write;
 
 use crate::flaw::Flaw;
-use crate::ofib::{Answer, Contents, Record, Tables};
+use crate::ofib::{Answer, Contents, Record, Set, Tables, WIDTH};
 use crate::paths::{UNREACHED, at, pairs};
 use crate::plan::plan;
-use crate::read::read;
+use crate::read::{MOST_STEPS, read};
+use crate::sheet;
 use crate::step::step;
+
+/// What the text of a sheet with too many steps begins with; their number follows.
+pub const TOO_MANY_STEPS: &str = "too many steps: ";
 
 pub fn rehearsal(file: &[u8], t: &mut Tables, flaw: Flaw) -> String {
     match prepare(file, t, flaw) {
@@ -42,6 +46,25 @@ pub fn routes(file: &[u8], t: &mut Tables, flaw: Flaw) -> String {
             let new = route(t.new_dist[cell], t.new_hops[cell]);
             line(&mut text, format_args!("route {i} {j} old {old} new {new}"));
         }
+    }
+    text
+}
+
+/// The steps of following the running sheet, in hexadecimal: their count in two bytes, and a line for each; or how many
+/// they are, where a file cannot have as many.
+pub fn sheet_steps(file: &[u8], t: &mut Tables, flaw: Flaw) -> String {
+    let record = match prepare(file, t, flaw) {
+        Err(number) => return format!("refused {number}\n"),
+        Ok((_, record)) => record,
+    };
+    let sheet = sheet::sheet(&record, [0; WIDTH], flaw);
+    let steps = sheet::following(&record, &sheet[..usize::from(record.n)]);
+    if steps.len() > MOST_STEPS && flaw != Flaw::AnySheetPrinted {
+        return format!("{TOO_MANY_STEPS}{}\n", steps.len());
+    }
+    let mut text = format!("{:04X}\n", steps.len());
+    for [kind, a, b] in steps {
+        line(&mut text, format_args!("{kind:02X} {a:02X} {b:02X}"));
     }
     text
 }
@@ -87,7 +110,7 @@ fn step_lines(file: &[u8], contents: &Contents, mut record: Record, flaw: Flaw) 
     text
 }
 
-fn route(dist: u32, hops: u32) -> String {
+fn route(dist: u32, hops: Set) -> String {
     if dist == UNREACHED {
         "none".to_string()
     } else {

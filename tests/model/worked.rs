@@ -6,10 +6,11 @@ use crate::areas::Area;
 use crate::changes::bytes_of;
 use crate::compare::{Comparison, same};
 use crate::difference::Difference;
+use crate::file_cases::{Amount, compare_file};
 use crate::files::{Parts, bytes};
 use crate::flaw::Flaw;
 use crate::lent::{RIGHT_SIZES, SixTables};
-use crate::ofib::{Answer, CELLS, Record};
+use crate::ofib::{Answer, CELLS, Record, Set, WIDTH};
 use crate::paths::{UNUSED, at, paths};
 use crate::plan::{Change, FALL, RISE, plan};
 use crate::random::Random;
@@ -46,6 +47,8 @@ const FIRST_CHANGES: [Link; 2] = [(1, 2, UNUSED), (2, 1, UNUSED)];
 const SIXTH_LINKS: [Link; 2] = [(0, 1, UNUSED - 1), (1, 0, 1)];
 const NINTH_LINKS: [Link; 4] = [(0, 1, 1), (1, 0, 1), (2, 3, 1), (3, 2, 1)];
 const NINTH_CHANGES: [Link; 2] = [(0, 1, 2), (2, 3, 2)];
+/// The link of 62 and 63 in a ring goes down.
+const RING_CHANGES: [Link; 2] = [(62, 63, UNUSED), (63, 62, UNUSED)];
 const LAST_LINKS: [Link; 4] = [(0, 1, 1), (1, 0, 1), (1, 2, UNUSED - 1), (2, 1, 1)];
 
 /// The examples on the model alone.
@@ -59,6 +62,8 @@ pub fn check_model() -> Result<(), String> {
     )?;
     orders()?;
     path_examples()?;
+    large_paths()?;
+    large_plan()?;
     refusals()?;
     half_links()?;
     printed_steps()?;
@@ -66,21 +71,24 @@ pub fn check_model() -> Result<(), String> {
     sheets()
 }
 
-/// The examples on the library beside the model.
-pub fn compare_library(comparison: &mut Comparison) -> Result<(), Difference> {
+/// The examples on the library and its programs beside the model.
+pub fn compare_library(comparison: &mut Comparison, amount: &Amount) -> Result<(), Difference> {
+    let mut random = Random::for_case(0, 0, 4);
     for file in files() {
-        compare_example(comparison, &file).map_err(|what| Difference::in_file(what, &file))?;
+        compare_rooms(comparison, &file).map_err(|what| Difference::in_file(what, &file))?;
+    }
+    for file in files().into_iter().chain(large_files()) {
+        compare_file(comparison, &mut random, &file, &amount.with_each_file())?;
     }
     Ok(())
 }
 
-/// All calls on the file, and its texts with every room from none to more than they need.
-fn compare_example(comparison: &mut Comparison, file: &[u8]) -> Result<(), String> {
+/// The texts of a small file with every room from none to more than they need.
+fn compare_rooms(comparison: &mut Comparison, file: &[u8]) -> Result<(), String> {
     let mut random = Random::for_case(0, 0, 1);
-    comparison.file(&mut random, file)?;
     for room in 0..=OUTPUT.len() + 3 {
-        comparison.rehearsal(&mut random, file, RIGHT_SIZES, room)?;
-        comparison.routes(&mut random, file, RIGHT_SIZES, room)?;
+        comparison.rehearsal(&mut random, file, RIGHT_SIZES, Some(room))?;
+        comparison.routes(&mut random, file, RIGHT_SIZES, Some(room))?;
     }
     Ok(())
 }
@@ -92,7 +100,7 @@ fn input() -> Vec<u8> {
 fn planned(n: usize, links: &[Link], changes: &[Link]) -> (u8, Record, SixTables) {
     let mut random = Random::for_case(0, 0, 2);
     let mut tables = SixTables::filled(&mut random, RIGHT_SIZES);
-    tables.tables[0].cells_mut().copy_from_slice(&area(n, links).metric);
+    tables.old.cells_mut().copy_from_slice(&area(n, links).metric);
     let mut record = Record::default();
     let answer = plan(
         n,
@@ -137,8 +145,8 @@ fn orders() -> Result<(), String> {
 fn path_examples() -> Result<(), String> {
     let links = [(0, 1, 1), (1, 0, 1), (1, 2, 1), (2, 1, 1), (0, 2, 2), (2, 0, 2)];
     let (_, _, tables) = planned(3, &links, &FIRST_CHANGES);
-    let [_, _, _, _, old_hops, new_hops] = &tables.tables;
-    same("C3", (old_hops.cells()[at(0, 2)], new_hops.cells()[at(0, 2)]), (6, 4))?;
+    let sets = (tables.old_hops.cells()[at(0, 2)], tables.new_hops.cells()[at(0, 2)]);
+    same("C3", sets, (6, 4))?;
     same("C5", path(2, &[(0, 1, UNUSED)], 0, 1), (u32::MAX, 0))?;
     same("C6", path(2, &SIXTH_LINKS, 0, 1), (16_777_214, 2))?;
     same(
@@ -151,22 +159,79 @@ fn path_examples() -> Result<(), String> {
         path(2, &SIXTH_LINKS[1..], 1, 0),
         (u32::MAX, 0),
     )?;
-    same("C13", path(3, &LAST_LINKS, 0, 2), (16_777_215, 2))?;
+    same("C13", path(3, &LAST_LINKS, 0, 2), (16_777_215, 2))
+}
+
+/// Paths of 64 routers, with the highest bits in the sets.
+fn large_paths() -> Result<(), String> {
+    let (chain, ring, cube) = (longest_chain(), ring(), hypercube());
+    same("largest distance", path(64, &chain, 0, 63), (1_056_964_482, 2))?;
     same(
-        "the largest distance",
-        path(32, &longest_chain(), 0, 31),
-        (520_093_634, 2),
-    )
+        "largest distance, back",
+        path(64, &chain, 63, 0),
+        (1_056_964_482, 1 << 62),
+    )?;
+    same(
+        "ring, to the router opposite",
+        path(64, &ring, 0, 32),
+        (32, 2 | 1 << 63),
+    )?;
+    same("ring, the last router", path(64, &ring, 62, 63), (1, 1 << 63))?;
+    let neighbours = 1 << 1 | 1 << 2 | 1 << 4 | 1 << 8 | 1 << 16 | 1 << 32;
+    same(
+        "hypercube, to the router opposite",
+        path(64, &cube, 0, 63),
+        (6, neighbours),
+    )?;
+    let back = 1 << 62 | 1 << 61 | 1 << 59 | 1 << 55 | 1 << 47 | 1 << 31;
+    same("hypercube, back", path(64, &cube, 63, 0), (6, back))
 }
 
-/// All 32 routers one behind the other, with the largest metric that is used.
+/// The plan of a ring of 64 routers, in which a link of the last router goes down.
+fn large_plan() -> Result<(), String> {
+    let (answer, record, _) = planned(64, &ring(), &RING_CHANGES);
+    same(
+        "ring, answer, root and direction",
+        (answer, record.root, record.direction),
+        (0, 62, RISE),
+    )?;
+    same("ring, ranks", (record.ranks[62], record.ranks[63]), (32, 31))?;
+    same(
+        "ring, waits",
+        (record.waiting[62], record.waiting[63]),
+        (1 << 61 | 1 << 63, 1),
+    )?;
+    same(
+        "ring, tells",
+        (record.telling[61], record.telling[63]),
+        (1 << 62, 1 << 62),
+    )?;
+    // Due are the destinations that each reached over the link: 63 and 0 to 30, and 31 to 62.
+    let due = (1 << 63 | (1 << 31) - 1, (1 << 63) - (1 << 31));
+    same("ring, due", (record.due[62], record.due[63]), due)
+}
+
+/// All 64 routers one behind the other, with the largest metric that is used.
 fn longest_chain() -> Vec<Link> {
-    (0..31)
-        .flat_map(|i| [(i, i + 1, UNUSED - 1), (i + 1, i, UNUSED - 1)])
-        .collect()
+    (0..63).flat_map(|i| both_ways(i, i + 1, UNUSED - 1)).collect()
 }
 
-fn path(n: usize, links: &[Link], i: usize, j: usize) -> (u32, u32) {
+fn ring() -> Vec<Link> {
+    (0..64).flat_map(|i| both_ways(i, (i + 1) % 64, 1)).collect()
+}
+
+/// Routers whose numbers differ in one bit are neighbours.
+fn hypercube() -> Vec<Link> {
+    let is_link = |&(i, j): &(u8, u8)| i < j && (i ^ j).is_power_of_two();
+    let pairs = (0..64).flat_map(|i| (0..64).map(move |j| (i, j)));
+    pairs.filter(is_link).flat_map(|(i, j)| both_ways(i, j, 1)).collect()
+}
+
+fn both_ways(i: u8, j: u8, metric: u32) -> [Link; 2] {
+    [(i, j, metric), (j, i, metric)]
+}
+
+fn path(n: usize, links: &[Link], i: usize, j: usize) -> (u32, Set) {
     let (mut dist, mut hops) = (vec![0; CELLS], vec![0; CELLS]);
     paths(n, &area(n, links).metric, &mut dist, &mut hops, Flaw::None);
     (dist[at(i, j)], hops[at(i, j)])
@@ -207,9 +272,8 @@ fn half_links() -> Result<(), String> {
     )?;
     let (number, _, direction, tables) = of(2, &link, &[(0, 1, UNUSED)]);
     same("one end goes down", (number, direction), (0, RISE))?;
-    let [_, new, old_dist, new_dist, ..] = &tables.tables;
-    same("one end down, the table", new.cells()[at(1, 0)], 5)?;
-    let reverse = (old_dist.cells()[at(1, 0)], new_dist.cells()[at(1, 0)]);
+    same("one end down, the table", tables.new.cells()[at(1, 0)], 5)?;
+    let reverse = (tables.old_dist.cells()[at(1, 0)], tables.new_dist.cells()[at(1, 0)]);
     same("one end down, the reverse", reverse, (5, u32::MAX))?;
     let root = answer(3, &FIRST_LINKS, &[(1, 2, 5), (2, 0, 3)]);
     same("root by an entry without effect", root, (0, 2, RISE))?;
@@ -283,7 +347,7 @@ fn dead_links() -> Result<(), String> {
 
 /// Running sheets: C1, C2, C4, an area whose order by rank is another one, and C9, which is refused.
 fn sheets() -> Result<(), String> {
-    let of = |n, links: &[Link], changes: &[Link]| sheet(&planned(n, links, changes).1, [9; 32], Flaw::None);
+    let of = |n, links: &[Link], changes: &[Link]| sheet(&planned(n, links, changes).1, [9; WIDTH], Flaw::None);
     let places = |routers: &[u8]| std::array::from_fn(|place| routers.get(place).copied().unwrap_or(0));
     same("C1, sheet", of(3, &FIRST_LINKS, &FIRST_CHANGES), places(&[0, 2, 1]))?;
     let links = [(0, 1, 1), (1, 0, 1), (0, 2, 3), (2, 0, 3)];
@@ -296,13 +360,34 @@ fn sheets() -> Result<(), String> {
         of(4, &links, &[(2, 3, 2), (1, 3, 2)]),
         places(&[0, 1, 2, 3]),
     )?;
-    same("C9, sheet", of(4, &NINTH_LINKS, &NINTH_CHANGES), [0; 32])
+    same("C9, sheet", of(4, &NINTH_LINKS, &NINTH_CHANGES), [0; WIDTH])
+}
+
+/// Routers, links and changes.
+type Example<'a> = (usize, &'a [Link], &'a [Link]);
+
+fn file_of((n, links, changes): Example) -> Vec<u8> {
+    Parts::new(n, entries(links), bytes_of(&entries(changes)), Vec::new()).bytes()
+}
+
+/// Areas of 64 routers: a link goes down, or one comes up between routers that are far from each other.
+fn large_files() -> Vec<Vec<u8>> {
+    let (chain, ring, cube) = (longest_chain(), ring(), hypercube());
+    let across = both_ways(0, 63, 1);
+    let examples: [Example; 6] = [
+        (64, &chain, &[(62, 63, UNUSED)]),
+        (64, &chain, &across),
+        (64, &ring, &RING_CHANGES),
+        (64, &ring, &both_ways(31, 63, 1)),
+        (64, &cube, &across),
+        (64, &cube, &both_ways(62, 63, 3)),
+    ];
+    examples.into_iter().map(file_of).collect()
 }
 
 /// The examples as bench files.
 fn files() -> Vec<Vec<u8>> {
-    let chain = longest_chain();
-    let examples: [(usize, &[Link], &[Link]); 13] = [
+    let examples: [Example; 12] = [
         (
             3,
             &[(0, 1, 1), (1, 0, 1), (0, 2, 3), (2, 0, 3)],
@@ -319,12 +404,8 @@ fn files() -> Vec<Vec<u8>> {
         (4, &[NINTH_LINKS[0], NINTH_LINKS[2]], &NINTH_CHANGES),
         (3, &FIRST_LINKS, &[]),
         (3, &LAST_LINKS, &[(0, 1, 2)]),
-        (32, &chain, &[(30, 31, UNUSED)]),
     ];
-    let file = |(n, links, changes): (usize, &[Link], &[Link])| {
-        Parts::new(n, entries(links), bytes_of(&entries(changes)), Vec::new()).bytes()
-    };
-    let mut files: Vec<Vec<u8>> = examples.into_iter().map(file).collect();
+    let mut files: Vec<Vec<u8>> = examples.into_iter().map(file_of).collect();
     files.extend(DEAD_LINKS.map(|(file, ..)| bytes(file)));
     files.push(input());
     files

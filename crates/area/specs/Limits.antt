@@ -3,7 +3,7 @@ use Prim.Native.Nat.{ℕ, _*_, _-_}
 
 -- An area has at most so many routers. A set has as many bits, and a table as many rows of as many cells.
 abbrev pub width : ℕ
-width = 32
+width = 64
 
 -- The metric of a link that is not used. A used link has a smaller one, from 1 on.
 abbrev pub unused : ℕ

@@ -21,7 +21,7 @@ incomplete = 1
 abbrev pub trailing : ℕ
 trailing = 2
 
--- n is not 1 to 32
+-- n is not 1 to 64
 abbrev pub routerCount : ℕ
 routerCount = 3
 
@@ -41,7 +41,7 @@ badMetric = 6
 abbrev pub repeated : ℕ
 repeated = 7
 
--- a table has not 1,024 cells
+-- a table has not 4,096 cells
 abbrev pub tableSize : ℕ
 tableSize = 8
 
@@ -67,7 +67,7 @@ abbrev pub noCommonRouter : ℕ
 noCommonRouter = 13
 
 -- ---- of Step: the record and the call
--- the record's n is not 1 to 32, or one of its states is above 3
+-- the record's n is not 1 to 64, or one of its states is above 3
 abbrev pub badRecord : ℕ
 badRecord = 20
 

@@ -1,7 +1,10 @@
 // The limits of an area. The contracts have them from specs/Limits.antt, and are not met where the two differ.
 
 // Routers of an area, and so members of a set, rows of a table and cells of a row.
-pub const WIDTH: usize = 32;
+pub const WIDTH: usize = 64;
+
+// A set of routers: bit k stands for router k, so it has WIDTH bits.
+pub type Set = u64;
 
 // Cells of a table.
 pub const CELLS: usize = WIDTH * WIDTH;

@@ -94,7 +94,7 @@ allLines n m =
     (linkLines (linksOf n m) ++
     lastLines))
 
--- There is no text where the sizes are not those of an area: n is not 1 to 32, or the table has another size.
+-- There is no text where the sizes are not those of an area: n is not 1 to `width`, or the table has another size.
 unfoldable pub isSized : (n : ℕ) (m : List ℕ) → Bool
 isSized n m = isRouterCount n && isTable m
 

@@ -18,7 +18,7 @@ use Rattle.area.specs.Sizes.{isRouterCount, isTable}
 use Rattle.area.specs.SizeLaws.{router-count-most, table-true}
 use Rattle.entries.specs.declared.Entry.{Entry}
 use Rattle.text.specs.Text.{word, field, line}
-use Rattle.text.specs.TextLaws.{field-after, line-is, field-most, line-most}
+use Rattle.text.specs.TextLaws.{field-after, line-is, field-below, line-below}
 use Rattle.hex.specs.Hex.{most, unhexed}
 use Rattle.hex.specs.HexLaws.{length-hexed}
 use Rattle.hex.specs.PairLaws.{Says, says-none, says-then, bytes-say, says-whole}
@@ -109,47 +109,51 @@ last-say =
     zeros zero = omega arith
     zeros (suc k) = omega arith
 
--- ---- how long the lines are
--- so many bytes have room for the text of any area
+-- ---- how long the lines are: a router has two digits at most, a metric of a used link eight, and a count four
+-- so many bytes have room for the text of any area: a line for each cell, and the other four lines
 abbrev pub room : ℕ
-room = 57344
+room = 37 * (width * width) + 100
 
-link-length : (x : Entry) → length (linkLine x) ≤ 55
+link-length : (x : Entry) → InBytes x → length (linkLine x) ≤ 37
 unfolding linkLine
-link-length x =
+link-length x h =
     let digits = length-hexed (linkBytes x) in
-    let from = field-most (word "    # ") (x .from) in
-    let to = field-most (word " to ") (x .to) in
-    let metric = line-most (word " at ") (x .metric) in
+    let from = field-below 2 (x .from) (omega arith) (omega arith) (word "    # ") in
+    let to = field-below 2 (x .to) (omega arith) (omega arith) (word " to ") in
+    let metric = line-below 8 (x .metric) (omega arith) (omega arith) (word " at ") in
     simp length-append (omega arith)
 
-links-length : (l : List Entry) → length (linkLines l) ≤ 55 * length l
+links-length : (l : List Entry) → All InBytes l → length (linkLines l) ≤ 37 * length l
 unfolding linkLines
-links-length [] = omega arith
-links-length (x ∷ l) = simp length-append (omega (arith, link-length x, links-length l))
+links-length [] h = omega arith
+links-length (x ∷ l) h = simp length-append (omega (arith, link-length x (h .0), links-length l (h .1)))
 
-routers-length : (n : ℕ) → length (routersLine n) ≤ 35
+routers-length : (n : ℕ) → n ≤ width → length (routersLine n) ≤ 27
 unfolding routersLine
-routers-length n =
-    simp length-append (omega (arith, length-hexed (n ∷ []), line-most (word "            # routers ") n))
+routers-length n h =
+    let line = line-below 2 n (omega arith) (omega arith) (word "            # routers ") in
+    simp length-append (omega (arith, length-hexed (n ∷ [])))
 
-count-length : (count : ℕ) → length (countLine count) ≤ 33
+count-length : (count : ℕ) → count ≤ width * width → length (countLine count) ≤ 27
 unfolding countLine
-count-length count =
-    simp length-append
-    (omega (arith, length-hexed (countBytes count), line-most (word "          # links ") count))
+count-length count h =
+    let line = line-below 4 count (omega arith) (omega arith) (word "          # links ") in
+    simp length-append (omega (arith, length-hexed (countBytes count)))
 
 last-length : length lastLines ≤ 46
 unfolding lastLines
 last-length = simp length-append (omega (arith, length-hexed (0 ∷ []), length-hexed (countBytes 0)))
 
+fits : (n : ℕ) (m : List ℕ) → n ≤ width → All InBytes (linksOf n m)
+fits n m h = all-listed n m InBytes (width * n) (λ d b x. (omega arith, omega arith, x .used))
+
 lines-length : (n : ℕ) (m : List ℕ) → n ≤ width → length (allLines n m) ≤ room
 unfolding allLines
 lines-length n m h =
     let few = listed-most n m (width * n) in
-    let links = links-length (linksOf n m) in
-    let head = routers-length n in
-    let count = count-length (length (linksOf n m)) in
+    let links = links-length (linksOf n m) (fits n m h) in
+    let head = routers-length n h in
+    let count = count-length (length (linksOf n m)) (omega arith) in
     simp length-append (omega (arith, last-length))
 
 -- ---- the text
@@ -177,9 +181,6 @@ module _ (n : ℕ) (m : List ℕ) where
       (λ f. rw (text-none f) (omega arith))
       (look (isSized n m))
 
-  fits : n ≤ width → All InBytes (linksOf n m)
-  fits h = all-listed n m InBytes (width * n) (λ d b x. (omega arith, omega arith, x .used))
-
   pub text-read : isSized n m ≡ true → unhexed (areaText n m) ≡ fileOf n m
   unfolding allLines fileOf
   text-read t =
@@ -188,5 +189,5 @@ module _ (n : ℕ) (m : List ℕ) where
       let many = listed-most n m (width * n) in
       let says = says-then (routers-say n (omega arith))
       (says-then (count-says (length (linksOf n m)) (omega arith))
-      (says-then (links-say (linksOf n m) (fits few)) last-say)) in
+      (says-then (links-say (linksOf n m) (fits n m few)) last-say)) in
       says-whole (subst (λ (w : List ℕ). Says w (fileOf n m)) (sym (text-lines t)) says) short

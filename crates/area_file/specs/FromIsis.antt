@@ -11,6 +11,7 @@ use Rattle.area.specs.Tests.{pick}
 use Rattle.isis.specs.Lists.{listCount}
 use Rattle.isis.specs.Isis.{isisRefusal, isisMetrics}
 use Rattle.text.specs.Text.{word, refusedLine}
+use Rattle.hex.specs.Hex.{most}
 use Rattle.area_file.specs.AreaFile.{areaText}
 
 -- ---- the parts of the stream
@@ -21,9 +22,9 @@ abbrev pub listsOf : (s : List ℕ) → List ℕ
 listsOf s = drop (2 + two s 0) s
 
 -- ---- of a table of identities t and lists d
--- Longer lists are not read.
+-- Longer lists are not read: as many bytes as a text in hexadecimal may have.
 abbrev pub mostBytes : ℕ
-mostBytes = 131072
+mostBytes = most
 
 abbrev pub isLong : (d : List ℕ) → Bool
 isLong d = ltb mostBytes (length d)

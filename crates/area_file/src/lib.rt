@@ -26,8 +26,8 @@ ghost use Rattle.area_file.specs.AreaFile.{link, isListed, linkOf, links
 ghost use Rattle.area_file.specs.AreaFile.{routersLine, countLine, linkLine, linkLines, lastLines};
 ghost use Rattle.area_file.specs.AreaFile.{isSized, areaText};
 
-// As many bytes as have room for the text of any area.
-pub const ROOM: usize = 57344;
+// As many bytes as have room for the text of any area: a line for each cell, and the other four lines.
+pub const ROOM: usize = 37 * CELLS + 100;
 
 // Appends the text of an area of n routers with these metrics; nothing where there is no such area.
 pub fn append_area(n: usize, metrics: &[u32], out: &mut [u8], at: usize) -> usize
@@ -92,7 +92,7 @@ fn routers_line(n: usize, out: &mut [u8], at: usize) -> usize
 {
     let bytes = [n as u8];
     let at = hex_bytes(&bytes, out, at);
-    line(out, at, b"            # routers ", n as u32)
+    line(out, at, b"            # routers ", n as u64)
 }
 
 // The number of links.
@@ -102,7 +102,7 @@ fn count_line(count: usize, out: &mut [u8], at: usize) -> usize
 {
     let bytes = [(count / 256) as u8, (count % 256) as u8];
     let at = hex_bytes(&bytes, out, at);
-    line(out, at, b"          # links ", count as u32)
+    line(out, at, b"          # links ", count as u64)
 }
 
 // A line for each link.
@@ -136,9 +136,9 @@ fn link_line(from: usize, to: usize, metric: u32, out: &mut [u8], at: usize) -> 
     ensures { λ r. ⌜ Appended (now (out .entry)) at (linkLine (link from to metric)) (now (out .exit)) r ⌝ }
 {
     let at = link_digits(from, to, metric, out, at);
-    let at = field(out, at, b"    # ", from as u32);
-    let at = field(out, at, b" to ", to as u32);
-    line(out, at, b" at ", metric)
+    let at = field(out, at, b"    # ", from as u64);
+    let at = field(out, at, b" to ", to as u64);
+    line(out, at, b" at ", metric as u64)
 }
 
 // The digits of its five bytes.

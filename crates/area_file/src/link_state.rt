@@ -2,6 +2,7 @@
 // then the lists. What is appended is specs/FromIsis.antt.
 use crate::append_area;
 use area::bytes::two;
+use hex::MOST;
 use text::append;
 use text::refused_line;
 ghost use mathlib.Core.Path.{_≡_};
@@ -10,8 +11,8 @@ ghost use lib.ListN.{length};
 ghost use Rattle.text.specs.Text.{Appended};
 ghost use Rattle.area_file.specs.FromIsis.{tableOf, textOf, isisText, isisTable};
 
-// Lists of more bytes are not read.
-pub const MOST_BYTES: usize = 131072;
+// Lists of more bytes are not read: as many as a text in hexadecimal may have.
+pub const MOST_BYTES: usize = MOST;
 
 // Puts the text of the area at the start of `out`, or the line that says why there is none, as far as there is room,
 // and gives its length. The metric table is lent to be filled, as isis::read fills it.

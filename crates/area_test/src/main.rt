@@ -3,6 +3,7 @@
 //     two_sets      subsets and joined sets
 //     listed        the entries of a list
 //     refusals      the number of each refusal
+use area::limits::Set;
 use area::refusal::Refusal;
 use area::refusal::Verdict;
 use cases::print;
@@ -29,21 +30,27 @@ fn one_router() {
     router(6, 0);
     router(6, 2);
     router(0, 31);
-    router(2147483648, 31);
-    router(4294967295, 31);
-    router(4294967295, 5);
+    router(4294967296, 32);
     router(4294967295, 32);
-    router(0, 32);
+    router(0, 62);
+    router(0, 63);
+    router(9223372036854775808, 63);
+    router(18446744073709551615, 63);
+    router(18446744073709551615, 62);
+    router(18446744073709551615, 5);
+    router(18446744073709551615, 64);
+    router(0, 64);
     router(1, 64);
+    router(1, 128);
     router(6, 18446744073709551615);
 }
 
-fn router(s: u32, k: usize) {
-    print::form(b"set # router # member ", &[s as u64, k as u64]);
+fn router(s: Set, k: usize) {
+    print::form(b"set # router # member ", &[s, k as u64]);
     truth(sets::member(s, k));
     print::form(
         b" with # without # empty ",
-        &[sets::add(s, k) as u64, sets::remove(s, k) as u64],
+        &[sets::add(s, k), sets::remove(s, k)],
     );
     truth(sets::is_empty(s));
     print::byte(b'\n');
@@ -56,19 +63,21 @@ fn two_sets() {
     pair(5, 7);
     pair(7, 5);
     pair(6, 3);
-    pair(2147483648, 4294967295);
-    pair(4294967295, 2147483648);
+    pair(4294967296, 1);
+    pair(1, 4294967297);
+    pair(9223372036854775808, 18446744073709551615);
+    pair(18446744073709551615, 9223372036854775808);
 }
 
-fn pair(s: u32, t: u32) {
-    print::form(b"sets # # subset ", &[s as u64, t as u64]);
+fn pair(s: Set, t: Set) {
+    print::form(b"sets # # subset ", &[s, t]);
     truth(sets::is_subset(s, t));
-    print::form(b" joined #\n", &[sets::join(s, t) as u64]);
+    print::form(b" joined #\n", &[sets::join(s, t)]);
 }
 
 // Three entries, and two bytes of a fourth.
 fn listed() {
-    let list = [0, 1, 0, 0, 1, 31, 255, 255, 255, 255, 2, 3, 1, 2, 3, 9, 9];
+    let list = [0, 1, 0, 0, 1, 63, 255, 255, 255, 255, 2, 3, 1, 2, 3, 9, 9];
     count(&list);
     entry(&list, 0);
     entry(&list, 1);

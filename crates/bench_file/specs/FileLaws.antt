@@ -1,6 +1,8 @@
 -- Laws of Read and of the old reader, for their callers and their readers.
---     links-most, accepted-largest, second-byte        a file that is accepted in either format: its links and its
---                                                      bytes are so many at most, and its second byte is at most 3
+--     links-most, accepted-largest, second-byte, links-among
+--                                                      a file that is accepted in either format: how many links and
+--                                                      bytes it has at most, its second byte, and how many links
+--                                                      between few routers
 --     table-sized, file-passed, file-accepted          what is known where Read refuses nothing
 --     link-cell, other-cell, cell-link                 then the table holds the listed links, and nothing else
 --     file-size, file-largest                          the length of the file, by its counts, and at most
@@ -14,8 +16,8 @@
 -- Why the first bytes decide: a file longer than `largest` is refused, and so is what is cut from it. Both have the
 -- same bytes up to `largest`; a count that is not refused leaves the next count below that place, so both go down the
 -- same ladder, and meet the same fault (same-first for the links, same-rest for what follows, same-refusal for all).
-use Prim.Native.Nat.{ℕ, _+_, _-_, _*_, _≤_, _<_}
-use mathlib.Core.Path.{_≡_, refl, sym, ap, ap₂, _∙_}
+use Prim.Native.Nat.{ℕ, _+_, _-_, _*_, _/_, _≤_, _<_}
+use mathlib.Core.Path.{_≡_, refl, sym, ap, ap₂, _∙_, subst}
 use mathlib.Core.Bool.{true, false}
 use mathlib.Core.Logic.{_≢_, _⊎_, inl, inr, ⊎-elim}
 use mathlib.Core.List.{List}
@@ -32,8 +34,9 @@ use Rattle.area.specs.SizeLaws.{router-count-most}
 use Rattle.area.specs.Tables.{cell}
 use Rattle.area.specs.TableLaws.{cell-tabulate}
 use Rattle.entries.specs.Entries.{entryCount, entryOf, from, to, metric, isForPair, listedMetric}
-use Rattle.entries.specs.EntryLaws.{entry-count-is, entry-count-least, entry-same}
+use Rattle.entries.specs.EntryLaws.{entry-count-is, entry-count-least, entry-bytes, entry-same}
 use Rattle.entries.specs.EntryLaws.{given-none, given-cases, given-at}
+use Rattle.entries.specs.DifferentLaws.{different-most}
 use Rattle.bench_file.specs.Sections.{routers, linkCount, links, changeCountAt, changeCount, changesAt}
 use Rattle.bench_file.specs.Sections.{changes, stepCountAt, stepCount, stepsAt, steps, largest}
 use Rattle.bench_file.specs.declared.Format.{Format}
@@ -62,9 +65,35 @@ accepted-largest format f good =
     let few-links = links-most f (good .routers-in) (good .most-links) in
     omega (arith, good .size, good .most-changes, good .most-steps, few-links)
 
--- the high byte of the link count, which is at most 992
-pub second-byte : (format : Format) (f : List ℕ) → Accepted format f → getD f 1 0 ≤ 3
+-- the high byte of the link count
+pub second-byte : (format : Format) (f : List ℕ) → Accepted format f → getD f 1 0 ≤ width * (width - 1) / 256
 second-byte format f good = omega (arith, links-most f (good .routers-in) (good .most-links))
+
+-- where every byte that may number a router is among k numbers, these have k * k pairs, and no pair is listed twice
+pub links-among :
+    (format : Format) (f : List ℕ)
+    → Accepted format f
+    → (Among : ℕ → Type 0)
+    → ((p : ℕ) → p < length f → getD f p 0 < width → Among (getD f p 0))
+    → (k : ℕ) (place : ℕ → ℕ)
+    → ((r : ℕ) → Among r → place r < k)
+    → ((r s : ℕ) → Among r → Among s → place r ≡ place s → r ≡ s)
+    → linkCount f ≤ k * k
+links-among format f good Among byte k place inside apart =
+    different-most (links f) (linkCount f) (λ e h. good .each-link e h .new) Among ends k place inside apart
+  where
+    few : routers f ≤ width
+    few = router-count-most (routers f) (good .routers-in)
+
+    ends : (e : ℕ) → e < linkCount f → Among (from (links f) e) × Among (to (links f) e)
+    ends e h =
+        let link = good .each-link e h in
+        let bytes = entry-bytes (links f) e (link .whole) in
+        let i = bytes .0 ∙ getD-drop 3 f (5 * e) 0 in
+        let j = bytes .1 ∙ getD-drop 3 f (5 * e + 1) 0 in (
+          subst Among (sym i) (byte _ (omega (arith, good .size)) (omega (arith, few, i, link .entry .from-in))),
+          subst Among (sym j) (byte _ (omega (arith, good .size)) (omega (arith, few, j, link .entry .to-in))),
+        )
 
 -- ---- a file that Read does not refuse
 module _ (f t : List ℕ) (z : readRefusal f t ≡ 0) where

@@ -1,12 +1,13 @@
--- The largest bench file (01, "The bench file") has 17,564 bytes. No file that Read accepts has more: `file-largest` of
--- FileLaws.antt. Here is one that has as many: 32 routers, a link of each ordered pair at the metric 1, 62 changes and
--- 4,096 steps. What the changes and the steps hold is left to Plan and Step, and is 0 here.
+-- The largest bench file (01, "The bench file") has `largest` bytes. No file that Read accepts has more: `file-largest`
+-- of FileLaws.antt. Here is one that has as many: `width` routers, a link of each ordered pair at the metric 1, and as
+-- many changes and steps as may be. What the changes and the steps hold is left to Plan and Step, and is 0 here.
+--     largest-is           how many these are
 --     largestFile          the file
---     largest-bytes, largest-size                      it is a list of bytes, 17,564 of them
+--     largest-bytes, largest-size                      it is a list of bytes, `largest` of them
 --     has-routers, has-links, has-changes, has-steps   its counts
 --     largest-read         Read accepts it
--- Router i has the links from 31 * i on, to all others in their order. So the two ends of a link say which one it is,
--- and no pair is listed twice.
+-- Router i has the links from others * i on, to all others in their order. So the two ends of a link say which one it
+-- is, and no pair is listed twice.
 use Prim.Native.Nat.{ℕ, _+_, _-_, _*_, _/_, _%_, _≤_, _<_}
 use mathlib.Core.Path.{_≡_, refl, sym, ap, ap₂, _∙_}
 use mathlib.Core.Bool.{Bool, true, false}
@@ -19,7 +20,7 @@ use lib.ListN.{length, getD, length-drop, List·getD-eq-default}
 use lib.Seq.{getD-drop}
 use borrow.Author.Tests.{lt-ltb, le-ltb, ne-eqb, ltb-true}
 use Rattle.area.specs.Bytes.{two}
-use Rattle.area.specs.Limits.{width, unused}
+use Rattle.area.specs.Limits.{width, unused, mostChanges, mostSteps}
 use Rattle.area.specs.Tests.{pick}
 use Rattle.area.specs.TestLaws.{look}
 use Rattle.area.specs.SizeLaws.{router-count-true}
@@ -34,31 +35,52 @@ use Rattle.bench_file.specs.FaultLaws.{most-links-is, live-passes, Link,
 use Rattle.bench_file.specs.Read.{readRefusal}
 use Rattle.bench_file.specs.ReadLaws.{read-file}
 
+-- ---- the sizes
+-- each router has a link to so many
+abbrev others : ℕ
+others = width - 1
+
+-- so many links in all
+abbrev pairs : ℕ
+pairs = width * others
+
+-- the places of the count of changes and of the count of steps
+abbrev changesCounted : ℕ
+changesCounted = 3 + 5 * pairs
+
+abbrev stepsCounted : ℕ
+stepsCounted = changesCounted + 1 + 5 * mostChanges
+
 -- ---- the file
--- the router that link e goes to; it comes from router e / 31
+-- the router that link e goes to; it comes from router e / others
 unfoldable pub toOf : (e : ℕ) → ℕ
-toOf e = pick (ltb (e % 31) (e / 31)) (e % 31) (e % 31 + 1)
+toOf e = pick (ltb (e % others) (e / others)) (e % others) (e % others + 1)
 
 -- its five bytes
 unfoldable pub linkByte : (e part : ℕ) → ℕ
-linkByte e part = pick (eqb part 0) (e / 31) (pick (eqb part 1) (toOf e) (pick (eqb part 4) 1 0))
+linkByte e part = pick (eqb part 0) (e / others) (pick (eqb part 1) (toOf e) (pick (eqb part 4) 1 0))
 
--- The byte at place k: n, the count of links in two bytes, the links, the count of changes, that of steps. All others
--- are 0: the changes, the low byte of the count of steps, and the steps.
+-- The byte at place k: n, the count of links in two bytes, the links, the count of changes, that of steps in two bytes.
+-- All others are 0: the changes and the steps.
 unfoldable pub byteAt : (k : ℕ) → ℕ
 byteAt k =
-    pick (eqb k 0) 32
-    (pick (eqb k 1) 3
-    (pick (eqb k 2) 224
-    (pick (ltb k 4963) (linkByte ((k - 3) / 5) ((k - 3) % 5))
-    (pick (eqb k 4963) 62
-    (pick (eqb k 5274) 16
-    0)))))
+    pick (eqb k 0) width
+    (pick (eqb k 1) (pairs / 256)
+    (pick (eqb k 2) (pairs % 256)
+    (pick (ltb k changesCounted) (linkByte ((k - 3) / 5) ((k - 3) % 5))
+    (pick (eqb k changesCounted) mostChanges
+    (pick (eqb k stepsCounted) (mostSteps / 256)
+    (pick (eqb k (stepsCounted + 1)) (mostSteps % 256)
+    0))))))
 
 unfoldable pub largestFile : List ℕ
 largestFile = build largest byteAt
 
-pub largest-size : length largestFile ≡ 17564
+-- 02, No. 7
+pub largest-is : largest ≡ 33084
+largest-is = refl
+
+pub largest-size : length largestFile ≡ largest
 unfolding largestFile
 largest-size = length-build largest byteAt
 
@@ -68,23 +90,25 @@ at = build-at largest byteAt
 
 -- ---- where a link goes
 abbrev ToCases : (e : ℕ) → Type 0
-ToCases e = ((e % 31 < e / 31) × (toOf e ≡ e % 31)) ⊎ ((e / 31 ≤ e % 31) × (toOf e ≡ e % 31 + 1))
+ToCases e =
+    ((e % others < e / others) × (toOf e ≡ e % others))
+    ⊎ ((e / others ≤ e % others) × (toOf e ≡ e % others + 1))
 
 to-cases : (e : ℕ) → ToCases e
 unfolding toOf
-to-cases e = elim (decLt (e % 31) (e / 31)) [
-  | yes h ↦ inl (h, rw (lt-ltb (e % 31) (e / 31) h) refl)
-  | no f ↦ inr (omega arith, rw (le-ltb (e % 31) (e / 31) (omega arith)) refl)
+to-cases e = elim (decLt (e % others) (e / others)) [
+  | yes h ↦ inl (h, rw (lt-ltb (e % others) (e / others) h) refl)
+  | no f ↦ inr (omega arith, rw (le-ltb (e % others) (e / others) (omega arith)) refl)
 ]
 
-to-below : (e : ℕ) → e < 992 → toOf e < 32
+to-below : (e : ℕ) → e < pairs → toOf e < width
 to-below e h = ⊎-elim (λ c. omega (arith, c .0, c .1)) (λ c. omega (arith, c .1)) (to-cases e)
 
-to-other : (e : ℕ) → e / 31 ≢ toOf e
+to-other : (e : ℕ) → e / others ≢ toOf e
 to-other e q = ⊎-elim (λ c. omega (arith, c .0, c .1)) (λ c. omega (arith, c .0, c .1)) (to-cases e)
 
 -- the two ends say which link it is
-same-link : (d e : ℕ) → d / 31 ≡ e / 31 → toOf d ≡ toOf e → d ≡ e
+same-link : (d e : ℕ) → d / others ≡ e / others → toOf d ≡ toOf e → d ≡ e
 same-link d e a b = by-cases (to-cases d) (to-cases e)
   where
     by-cases : ToCases d → ToCases e → d ≡ e
@@ -98,23 +122,24 @@ pick-below : (t : Bool) (a b : ℕ) → (t ≡ true → a < 256) → b < 256 →
 pick-below true a b f g = f refl
 pick-below false a b f g = g
 
-link-byte-below : (e part : ℕ) → e < 992 → linkByte e part < 256
+link-byte-below : (e part : ℕ) → e < pairs → linkByte e part < 256
 unfolding linkByte
 link-byte-below e part h =
-    pick-below (eqb part 0) (e / 31) _ (λ t. omega arith)
+    pick-below (eqb part 0) (e / others) _ (λ t. omega arith)
     (pick-below (eqb part 1) (toOf e) _ (λ t. omega (arith, to-below e h))
     (pick-below (eqb part 4) 1 0 (λ t. omega arith) (omega arith)))
 
 byte-below : (k : ℕ) → byteAt k < 256
 unfolding byteAt
 byte-below k =
-    pick-below (eqb k 0) 32 _ (λ t. omega arith)
-    (pick-below (eqb k 1) 3 _ (λ t. omega arith)
-    (pick-below (eqb k 2) 224 _ (λ t. omega arith)
-    (pick-below (ltb k 4963) (linkByte ((k - 3) / 5) ((k - 3) % 5)) _
-    (λ t. let h = ltb-true k 4963 t in link-byte-below ((k - 3) / 5) ((k - 3) % 5) (omega arith))
-    (pick-below (eqb k 4963) 62 _ (λ t. omega arith)
-    (pick-below (eqb k 5274) 16 0 (λ t. omega arith) (omega arith))))))
+    pick-below (eqb k 0) width _ (λ t. omega arith)
+    (pick-below (eqb k 1) (pairs / 256) _ (λ t. omega arith)
+    (pick-below (eqb k 2) (pairs % 256) _ (λ t. omega arith)
+    (pick-below (ltb k changesCounted) (linkByte ((k - 3) / 5) ((k - 3) % 5)) _
+    (λ t. let h = ltb-true k changesCounted t in link-byte-below ((k - 3) / 5) ((k - 3) % 5) (omega arith))
+    (pick-below (eqb k changesCounted) mostChanges _ (λ t. omega arith)
+    (pick-below (eqb k stepsCounted) (mostSteps / 256) _ (λ t. omega arith)
+    (pick-below (eqb k (stepsCounted + 1)) (mostSteps % 256) 0 (λ t. omega arith) (omega arith)))))))
 
 pub largest-bytes : (k : ℕ) → getD largestFile k 0 < 256
 largest-bytes k = elim (decLt k largest) [
@@ -123,32 +148,32 @@ largest-bytes k = elim (decLt k largest) [
 ]
 
 -- ---- the counts
-pub has-routers : routers largestFile ≡ 32
+pub has-routers : routers largestFile ≡ width
 unfolding byteAt
 has-routers = at 0 (omega arith)
 
-pub has-links : linkCount largestFile ≡ 992
+pub has-links : linkCount largestFile ≡ pairs
 unfolding byteAt
 has-links = omega (arith, at 1 (omega arith), at 2 (omega arith))
 
-pub has-changes : changeCount largestFile ≡ 62
+pub has-changes : changeCount largestFile ≡ mostChanges
 unfolding byteAt
-has-changes = ap (λ (k : ℕ). getD largestFile (3 + 5 * k) 0) has-links ∙ at 4963 (omega arith)
+has-changes = ap (λ (k : ℕ). getD largestFile (3 + 5 * k) 0) has-links ∙ at changesCounted (omega arith)
 
-pub has-steps : stepCount largestFile ≡ 4096
+pub has-steps : stepCount largestFile ≡ mostSteps
 unfolding byteAt
 has-steps =
-    ap (two largestFile) (let x : stepCountAt largestFile ≡ 5274 = omega (arith, has-links, has-changes) in x)
-    ∙ omega (arith, at 5274 (omega arith), at 5275 (omega arith))
+    ap (two largestFile) (let x : stepCountAt largestFile ≡ stepsCounted = omega (arith, has-links, has-changes) in x)
+    ∙ omega (arith, at stepsCounted (omega arith), at (stepsCounted + 1) (omega arith))
 
 -- ---- the links
-byte-of-link : (k e part : ℕ) → k ≡ 3 + (5 * e + part) → e < 992 → part < 5 → byteAt k ≡ linkByte e part
+byte-of-link : (k e part : ℕ) → k ≡ 3 + (5 * e + part) → e < pairs → part < 5 → byteAt k ≡ linkByte e part
 unfolding byteAt
 byte-of-link k e part q h p =
     rw (ne-eqb k 0 (λ z. omega arith), ne-eqb k 1 (λ z. omega arith), ne-eqb k 2 (λ z. omega arith))
-    (rw (lt-ltb k 4963 (omega arith)) (ap₂ linkByte (omega arith) (omega arith)))
+    (rw (lt-ltb k changesCounted (omega arith)) (ap₂ linkByte (omega arith) (omega arith)))
 
-module _ (e : ℕ) (h : e < 992) where
+module _ (e : ℕ) (h : e < pairs) where
   part-is : (i part : ℕ) → i ≡ 5 * e + part → part < 5 → getD (links largestFile) i 0 ≡ linkByte e part
   part-is i part q p =
       getD-drop 3 largestFile i 0
@@ -158,9 +183,9 @@ module _ (e : ℕ) (h : e < 992) where
   whole : e < entryCount (links largestFile)
   whole =
       let room = length-drop 3 largestFile in
-      omega (arith, entry-count-least (links largestFile) 992 (omega (arith, largest-size)))
+      omega (arith, entry-count-least (links largestFile) pairs (omega (arith, largest-size)))
 
-  from-is : from (links largestFile) e ≡ e / 31
+  from-is : from (links largestFile) e ≡ e / others
   unfolding linkByte
   from-is = entry-bytes (links largestFile) e whole .0 ∙ part-is (5 * e) 0 (omega arith) (omega arith)
 
@@ -176,11 +201,11 @@ module _ (e : ℕ) (h : e < 992) where
       let low = part-is (5 * e + 4) 4 refl (omega arith) in
       entry-bytes (links largestFile) e whole .2 ∙ omega (arith, high, middle, low)
 
-other-pair : (d e : ℕ) → d < e → e < 992
+other-pair : (d e : ℕ) → d < e → e < pairs
     → isForPair (links largestFile) d (from (links largestFile) e) (to (links largestFile) e) ≡ false
 other-pair d e b h =
     let l = links largestFile in
-    let d-in : d < 992 = omega arith in
+    let d-in : d < pairs = omega arith in
     ⊎-elim
     (λ t.
     let p = of-pair l d (from l e) (to l e) t in
@@ -191,7 +216,7 @@ other-pair d e b h =
     (λ f. f)
     (look (isForPair l d (from l e) (to l e)))
 
-link-is : (e : ℕ) → e < 992 → Link New (routers largestFile) (links largestFile) e
+link-is : (e : ℕ) → e < pairs → Link New (routers largestFile) (links largestFile) e
 link-is e h =
     let l = links largestFile in
     record {

@@ -12,6 +12,7 @@ use area::limits::ENTRY;
 use area::limits::MOST_CHANGES;
 use area::limits::MOST_STEPS;
 use area::limits::STEP;
+use area::limits::Set;
 use area::limits::UNUSED;
 use area::limits::WIDTH;
 use area::refusal::Refusal;
@@ -64,7 +65,7 @@ fn links(format: Format, n: usize, list: &[u8], announced: usize) -> Verdict
     ensures { λ r. ⌜ verdictNumber r ≡ first announced (linkRefusal format n (now (list .entry))) ⌝ }
 {
     // Set i holds every j of a link from i to j. The metric table can't tell: a dead link leaves no trace there.
-    let mut seen = [0u32; WIDTH];
+    let mut seen: [Set; WIDTH] = [0; WIDTH];
     let whole = count(list);
     for e in 0..announced {
         if whole <= e {
@@ -82,7 +83,7 @@ fn links(format: Format, n: usize, list: &[u8], announced: usize) -> Verdict
     Verdict::Accepted
 }
 
-fn link(format: Format, n: usize, entry: Entry, seen: &[u32; WIDTH]) -> Verdict
+fn link(format: Format, n: usize, entry: Entry, seen: &[Set; WIDTH]) -> Verdict
     requires { ⌜ n ≤ width ⌝ }
     ensures { λ r. ⌜ verdictNumber r ≡ seenRefusal format n entry (now (seen .entry)) ⌝ }
 {

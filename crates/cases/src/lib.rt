@@ -7,9 +7,19 @@
 //     print      texts and numbers
 // The words of a case are a letter and numbers, as n3, or a link or a change of one: 0-1=7, c1>2=16777215.
 // Nothing is promised but that each function is safe and ends, and that a place or a size is not above a bound.
+use area::limits::CELLS;
+use area::limits::ENTRY;
+use area::limits::MOST_CHANGES;
+
 pub mod compare;
 pub mod lines;
 pub mod lists;
 pub mod metrics;
 pub mod print;
 pub mod read;
+
+// Cells of the tables that are lent: one more than a table has, so that one can be lent that is too long.
+pub const LONG_TABLE: usize = CELLS + 1;
+
+// Bytes of the change lists that are lent: those of two changes more than a list may have.
+pub const LONG_LIST: usize = ENTRY * (MOST_CHANGES + 2);

@@ -1,4 +1,5 @@
 // Places in a text, and the numbers of a line, counted from 0.
+use area::limits::CELLS;
 ghost use Prim.Native.Nat.{_≤_};
 ghost use lib.ListN.{length};
 
@@ -94,8 +95,8 @@ pub fn value(line: &[u8], mark: u8, default: u64) -> u64 {
     }
 }
 
-// How many cells of table i are lent, of as many as there are: x1023/1025 says it for tables 0 and 1, and where nothing
-// is said it is 1024.
+// How many cells of table i are lent, of as many as there are: x4095/4097 says it for tables 0 and 1, and where nothing
+// is said it is as many as a table has.
 pub fn size(line: &[u8], i: usize, most: usize) -> usize
     ensures at_most { λ r. ⌜ r ≤ most ⌝ }
 {
@@ -112,7 +113,7 @@ fn said(line: &[u8], i: usize) -> u64 {
     if at < line.len() {
         number(&line[at..], i)
     } else {
-        1024
+        CELLS as u64
     }
 }
 

@@ -4,9 +4,13 @@
 //     open         the file of an example
 //     rehearse     from its hexadecimal to the text that is printed
 //     rehearsal    the rehearsal, in tables that hold nothing
+use area::limits::CELLS;
+use area::limits::LARGEST;
+use area::limits::Set;
 use cases::lines;
 use cases::print;
 use libc::STDIN_FILENO;
+use report::REHEARSAL_ROOM;
 ghost use mathlib.Core.Path.{_≡_};
 ghost use Prim.Native.Nat.{_≤_};
 ghost use lib.ListN.{length, take};
@@ -48,9 +52,9 @@ fn open(name: &[u8]) -> i32 {
 
 // Prints the rehearsal of an open file that is in hexadecimal.
 fn rehearse(fd: i32) {
-    let mut hexadecimal = [0u8; 131073];
-    let mut file = [0u8; 17565];
-    let mut out = [0u8; 147456];
+    let mut hexadecimal = [0u8; hex::MOST + 1];
+    let mut file = [0u8; LARGEST + 1];
+    let mut out = [0u8; REHEARSAL_ROOM];
     let size = io::read_full(fd, &mut hexadecimal);
     let unhexed = hex::unhex(&hexadecimal[..size], &mut file);
     let size = unhexed.length;
@@ -62,12 +66,12 @@ fn rehearse(fd: i32) {
 fn rehearsal(file: &[u8], out: &mut [u8]) -> usize
     ensures { λ r. ⌜ (r ≤ length (now (out .exit))) × (r ≡ length (take r (now (out .exit)))) ⌝ }
 {
-    let mut old = [0u32; 1024];
-    let mut new = [0u32; 1024];
-    let mut old_dist = [0u32; 1024];
-    let mut new_dist = [0u32; 1024];
-    let mut old_hops = [0u32; 1024];
-    let mut new_hops = [0u32; 1024];
+    let mut old = [0u32; CELLS];
+    let mut new = [0u32; CELLS];
+    let mut old_dist = [0u32; CELLS];
+    let mut new_dist = [0u32; CELLS];
+    let mut old_hops: [Set; CELLS] = [0; CELLS];
+    let mut new_hops: [Set; CELLS] = [0; CELLS];
     report::rehearse(
         file,
         &mut old,

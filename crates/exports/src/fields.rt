@@ -1,4 +1,5 @@
 // Records and answers for programs in other languages: a record field by field, and an answer as a number.
+use area::limits::Set;
 use area::limits::WIDTH;
 use machine::Answer;
 use plan::Record;
@@ -23,11 +24,11 @@ pub(crate) fn record_from(
     root: u8,
     direction: u8,
     ranks: &[u8; WIDTH],
-    waiting: &[u32; WIDTH],
-    telling: &[u32; WIDTH],
-    due: &[u32; WIDTH],
+    waiting: &[Set; WIDTH],
+    telling: &[Set; WIDTH],
+    due: &[Set; WIDTH],
     states: &[u8; WIDTH],
-    written: &[u32; WIDTH],
+    written: &[Set; WIDTH],
 ) -> Record
     ensures record { λ r. ⌜
         r
@@ -61,11 +62,11 @@ pub(crate) fn hand_back(
     root: &mut u8,
     direction: &mut u8,
     ranks: &mut [u8; WIDTH],
-    waiting: &mut [u32; WIDTH],
-    telling: &mut [u32; WIDTH],
-    due: &mut [u32; WIDTH],
+    waiting: &mut [Set; WIDTH],
+    telling: &mut [Set; WIDTH],
+    due: &mut [Set; WIDTH],
     states: &mut [u8; WIDTH],
-    written: &mut [u32; WIDTH],
+    written: &mut [Set; WIDTH],
 )
     ensures record { λ _. ⌜
         recordFrom (now (routers .exit)) (now (root .exit)) (now (direction .exit))

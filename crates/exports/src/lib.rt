@@ -11,6 +11,7 @@
 // specs/Exports.antt. What the proofs have beside the contracts of those calls is proofs/Handing.antt.
 mod fields;
 
+use area::limits::Set;
 use area::limits::WIDTH;
 use fields::hand_back;
 use fields::record_from;
@@ -70,7 +71,7 @@ pub extern "C" fn ofib_isis(n: usize, identities: &[u8], lists: &[u8], table: &m
 
 // Paths.
 #[no_mangle]
-pub extern "C" fn ofib_paths(n: usize, metric: &[u32], dist: &mut [u32], hops: &mut [u32]) -> u8
+pub extern "C" fn ofib_paths(n: usize, metric: &[u32], dist: &mut [u32], hops: &mut [Set]) -> u8
     ensures answer { λ r. ⌜
         r ≡ pathsRefusal n (now (metric .entry)) (now (dist .entry)) (now (hops .entry)) ⌝ }
     ensures distances { λ _. ⌜
@@ -93,17 +94,17 @@ pub extern "C" fn ofib_plan(
     new: &mut [u32],
     old_dist: &mut [u32],
     new_dist: &mut [u32],
-    old_hops: &mut [u32],
-    new_hops: &mut [u32],
+    old_hops: &mut [Set],
+    new_hops: &mut [Set],
     routers: &mut u8,
     root: &mut u8,
     direction: &mut u8,
     ranks: &mut [u8; WIDTH],
-    waiting: &mut [u32; WIDTH],
-    telling: &mut [u32; WIDTH],
-    due: &mut [u32; WIDTH],
+    waiting: &mut [Set; WIDTH],
+    telling: &mut [Set; WIDTH],
+    due: &mut [Set; WIDTH],
     states: &mut [u8; WIDTH],
-    written: &mut [u32; WIDTH],
+    written: &mut [Set; WIDTH],
 ) -> u8
     ensures answer { λ r.
         let lent = asTables (now (new .entry))
@@ -152,8 +153,8 @@ pub extern "C" fn ofib_sheet(
     new: &mut [u32],
     old_dist: &mut [u32],
     new_dist: &mut [u32],
-    old_hops: &mut [u32],
-    new_hops: &mut [u32],
+    old_hops: &mut [Set],
+    new_hops: &mut [Set],
     routers: &mut [u8; WIDTH],
 ) -> u8
     ensures answer { λ r.
@@ -186,11 +187,11 @@ pub extern "C" fn ofib_sheet(
 #[no_mangle]
 pub extern "C" fn ofib_step(
     n: u8,
-    waiting: &mut [u32; WIDTH],
-    telling: &[u32; WIDTH],
-    due: &[u32; WIDTH],
+    waiting: &mut [Set; WIDTH],
+    telling: &[Set; WIDTH],
+    due: &[Set; WIDTH],
     states: &mut [u8; WIDTH],
-    written: &mut [u32; WIDTH],
+    written: &mut [Set; WIDTH],
     kind: u8,
     a: u8,
     b: u8,
@@ -217,11 +218,11 @@ pub extern "C" fn ofib_run(
     root: &mut u8,
     direction: &mut u8,
     ranks: &mut [u8; WIDTH],
-    waiting: &mut [u32; WIDTH],
-    telling: &mut [u32; WIDTH],
-    due: &mut [u32; WIDTH],
+    waiting: &mut [Set; WIDTH],
+    telling: &mut [Set; WIDTH],
+    due: &mut [Set; WIDTH],
     states: &mut [u8; WIDTH],
-    written: &mut [u32; WIDTH],
+    written: &mut [Set; WIDTH],
     bytes: &[u8],
 )
     ensures record { λ _.
@@ -267,8 +268,8 @@ pub extern "C" fn ofib_rehearse(
     new: &mut [u32],
     old_dist: &mut [u32],
     new_dist: &mut [u32],
-    old_hops: &mut [u32],
-    new_hops: &mut [u32],
+    old_hops: &mut [Set],
+    new_hops: &mut [Set],
     out: &mut [u8],
 ) -> usize
     ensures text { λ r.
@@ -298,8 +299,8 @@ pub extern "C" fn ofib_routes(
     new: &mut [u32],
     old_dist: &mut [u32],
     new_dist: &mut [u32],
-    old_hops: &mut [u32],
-    new_hops: &mut [u32],
+    old_hops: &mut [Set],
+    new_hops: &mut [Set],
     out: &mut [u8],
 ) -> usize
     ensures text { λ r.

@@ -22,7 +22,7 @@ use Rattle.hex.specs.declared.Reading.{Reading}
 use Rattle.hex.specs.declared.Reading.the-variants.{Between, Comment, High, Byte, Bad, Odd}
 use Rattle.hex.specs.Hex.{most, first, next, byteOf, bytesOf, badDigit, oddDigit, tooLong}
 use Rattle.hex.specs.Hex.{unlessFault, decode, decoded, unhexed, isFault, hasFault, isFaulty}
-use Rattle.hex.specs.HexLaws.{unhexed-long, unhexed-decoded}
+use Rattle.hex.specs.HexLaws.{room, unhexed-long, unhexed-decoded}
 use Rattle.hex.specs.Digits.{hexDigit, hexByte, hexed}
 use Rattle.hex.specs.HexLaws.{length-hexed, first-of, second-of, first-newline}
 
@@ -146,7 +146,7 @@ hexed-fault (x ∷ l) small s f =
 
 pub hexed-sound :
     (l : List ℕ)
-    → length l ≤ 65536
+    → length l ≤ room
     → ((k : ℕ) → getD l k 0 < 256)
     → isFaulty (hexed l) ≡ false
 unfolding next

@@ -12,7 +12,7 @@ use Rattle.hex.specs.declared.Reading.the-variants.{Between, Comment, Hi
 
 -- A longer text is not decoded.
 abbrev pub most : ℕ
-most = 131072
+most = 262144
 
 -- a byte from `low` up to `high`
 abbrev pub within : (low high b : ℕ) → Bool

@@ -1,7 +1,7 @@
 -- Laws of texts in hexadecimal.
 --     unhexed-long, unhexed-decoded    what is written for a text that is too long, and for every other
---     unhexed-fits     65536 bytes have room for whatever is written: each byte of the text is one digit at most, two
---                      digits are a byte, and the line of a fault is short
+--     unhexed-fits     half as many bytes as the longest text has, `room`, have room for whatever is written: each byte
+--                      of the text is one digit at most, two digits are a byte, and the line of a fault is short
 --     digit-of, first-of, second-of    the digit of a number reads as this number
 --     unhexed-hexed    every list of so many bytes at most is written for the text of its digits: the two digits of a
 --                      byte read as that byte, and after it a pair may start again
@@ -35,6 +35,9 @@ module _ (t : List ℕ) where
   unhexed-decoded h = rw (le-ltb most (length t) h) refl
 
 -- ---- what is written has at most half as many bytes as the longest text
+abbrev pub room : ℕ
+room = most / 2
+
 -- the digits that wait for another one
 waits : Reading → ℕ
 waits Between = 0
@@ -88,10 +91,10 @@ module _ (b : ℕ) where
   next-taken Odd = omega arith
 
 -- the line of a fault is short
-line-fits : (name : List ℕ) (at : ℕ) → length name ≡ 13 → length (line name at) ≤ 24
+line-fits : (name : List ℕ) (at : ℕ) → length name ≡ 13 → length (line name at) ≤ 34
 line-fits name at e = omega (arith, line-most name at)
 
-module _ (n : ℕ) (room : 24 ≤ n) where
+module _ (n : ℕ) (least : 34 ≤ n) where
   unless-fits :
       (at : ℕ) (r : Reading) (rest : List ℕ)
       → length rest ≤ n
@@ -116,11 +119,11 @@ module _ (n : ℕ) (room : 24 ≤ n) where
       unless-fits at r (decode (done ++ byteOf r) (at + 1) r l)
       (decode-fits (done ++ byteOf r) (at + 1) r l (omega (arith, size, next-taken b s)))
 
-pub unhexed-fits : (t : List ℕ) → length (unhexed t) ≤ 65536
+pub unhexed-fits : (t : List ℕ) → length (unhexed t) ≤ room
 unfolding decoded waits
 unhexed-fits t = elim (decLt most (length t)) [
   | yes h ↦ rw (unhexed-long t h) (omega arith)
-  | no f ↦ rw (unhexed-decoded t (omega arith)) (decode-fits 65536 (omega arith) [] 0 Between t (omega arith))
+  | no f ↦ rw (unhexed-decoded t (omega arith)) (decode-fits room (omega arith) [] 0 Between t (omega arith))
 ]
 
 -- ---- the text of a list of bytes
@@ -166,7 +169,7 @@ decode-hexed (x ∷ l) small done at s f =
 
 pub unhexed-hexed :
     (l : List ℕ)
-    → length l ≤ 65536
+    → length l ≤ room
     → ((k : ℕ) → getD l k 0 < 256)
     → unhexed (hexed l) ≡ l
 unfolding decoded next

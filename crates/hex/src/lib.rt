@@ -29,7 +29,7 @@ ghost use Rattle.hex.specs.Hex.{badDigit, oddDigit, most, decoded, unhex
 ghost use Rattle.hex.specs.ReadingLaws.{highHalf};
 
 // A longer text is not decoded.
-pub const MOST: usize = 131072;
+pub const MOST: usize = 262144;
 
 // As many bytes as have room for all that is written for a text.
 pub const ROOM: usize = MOST / 2;
@@ -98,7 +98,8 @@ fn decode(text: &[u8], out: &mut [u8]) -> Unhexed
     }
 }
 
-// Is this a text? It has no control byte other than white space.
+// Is this a text? It has no control byte other than white space. A bench file has one: the high byte of its link count
+// or, where that is white space, an end of one of its many links.
 pub fn is_text(bytes: &[u8]) -> bool
     ensures answer { λ r. ⌜ r ≡ isText (now (bytes .entry)) ⌝ }
 {
@@ -213,7 +214,7 @@ fn bad(out: &mut [u8], at: usize) -> Unhexed
     ensures { λ r. ⌜ r .«is_faulty» ≡ true ⌝ }
 {
     Unhexed {
-        length: line(out, 0, b"bad digit at ", at as u32),
+        length: line(out, 0, b"bad digit at ", at as u64),
         is_faulty: true,
     }
 }
@@ -225,7 +226,7 @@ fn odd(out: &mut [u8], at: usize) -> Unhexed
     ensures { λ r. ⌜ r .«is_faulty» ≡ true ⌝ }
 {
     Unhexed {
-        length: line(out, 0, b"odd digit at ", at as u32),
+        length: line(out, 0, b"odd digit at ", at as u64),
         is_faulty: true,
     }
 }

@@ -4,6 +4,7 @@ use crate::capture;
 use crate::cut;
 use crate::items;
 use crate::show;
+use cases::LONG_TABLE;
 use cases::lines;
 use cases::print;
 use cases::read;
@@ -50,8 +51,8 @@ fn by_mark(head: &[u8], identities: &[u8; 2048], rows: usize, lists: &[u8; 2048]
 
 // The answer, and what the metric table holds. It is lent with as many cells as the head says.
 fn area(head: &[u8], n: usize, identities: &[u8], lists: &[u8]) {
-    let mut table = [OLD; 1025];
-    let cells = read::size(head, 0, 1025);
+    let mut table = [OLD; LONG_TABLE];
+    let cells = read::size(head, 0, LONG_TABLE);
     let answer = isis::read(n, identities, lists, &mut table[0..cells]);
     print::form(b": #", &[answer.number() as u64]);
     show::table(&table);

@@ -3,12 +3,16 @@
 // 16,777,215 is none in the metric table, so the file is made a metric table and these two are compared.
 use crate::call::OLD;
 use crate::show;
+use area::limits::CELLS;
+use area::limits::WIDTH;
+use cases::LONG_TABLE;
 use cases::lines;
 use cases::print;
 use cases::read;
 ghost use mathlib.Core.Path.{_≡_};
-ghost use Prim.Native.Nat.{_≤_};
+ghost use Prim.Native.Nat.{_*_, _≤_};
 ghost use lib.ListN.{length, take};
+ghost use Rattle.area.specs.Limits.{width};
 
 // The folder has the name of the case.
 pub fn run(name: &[u8]) {
@@ -20,23 +24,23 @@ pub fn run(name: &[u8]) {
 }
 
 fn area(name: &[u8], identities: &[u8], lists: &[u8]) {
-    let mut table = [OLD; 1025];
+    let mut table = [OLD; LONG_TABLE];
     let n = isis::count(lists);
-    let answer = isis::read(n, identities, lists, &mut table[0..1024]);
+    let answer = isis::read(n, identities, lists, &mut table[0..CELLS]);
     print::form(b": #\nn #\n", &[answer.number() as u64, n as u64]);
     show::links(&table, b"link # # #\n");
     compare(name, n as u64, &table);
 }
 
 // Compares n and the metric table with those that are expected.
-fn compare(name: &[u8], n: u64, table: &[u32; 1025]) {
+fn compare(name: &[u8], n: u64, table: &[u32; LONG_TABLE]) {
     let mut text = [0u8; 8192];
-    let mut expected = [16777215; 1025];
+    let mut expected = [16777215; LONG_TABLE];
     let size = contents(name, b"/expect", &mut text);
     let routers = read::number(&text[..size], 0);
     fill(&mut expected, &text[..size]);
     let k = first(table, &expected);
-    if n == routers && k == 1024 {
+    if n == routers && k == CELLS {
         print::text(b"equal\n");
     } else {
         unequal(routers, k, expected[k]);
@@ -45,8 +49,8 @@ fn compare(name: &[u8], n: u64, table: &[u32; 1025]) {
 
 // What the file has instead: its number of routers, and the metric of the first cell that differs.
 fn unequal(routers: u64, k: usize, metric: u32) {
-    let i = k / 32;
-    let j = k % 32;
+    let i = k / WIDTH;
+    let j = k % WIDTH;
     print::form(
         b"not equal: expected are # routers, and # # at #\n",
         &[routers, i as u64, j as u64, metric as u64],
@@ -54,13 +58,13 @@ fn unequal(routers: u64, k: usize, metric: u32) {
 }
 
 // The metrics of the lines that say a link: link 0 1 7.
-fn fill(expected: &mut [u32; 1025], text: &[u8]) {
+fn fill(expected: &mut [u32; LONG_TABLE], text: &[u8]) {
     for at in 0..text.len() {
         link(expected, lines::line(text, at));
     }
 }
 
-fn link(expected: &mut [u32; 1025], line: &[u8]) {
+fn link(expected: &mut [u32; LONG_TABLE], line: &[u8]) {
     if 0 < line.len() && line[0] == b'l' {
         put(
             expected,
@@ -71,26 +75,26 @@ fn link(expected: &mut [u32; 1025], line: &[u8]) {
     }
 }
 
-fn put(expected: &mut [u32; 1025], i: u64, j: u64, metric: u64) {
-    if 31 < i {
+fn put(expected: &mut [u32; LONG_TABLE], i: u64, j: u64, metric: u64) {
+    if WIDTH as u64 <= i {
         return;
     }
-    if 31 < j {
+    if WIDTH as u64 <= j {
         return;
     }
-    expected[32 * i as usize + j as usize] = (metric % 4294967296) as u32;
+    expected[WIDTH * i as usize + j as usize] = (metric % 4294967296) as u32;
 }
 
-// The first cell in which the tables differ, and 1024 where there is none.
-fn first(a: &[u32; 1025], b: &[u32; 1025]) -> usize
-    ensures { λ r. ⌜ r ≤ 1024 ⌝ }
+// The first cell in which the tables differ, and CELLS where there is none.
+fn first(a: &[u32; LONG_TABLE], b: &[u32; LONG_TABLE]) -> usize
+    ensures { λ r. ⌜ r ≤ width * width ⌝ }
 {
-    for k in 0..1024 {
+    for k in 0..CELLS {
         if a[k] != b[k] {
             return k;
         }
     }
-    1024
+    CELLS
 }
 
 // The bytes of a file of hexadecimal.

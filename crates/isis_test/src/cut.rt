@@ -2,6 +2,8 @@
 // the prefix before.
 use crate::call::OLD;
 use crate::show;
+use area::limits::CELLS;
+use cases::LONG_TABLE;
 use cases::print;
 
 // What came of a call.
@@ -38,8 +40,8 @@ pub fn table(n: usize, identities: &[u8], lists: &[u8]) {
 }
 
 fn after_call(n: usize, identities: &[u8], lists: &[u8]) -> Outcome {
-    let mut table = [OLD; 1025];
-    let answer = isis::read(n, identities, lists, &mut table[0..1024]);
+    let mut table = [OLD; LONG_TABLE];
+    let answer = isis::read(n, identities, lists, &mut table[0..CELLS]);
     Outcome {
         answer: answer.number() as u64,
         links: show::count(&table),

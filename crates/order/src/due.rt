@@ -1,5 +1,6 @@
 // What is due: the destinations to which next hops change. `old` and `new` are the next-hop tables of the two
 // topologies.
+use area::limits::Set;
 use area::limits::WIDTH;
 use sets::add;
 ghost use mathlib.Core.Path.{_≡_};
@@ -10,12 +11,12 @@ ghost use Rattle.area.specs.Tables.{cell, perRouter};
 ghost use Rattle.order.specs.Order.{dueBy};
 
 // The destinations that are due at each router.
-pub(crate) fn due(n: usize, old: &[u32], new: &[u32]) -> [u32; WIDTH]
+pub(crate) fn due(n: usize, old: &[Set], new: &[Set]) -> [Set; WIDTH]
     requires { ⌜ (n ≤ width) × (length (now old) ≡ width * width) × (length (now new) ≡ width * width) ⌝ }
     ensures { λ t. ⌜
         t ≡ perRouter width n (dueBy n (cell width (now (old .entry))) (cell width (now (new .entry)))) ⌝ }
 {
-    let mut out = [0u32; WIDTH];
+    let mut out: [Set; WIDTH] = [0; WIDTH];
     for r in 0..n {
         out[r] = changed(n, old, new, r);
     }
@@ -23,12 +24,12 @@ pub(crate) fn due(n: usize, old: &[u32], new: &[u32]) -> [u32; WIDTH]
 }
 
 // The destinations to which the next hops of router r change.
-fn changed(n: usize, old: &[u32], new: &[u32], r: usize) -> u32
+fn changed(n: usize, old: &[Set], new: &[Set], r: usize) -> Set
     requires { ⌜ (n ≤ width) × (r < width) ⌝ }
     requires { ⌜ (length (now old) ≡ width * width) × (length (now new) ≡ width * width) ⌝ }
     ensures { λ t. ⌜ t ≡ dueBy n (cell width (now (old .entry))) (cell width (now (new .entry))) r ⌝ }
 {
-    let mut found = 0u32;
+    let mut found: Set = 0;
     for d in 0..n {
         let k = WIDTH * r + d;
         if old[k] != new[k] {

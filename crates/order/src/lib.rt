@@ -9,6 +9,7 @@ mod due;
 mod waiting;
 
 use area::limits::CELLS;
+use area::limits::Set;
 use area::limits::WIDTH;
 ghost use mathlib.Core.Path.{_≡_};
 ghost use Prim.Native.Nat.{_≤_, _<_, _*_};
@@ -18,15 +19,15 @@ ghost use Rattle.order.specs.Order.{isOrderable, ordered, noOrder, order
 
 // Entry r of each table belongs to router r, and is 0 from n on.
 pub struct Order {
-    pub waiting: [u32; WIDTH],
-    pub telling: [u32; WIDTH],
+    pub waiting: [Set; WIDTH],
+    pub telling: [Set; WIDTH],
     pub ranks: [u8; WIDTH],
-    pub due: [u32; WIDTH],
+    pub due: [Set; WIDTH],
 }
 
 // The order of a change: `old` and `new` are the next-hop tables of the two topologies. All is 0 where n is above
 // WIDTH, the root is not below WIDTH, or a table has not its size.
-pub fn order_of(n: usize, root: usize, rising: bool, old: &[u32], new: &[u32]) -> Order
+pub fn order_of(n: usize, root: usize, rising: bool, old: &[Set], new: &[Set]) -> Order
     ensures order { λ r. ⌜ r ≡ orderOf n root rising (now (old .entry)) (now (new .entry)) ⌝ }
 {
     if !is_orderable(n, root, old, new) {
@@ -36,7 +37,7 @@ pub fn order_of(n: usize, root: usize, rising: bool, old: &[u32], new: &[u32]) -
 }
 
 // Are there at most WIDTH routers, is the root below WIDTH, and has each table its size?
-fn is_orderable(n: usize, root: usize, old: &[u32], new: &[u32]) -> bool
+fn is_orderable(n: usize, root: usize, old: &[Set], new: &[Set]) -> bool
     ensures { λ r. ⌜ r ≡ isOrderable n root (now (old .entry)) (now (new .entry)) ⌝ }
 {
     if WIDTH < n {
@@ -64,7 +65,7 @@ fn no_order() -> Order
 }
 
 // The order by tables of this size.
-fn ordered(n: usize, root: usize, rising: bool, old: &[u32], new: &[u32]) -> Order
+fn ordered(n: usize, root: usize, rising: bool, old: &[Set], new: &[Set]) -> Order
     requires { ⌜ (n ≤ width) × (root < width) ⌝ }
     requires { ⌜ (length (now old) ≡ width * width) × (length (now new) ≡ width * width) ⌝ }
     ensures { λ r. ⌜ r ≡ ordered n root rising (now (old .entry)) (now (new .entry)) ⌝ }

@@ -12,8 +12,8 @@
 --     accepted-ready, ready-accepted                               what an accepted input is
 --     distance-cell-is, hop-cell-is                                what its cells are
 --     distance-cell-beyond, hop-cell-beyond                        and those from n on
---     distance-cell-bound, largest-reached                         no real distance is above 520,093,634, and one is it
-use Prim.Native.Nat.{ℕ, _*_, _≤_, _<_}
+--     distance-cell-bound, largest-reached                         the largest real distance
+use Prim.Native.Nat.{ℕ, _-_, _*_, _≤_, _<_}
 use mathlib.Core.Path.{_≡_, refl, _∙_}
 use mathlib.Core.Bool.{true, false, _&&_, _||_}
 use mathlib.Core.Logic.{_≢_, _↔_, _⊎_, inl, inr}
@@ -37,7 +37,7 @@ use Rattle.topology.specs.NextHops.{nextHops, Next}
 use Rattle.topology.specs.DistanceLaws.{distance-is, distance-top, distance-bound}
 use Rattle.topology.specs.NextHopLaws.{bit-next, next-set}
 use Rattle.topology.specs.TopologyLaws.{topology-graph}
-use Rattle.topology.specs.LargestLaws.{chainMetrics, chain-size, chain-range, largest-distance}
+use Rattle.topology.specs.LargestLaws.{largestDistance, chainMetrics, chain-size, chain-range, largest-distance}
 use Rattle.topology.specs.Cells.{distanceCell, hopCell}
 use Rattle.topology.specs.CellLaws.{distance-in, distance-out, hops-in, hops-out}
 use Rattle.paths.specs.Paths.{isMetric, areMetricsFrom, areMetrics, isArea}
@@ -253,12 +253,13 @@ module _ (n : ℕ) (m d h : List ℕ) where
     hop-cell-is {k} a b l =
         rw (hop-cell a b) ((λ t. bit-next width n (topology n m) i j k t), (λ x. next-set width l x))
 
-    -- no real distance is larger than 31 times the largest metric
+    -- no real distance is larger than the largest metric, once for each link of the longest walk without a repeated
+    -- router
     pub distance-cell-bound :
         i < n
         → j < n
         → cell width (distancesOf n m d h) i j ≢ unreached
-        → cell width (distancesOf n m d h) i j ≤ 520093634
+        → cell width (distancesOf n m d h) i j ≤ largestDistance
     distance-cell-bound a b f =
         let most = accepted-ready e .most in
         let same = distance-cell a b in
@@ -278,13 +279,14 @@ module _ (n : ℕ) (m d h : List ℕ) where
     hop-cell-beyond a b w =
         rw (hops-filled e) (cell-tabulate width (hopCell n m) i j a b ∙ hops-out n m i j w)
 
--- The largest real distance is that of an area: 32 routers, each linked with the next at the largest metric.
+-- The largest real distance is that of an area: as many routers as there can be, each linked with the next
+-- at the largest metric.
 pub largest-reached :
     (d h : List ℕ)
     → length d ≡ width * width
     → length h ≡ width * width
     → (pathsRefusal width chainMetrics d h ≡ 0)
-    × (cell width (distancesOf width chainMetrics d h) 0 31 ≡ 520093634)
+    × (cell width (distancesOf width chainMetrics d h) 0 (width - 1) ≡ largestDistance)
 largest-reached d h a b = (
   chain-accepted,
   distance-cell width chainMetrics d h chain-accepted (omega arith) (omega arith) ∙ largest-distance,

@@ -8,6 +8,7 @@
 mod metrics;
 
 use area::limits::CELLS;
+use area::limits::Set;
 use area::limits::WIDTH;
 use area::refusal::Refusal;
 use area::refusal::Verdict;
@@ -22,7 +23,7 @@ ghost use Rattle.paths.specs.Paths.{isArea, pathsRefusal, distancesOf, h
 ghost use Rattle.topology.specs.Cells.{distanceCell, hopCell};
 
 // Paths: the distance and the next-hop set of every ordered pair of the n routers, or a refusal that writes no cell.
-pub fn paths(n: usize, metric: &[u32], dist: &mut [u32], hops: &mut [u32]) -> Verdict
+pub fn paths(n: usize, metric: &[u32], dist: &mut [u32], hops: &mut [Set]) -> Verdict
     ensures answer { λ r. ⌜
         verdictNumber r
         ≡ pathsRefusal n (now (metric .entry)) (now (dist .entry)) (now (hops .entry)) ⌝ }
@@ -73,7 +74,7 @@ pub fn is_area(n: usize, metric: &[u32]) -> bool
 }
 
 // Both tables, row by row: the search for a source is lent that source's rows.
-fn fill(n: usize, metric: &[u32], dist: &mut [u32], hops: &mut [u32])
+fn fill(n: usize, metric: &[u32], dist: &mut [u32], hops: &mut [Set])
     requires { ⌜ (n ≤ width) × (length (now metric) ≡ width * width) ⌝ }
     requires { ⌜ (length (now dist) ≡ width * width) × (length (now hops) ≡ width * width) ⌝ }
     ensures { λ _. ⌜ now (dist .exit) ≡ tabulate width (distanceCell n (now (metric .entry))) ⌝ }

@@ -1,5 +1,7 @@
 // Calls of Paths. The first number of a case is n, and its mark says what is shown of the call.
 use crate::show;
+use area::limits::Set;
+use cases::LONG_TABLE;
 use cases::metrics;
 use cases::print;
 use cases::read;
@@ -7,11 +9,11 @@ use cases::read;
 // What the two tables hold before a call: numbers that no call writes.
 pub const OLD_DISTANCE: u32 = 777777777;
 
-pub const OLD_SET: u32 = 888888888;
+pub const OLD_SET: Set = 8888888888888888888;
 
 // Paths, or with the mark i the test of n and the metrics alone.
 pub fn run(case: &[u8]) {
-    let mut metric = [0; 1025];
+    let mut metric = [0; LONG_TABLE];
     metrics::fill(&mut metric, case);
     if read::mark(case, 0) == b'i' {
         area(case, &metric);
@@ -20,7 +22,7 @@ pub fn run(case: &[u8]) {
     }
 }
 
-fn area(case: &[u8], metric: &[u32; 1025]) {
+fn area(case: &[u8], metric: &[u32; LONG_TABLE]) {
     let all = &metric[..];
     let cells = read::size(case, 0, all.len());
     if paths::is_area(read::number(case, 0) as usize, &all[0..cells]) {
@@ -30,9 +32,9 @@ fn area(case: &[u8], metric: &[u32; 1025]) {
     }
 }
 
-fn paths(case: &[u8], metric: &[u32; 1025]) {
-    let mut dist = [OLD_DISTANCE; 1025];
-    let mut hops = [OLD_SET; 1025];
+fn paths(case: &[u8], metric: &[u32; LONG_TABLE]) {
+    let mut dist = [OLD_DISTANCE; LONG_TABLE];
+    let mut hops = [OLD_SET; LONG_TABLE];
     let n = read::number(case, 0) as usize;
     let answer = lend(case, n, metric, &mut dist, &mut hops);
     print::form(b": #", &[answer as u64]);
@@ -41,7 +43,13 @@ fn paths(case: &[u8], metric: &[u32; 1025]) {
 
 // A call with the first cells of longer tables, so that a table can be one cell too short or too long.
 // Gives the number of the verdict.
-fn lend(case: &[u8], n: usize, metric: &[u32; 1025], dist: &mut [u32], hops: &mut [u32]) -> u8 {
+fn lend(
+    case: &[u8],
+    n: usize,
+    metric: &[u32; LONG_TABLE],
+    dist: &mut [u32],
+    hops: &mut [Set],
+) -> u8 {
     let all = &metric[..];
     let cells = read::size(case, 0, all.len());
     let distances = read::size(case, 1, dist.len());

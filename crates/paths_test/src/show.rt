@@ -1,12 +1,16 @@
 // What is shown of a call, by the mark of n.
 use crate::call::OLD_DISTANCE;
 use crate::call::OLD_SET;
+use area::limits::CELLS;
+use area::limits::Set;
+use area::limits::WIDTH;
+use cases::LONG_TABLE;
 use cases::compare;
 use cases::metrics;
 use cases::print;
 use cases::read;
 
-pub fn call(case: &[u8], n: usize, dist: &[u32; 1025], hops: &[u32; 1025]) {
+pub fn call(case: &[u8], n: usize, dist: &[u32; LONG_TABLE], hops: &[Set; LONG_TABLE]) {
     let mark = read::mark(case, 0);
     match mark {
         b'r' => changed(dist, hops),
@@ -17,68 +21,71 @@ pub fn call(case: &[u8], n: usize, dist: &[u32; 1025], hops: &[u32; 1025]) {
 }
 
 // How many cells of each table changed.
-fn changed(dist: &[u32; 1025], hops: &[u32; 1025]) {
-    let distances = compare::changed(dist, OLD_DISTANCE);
+fn changed(dist: &[u32; LONG_TABLE], hops: &[Set; LONG_TABLE]) {
+    let distances = compare::changed(&compare::wide(dist), OLD_DISTANCE as u64);
     let sets = compare::changed(hops, OLD_SET);
     print::form(b" changed # #\n", &[distances, sets]);
 }
 
 // In how many cells that belong to no pair of the n routers a distance or a next hop stands.
-fn stray(n: usize, dist: &[u32; 1025], hops: &[u32; 1025]) {
-    let distances = compare::beyond_pairs(n, dist, 4294967295);
+fn stray(n: usize, dist: &[u32; LONG_TABLE], hops: &[Set; LONG_TABLE]) {
+    let distances = compare::beyond_pairs(n, &compare::wide(dist), 4294967295);
     let sets = compare::beyond_pairs(n, hops, 0);
     print::form(b" stray #\n", &[distances + sets]);
 }
 
 // How many cells differ from those that three routers give in a table with nothing else in it. From 0 to 2 the way by
 // 1 costs as much as the link.
-fn same(dist: &[u32; 1025], hops: &[u32; 1025]) {
-    let mut metric = [0; 1025];
+fn same(dist: &[u32; LONG_TABLE], hops: &[Set; LONG_TABLE]) {
+    let mut metric = [0; LONG_TABLE];
     metrics::fill(&mut metric, b" 0-1=1 1-2=1 0-2=2");
     differing(&metric, dist, hops);
 }
 
-fn differing(metric: &[u32; 1025], dist: &[u32; 1025], hops: &[u32; 1025]) {
-    let mut clean_dist = [7; 1025];
-    let mut clean_hops = [7; 1025];
+fn differing(metric: &[u32; LONG_TABLE], dist: &[u32; LONG_TABLE], hops: &[Set; LONG_TABLE]) {
+    let mut clean_dist = [7; LONG_TABLE];
+    let mut clean_hops = [7; LONG_TABLE];
     let all = &metric[..];
     paths::paths(
         3,
-        &all[0..1024],
-        &mut clean_dist[..1024],
-        &mut clean_hops[..1024],
+        &all[0..CELLS],
+        &mut clean_dist[..CELLS],
+        &mut clean_hops[..CELLS],
     );
-    let distances = compare::differing(dist, &clean_dist);
+    let distances = compare::differing(&compare::wide(dist), &compare::wide(&clean_dist));
     let sets = compare::differing(hops, &clean_hops);
     print::form(b" differing # #\n", &[distances, sets]);
 }
 
 // The pairs of some routers or of all, and for a large area a checksum of each table.
-fn rows(mark: u8, n: usize, dist: &[u32; 1025], hops: &[u32; 1025]) {
+fn rows(mark: u8, n: usize, dist: &[u32; LONG_TABLE], hops: &[Set; LONG_TABLE]) {
     print::byte(b'\n');
     pairs(mark, n, dist, hops);
     if mark == b'l' {
         print::form(
             b"checksums # #\n",
-            &[compare::checksum(dist), compare::checksum(hops)],
+            &[
+                compare::checksum(&compare::wide(dist)),
+                compare::checksum(hops),
+            ],
         );
     }
 }
 
-fn pairs(mark: u8, n: usize, dist: &[u32; 1025], hops: &[u32; 1025]) {
-    for k in 0..1024 {
+fn pairs(mark: u8, n: usize, dist: &[u32; LONG_TABLE], hops: &[Set; LONG_TABLE]) {
+    for k in 0..CELLS {
         pair(mark, n, k, dist[k], hops[k]);
     }
 }
 
 // Cell k, where its two routers are among the n and the row of the first is shown.
-fn pair(mark: u8, n: usize, k: usize, distance: u32, set: u32) {
-    let i = k / 32;
-    let j = k % 32;
+fn pair(mark: u8, n: usize, k: usize, distance: u32, set: Set) {
+    let i = k / WIDTH;
+    let j = k % WIDTH;
     if i < n && j < n && is_shown(mark, n, i) {
         print::form(
             b"# # distance # hops #\n",
-            &[i as u64, j as u64, distance as u64, set as u64],
+            &[i as u64, j as u64, distance as u64, set],
         );
     }
 }
@@ -87,7 +94,7 @@ fn pair(mark: u8, n: usize, k: usize, distance: u32, set: u32) {
 fn is_shown(mark: u8, n: usize, i: usize) -> bool {
     match mark {
         b'e' => i == 0 || i == last(n),
-        b'l' => i == 0 || i == 15 || i == 31,
+        b'l' => i == 0 || i == 31 || i == 63,
         _ => true,
     }
 }

@@ -14,6 +14,7 @@ mod judging;
 mod metrics;
 
 use area::limits::CELLS;
+use area::limits::Set;
 use area::limits::WIDTH;
 use area::refusal::Verdict;
 use judging::judge;
@@ -37,12 +38,12 @@ pub struct Record {
     // 1 for a rise, 2 for a fall.
     pub direction: u8,
     pub ranks: [u8; WIDTH],
-    pub waiting: [u32; WIDTH],
-    pub telling: [u32; WIDTH],
-    pub due: [u32; WIDTH],
+    pub waiting: [Set; WIDTH],
+    pub telling: [Set; WIDTH],
+    pub due: [Set; WIDTH],
     // 0 idle, 1 holding, 2 ongoing, 3 done.
     pub states: [u8; WIDTH],
-    pub written: [u32; WIDTH],
+    pub written: [Set; WIDTH],
 }
 
 // What Plan hands back: the answer, with the record.
@@ -60,8 +61,8 @@ pub fn plan(
     new: &mut [u32],
     old_dist: &mut [u32],
     new_dist: &mut [u32],
-    old_hops: &mut [u32],
-    new_hops: &mut [u32],
+    old_hops: &mut [Set],
+    new_hops: &mut [Set],
 ) -> Planned
     ensures answer { λ r.
         let lent = asTables (now (new .entry))
@@ -119,8 +120,8 @@ fn fill(
     new: &mut [u32],
     old_dist: &mut [u32],
     new_dist: &mut [u32],
-    old_hops: &mut [u32],
-    new_hops: &mut [u32],
+    old_hops: &mut [Set],
+    new_hops: &mut [Set],
 ) -> Record
     requires { ⌜ Plan n (now old) (now list) ⌝ }
     requires { ⌜ (c ≡ root (now list)) × (rising ≡ isRise n (now old) (now list)) ⌝ }
@@ -147,8 +148,8 @@ fn are_tables(
     new: &[u32],
     old_dist: &[u32],
     new_dist: &[u32],
-    old_hops: &[u32],
-    new_hops: &[u32],
+    old_hops: &[Set],
+    new_hops: &[Set],
 ) -> bool
     ensures { λ r.
         let lent = asTables (now (new .entry))
@@ -192,7 +193,7 @@ pub fn blank() -> Record
 }
 
 // The record of a plan that was accepted, before the first step.
-fn fresh(n: usize, root: usize, rising: bool, old_hops: &[u32], new_hops: &[u32]) -> Record
+fn fresh(n: usize, root: usize, rising: bool, old_hops: &[Set], new_hops: &[Set]) -> Record
     requires { ⌜ (n ≤ width) × (root < width) ⌝ }
     ensures { λ r. ⌜
         r ≡ started n root rising

@@ -5,6 +5,9 @@ use crate::call::NEW_SET;
 use crate::call::OLD_DISTANCE;
 use crate::call::OLD_SET;
 use crate::fresh;
+use area::limits::Set;
+use area::limits::WIDTH;
+use cases::LONG_TABLE;
 use cases::compare;
 use cases::print;
 use plan::Planned;
@@ -13,11 +16,11 @@ use plan::Planned;
 pub fn planned(
     n: usize,
     p: Planned,
-    new: &[u32; 1025],
-    old_dist: &[u32; 1025],
-    new_dist: &[u32; 1025],
-    old_hops: &[u32; 1025],
-    new_hops: &[u32; 1025],
+    new: &[u32; LONG_TABLE],
+    old_dist: &[u32; LONG_TABLE],
+    new_dist: &[u32; LONG_TABLE],
+    old_hops: &[Set; LONG_TABLE],
+    new_hops: &[Set; LONG_TABLE],
 ) {
     if record(n, p) {
         way(n, old_dist, new_dist, old_hops, new_hops);
@@ -54,30 +57,30 @@ fn record(n: usize, p: Planned) -> bool {
 // The distances and the next-hop sets from router 0 to the last router, the old before the new.
 fn way(
     n: usize,
-    old_dist: &[u32; 1025],
-    new_dist: &[u32; 1025],
-    old_hops: &[u32; 1025],
-    new_hops: &[u32; 1025],
+    old_dist: &[u32; LONG_TABLE],
+    new_dist: &[u32; LONG_TABLE],
+    old_hops: &[Set; LONG_TABLE],
+    new_hops: &[Set; LONG_TABLE],
 ) {
     if n < 1 {
         return;
     }
-    if 32 < n {
+    if WIDTH < n {
         return;
     }
     let k = n - 1;
     pair(k, old_dist[k], new_dist[k], old_hops[k], new_hops[k]);
 }
 
-fn pair(k: usize, old_dist: u32, new_dist: u32, old_hops: u32, new_hops: u32) {
+fn pair(k: usize, old_dist: u32, new_dist: u32, old_hops: Set, new_hops: Set) {
     print::form(
         b"from 0 to # distances # # hops # #\n",
         &[
             k as u64,
             old_dist as u64,
             new_dist as u64,
-            old_hops as u64,
-            new_hops as u64,
+            old_hops,
+            new_hops,
         ],
     );
 }
@@ -85,19 +88,19 @@ fn pair(k: usize, old_dist: u32, new_dist: u32, old_hops: u32, new_hops: u32) {
 // In how many cells that belong to no link a new metric stands, and a checksum of each table.
 fn checksums(
     n: usize,
-    new: &[u32; 1025],
-    old_dist: &[u32; 1025],
-    new_dist: &[u32; 1025],
-    old_hops: &[u32; 1025],
-    new_hops: &[u32; 1025],
+    new: &[u32; LONG_TABLE],
+    old_dist: &[u32; LONG_TABLE],
+    new_dist: &[u32; LONG_TABLE],
+    old_hops: &[Set; LONG_TABLE],
+    new_hops: &[Set; LONG_TABLE],
 ) {
     print::form(
         b"metrics # tables # # # # #\n",
         &[
-            compare::beyond_links(n, new, 16777215),
-            compare::checksum(new),
-            compare::checksum(old_dist),
-            compare::checksum(new_dist),
+            compare::beyond_links(n, &compare::wide(new), 16777215),
+            compare::checksum(&compare::wide(new)),
+            compare::checksum(&compare::wide(old_dist)),
+            compare::checksum(&compare::wide(new_dist)),
             compare::checksum(old_hops),
             compare::checksum(new_hops),
         ],
@@ -106,18 +109,18 @@ fn checksums(
 
 // How many cells of each table changed.
 fn changed(
-    new: &[u32; 1025],
-    old_dist: &[u32; 1025],
-    new_dist: &[u32; 1025],
-    old_hops: &[u32; 1025],
-    new_hops: &[u32; 1025],
+    new: &[u32; LONG_TABLE],
+    old_dist: &[u32; LONG_TABLE],
+    new_dist: &[u32; LONG_TABLE],
+    old_hops: &[Set; LONG_TABLE],
+    new_hops: &[Set; LONG_TABLE],
 ) {
     print::form(
         b" changed # # # # #\n",
         &[
-            compare::changed(new, NEW),
-            compare::changed(old_dist, OLD_DISTANCE),
-            compare::changed(new_dist, NEW_DISTANCE),
+            compare::changed(&compare::wide(new), NEW as u64),
+            compare::changed(&compare::wide(old_dist), OLD_DISTANCE as u64),
+            compare::changed(&compare::wide(new_dist), NEW_DISTANCE as u64),
             compare::changed(old_hops, OLD_SET),
             compare::changed(new_hops, NEW_SET),
         ],

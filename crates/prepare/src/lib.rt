@@ -4,6 +4,7 @@
 //     started      both answers put together; `first` takes the first refusal of the two
 // What it promises is specs/Bench.antt; that Plan gets what the file says is specs/BenchLaws.antt.
 use area::limits::ENTRY;
+use area::limits::Set;
 use bench_file::BenchFile;
 use bench_file::Contents;
 use bench_file::Section;
@@ -35,8 +36,8 @@ pub fn prepare(
     new: &mut [u32],
     old_dist: &mut [u32],
     new_dist: &mut [u32],
-    old_hops: &mut [u32],
-    new_hops: &mut [u32],
+    old_hops: &mut [Set],
+    new_hops: &mut [Set],
 ) -> Start
     ensures refusal { λ r.
         let lent = asTables (now (new .entry)) (now («old_dist» .entry)) (now («new_dist» .entry))

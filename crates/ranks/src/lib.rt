@@ -6,6 +6,7 @@
 //     agree        whether a round has changed nothing
 // What they promise is specs/Rank.antt; why the rounds end with the ranks is specs/RankLaws.antt and
 // proofs/Rounds.antt.
+use area::limits::Set;
 use area::limits::WIDTH;
 use sets::member;
 ghost use mathlib.Core.Path.{_≡_};
@@ -19,7 +20,7 @@ ghost use Rattle.ranks.specs.Rank.{above, rank, ranksOf};
 
 // For each of n routers the links of a longest chain of at most n - 1 links; members of a waiting set from n on are not
 // read. This is its rank where no chain meets a router twice. All is 0 where n is above WIDTH.
-pub fn ranks(n: usize, waiting: [u32; WIDTH]) -> [u8; WIDTH]
+pub fn ranks(n: usize, waiting: [Set; WIDTH]) -> [u8; WIDTH]
     ensures ranks { λ t. ⌜ t ≡ ranksOf n waiting ⌝ }
 {
     if WIDTH < n {
@@ -29,7 +30,7 @@ pub fn ranks(n: usize, waiting: [u32; WIDTH]) -> [u8; WIDTH]
 }
 
 // Each round allows chains of one link more, up to n - 1. After a round that changes nothing no round changes anything.
-fn by_rounds(n: usize, waiting: [u32; WIDTH]) -> [u8; WIDTH]
+fn by_rounds(n: usize, waiting: [Set; WIDTH]) -> [u8; WIDTH]
     requires { ⌜ n ≤ width ⌝ }
     ensures { λ t. ⌜ t ≡ perRouter width n (rank n (λ r. getD waiting r 0)) ⌝ }
 {
@@ -58,7 +59,7 @@ fn agree(n: usize, a: [u8; WIDTH], b: [u8; WIDTH]) -> bool
 }
 
 // One round: for each router one more than the largest rank of those below n that it waits for, 0 where there is none.
-fn longer(n: usize, waiting: [u32; WIDTH], ranks: [u8; WIDTH]) -> [u8; WIDTH]
+fn longer(n: usize, waiting: [Set; WIDTH], ranks: [u8; WIDTH]) -> [u8; WIDTH]
     requires { ⌜ (n ≤ width) × ((s : ℕ) → s < n → getD ranks s 0 < 255) ⌝ }
     ensures { λ t. ⌜ t ≡ perRouter width n (λ r. above n (getD waiting r 0) (λ s. getD ranks s 0)) ⌝ }
 {
@@ -70,7 +71,7 @@ fn longer(n: usize, waiting: [u32; WIDTH], ranks: [u8; WIDTH]) -> [u8; WIDTH]
 }
 
 // One more than the largest rank of a set's members below n, 0 where it has none.
-fn after(n: usize, set: u32, ranks: [u8; WIDTH]) -> u8
+fn after(n: usize, set: Set, ranks: [u8; WIDTH]) -> u8
     requires { ⌜ (n ≤ width) × ((s : ℕ) → s < n → getD ranks s 0 < 255) ⌝ }
     ensures { λ k. ⌜ k ≡ above n set (λ s. getD ranks s 0) ⌝ }
 {

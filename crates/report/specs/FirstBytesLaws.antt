@@ -1,4 +1,4 @@
--- The first bytes of an input decide all that is printed for it, if they are more than the largest file has: 17,565
+-- The first bytes of an input decide all that is printed for it, if they are more than the largest file has: 33,085
 -- bytes are enough for every program (01, "The rehearsal").
 -- Why: a file that is not refused has no byte beyond them (first-all); of one that is refused the number of the refusal
 -- is all that is printed, and it is the same for them (refusal-first).

@@ -1,4 +1,4 @@
--- How many bytes the lines have at most. A word has its own length and a number at most ten digits (`field-most` and
+-- How many bytes the lines have at most. A word has its own length and a number at most twenty digits (`field-most` and
 -- `line-most` of the crate text), so each line is bounded by the sum of its parts; all lines of a kind are bounded by
 -- that for each of them.
 --     refused-most, router-most, step-most, route-most, turn-most, call-most      one line
@@ -29,7 +29,7 @@ use Rattle.report.specs.Lines.{memberWord, memberText, setText, turnLine
 use Rattle.report.specs.Lines.{countLine, callLine, callLines, stepSection}
 
 -- ---- one line
-router-most : (i rank waits tells due : ℕ) → length (routerLine i rank waits tells due) ≤ 83
+router-most : (i rank waits tells due : ℕ) → length (routerLine i rank waits tells due) ≤ 133
 unfolding routerLine
 router-most i rank waits tells due =
     let named = field-most (word "router ") i in
@@ -38,17 +38,17 @@ router-most i rank waits tells due =
     let telling = field-most (word " tells ") tells in
     simp length-append (omega (arith, line-most (word " due ") due))
 
-answer-most : (x : Reply) → length (answerText x) ≤ 20
+answer-most : (x : Reply) → length (answerText x) ≤ 30
 unfolding answerText
 answer-most ok = omega arith
 answer-most ignored = omega arith
 answer-most (refused k) = simp length-append (omega (arith, refused-most k))
 
-step-most : (k : ℕ) (x : Reply) → length (stepLine k x) ≤ 35
+step-most : (k : ℕ) (x : Reply) → length (stepLine k x) ≤ 55
 unfolding stepLine
 step-most k x = simp length-append (omega (arith, field-most (word "step ") k, answer-most x))
 
-path-most : (p : Path) → length (pathText p) ≤ 26
+path-most : (p : Path) → length (pathText p) ≤ 46
 unfolding pathText
 path-most p =
     let distance = field-most (word " ") (p .distance) in
@@ -56,35 +56,35 @@ path-most p =
     ⊎-elim (λ t. rw t (omega arith)) (λ f. rw f (simp length-append (omega arith)))
     (look (eqb (p .distance) unreached))
 
-route-most : (i j : ℕ) (p q : Path) → length (routeLine i j p q) ≤ 88
+route-most : (i j : ℕ) (p q : Path) → length (routeLine i j p q) ≤ 148
 unfolding routeLine
 route-most i j p q =
     let first = field-most (word "route ") i in
     let second = field-most (word " ") j in
     simp length-append (omega (arith, path-most p, path-most q))
 
-pair-most : (i j : ℕ) (p q : Path) → length (pairText i j p q) ≤ 88
+pair-most : (i j : ℕ) (p q : Path) → length (pairText i j p q) ≤ 148
 unfolding pairText
 pair-most i j p q = ⊎-elim (λ t. rw t (route-most i j p q)) (λ f. rw f (omega arith)) (look (isPrinted i j p q))
 
-member-most : (set k : ℕ) → length (memberWord set k) ≤ 11
+member-most : (set k : ℕ) → length (memberWord set k) ≤ 21
 unfolding memberWord
 member-most set k =
     let named = field-most (word " ") k in
     ⊎-elim (λ t. rw t (omega arith)) (λ f. rw f (omega arith)) (look (bit set k))
 
-members-most : (set k : ℕ) → length (memberText set k) ≤ 11 * k
+members-most : (set k : ℕ) → length (memberText set k) ≤ 21 * k
 unfolding memberText
 members-most set zero = omega arith
 members-most set (suc k) = simp length-append (omega (arith, members-most set k, member-most set k))
 
-set-most : (set : ℕ) → length (setText set) ≤ 11 * width
+set-most : (set : ℕ) → length (setText set) ≤ 21 * width
 unfolding setText
 set-most set =
     let members = members-most set width in
     ⊎-elim (λ t. rw t (omega arith)) (λ f. rw f (omega arith)) (look (eqb set 0))
 
-turn-most : (k a writes tells : ℕ) → length (turnLine k a writes tells) ≤ 47 + 22 * width
+turn-most : (k a writes tells : ℕ) → length (turnLine k a writes tells) ≤ 67 + 42 * width
 unfolding turnLine
 turn-most k a writes tells =
     let counted = field-most (word "turn ") k in
@@ -102,7 +102,7 @@ call-most c =
     simp length-append (omega (arith, byte-length (c .kind), byte-length (c .a), byte-length (c .b)))
 
 -- ---- all lines of a kind
-pub routers-most : (r : Record) (k : ℕ) → length (routerLines r k) ≤ 83 * k
+pub routers-most : (r : Record) (k : ℕ) → length (routerLines r k) ≤ 133 * k
 unfolding routerLines
 routers-most r zero = omega arith
 routers-most r (suc k) =
@@ -111,23 +111,23 @@ routers-most r (suc k) =
     in
     simp length-append (omega (arith, routers-most r k))
 
-pub steps-most : (k : ℕ) (l : List Reply) → length (stepLines k l) ≤ 35 * length l
+pub steps-most : (k : ℕ) (l : List Reply) → length (stepLines k l) ≤ 55 * length l
 unfolding stepLines
 steps-most k [] = omega arith
 steps-most k (x ∷ l) = simp length-append (omega (arith, step-most k x, steps-most (k + 1) l))
 
 module _ (d h e g : List ℕ) where
-  row-most : (i k : ℕ) → length (rowLines d h e g i k) ≤ 88 * k
+  row-most : (i k : ℕ) → length (rowLines d h e g i k) ≤ 148 * k
   unfolding rowLines
   row-most i zero = omega arith
   row-most i (suc k) = simp length-append (omega (arith, row-most i k, pair-most i k (path d h i k) (path e g i k)))
 
-  pub routes-most : (n k : ℕ) → n ≤ width → length (routeLines d h e g n k) ≤ 88 * width * k
+  pub routes-most : (n k : ℕ) → n ≤ width → length (routeLines d h e g n k) ≤ 148 * width * k
   unfolding routeLines
   routes-most n zero b = omega arith
   routes-most n (suc k) b = simp length-append (omega (arith, routes-most n k b, row-most k n))
 
-pub turns-most : (r : Record) (places : List ℕ) (k : ℕ) → length (turnLines r places k) ≤ (47 + 22 * width) * k
+pub turns-most : (r : Record) (places : List ℕ) (k : ℕ) → length (turnLines r places k) ≤ (67 + 42 * width) * k
 unfolding turnLines
 turns-most r places zero = omega arith
 turns-most r places (suc k) =
@@ -139,13 +139,13 @@ unfolding callLines
 calls-most [] = omega arith
 calls-most (c ∷ cs) = simp length-append (omega (arith, call-most c, calls-most cs))
 
-pub section-most : (calls : List Call) → length (stepSection calls) ≤ 27 + 9 * mostSteps
+pub section-most : (calls : List Call) → length (stepSection calls) ≤ 5 + 9 * mostSteps
 unfolding stepSection
 section-most calls = by-count (look (leb (length calls) mostSteps))
   where
     by-count :
         (leb (length calls) mostSteps ≡ true) ⊎ (leb (length calls) mostSteps ≡ false)
-        → length (stepSection calls) ≤ 27 + 9 * mostSteps
+        → length (stepSection calls) ≤ 5 + 9 * mostSteps
     by-count (inl t) =
         let few = leb-true (length calls) mostSteps t in
         rw t (simp length-append (omega (arith, count-most (length calls), calls-most calls)))

@@ -1,13 +1,15 @@
--- All that is printed for a file has at most `room` bytes: a program whose buffer has as many prints the whole of it.
--- A refusal is one short line. Otherwise a file has at most 32 routers and 4,096 steps, and LengthLaws bounds the lines
--- of each: 83 bytes for a router, 35 for a step, 88 for a pair, 751 for a turn and 9 for a step of the sheet.
+-- How many bytes are printed for a file at most: a program whose buffer has as many prints the whole of it. A refusal
+-- is one short line. Otherwise a file has at most `width` routers and `mostSteps` steps, and LengthLaws bounds the
+-- lines of each; `end` is the last one of a rehearsal and of the turns.
+--     rehearsalRoom, routesRoom, sheetTurnsRoom, sheetStepsRoom            so many bytes
 --     rehearsal-room, routes-room, sheet-turns-room, sheet-steps-room      what each function prints
-use Prim.Native.Nat.{ℕ, _*_, _≤_}
+use Prim.Native.Nat.{ℕ, _+_, _*_, _≤_}
 use mathlib.Core.Path.{_≡_}
 use mathlib.Core.List.{List}
 use native.Mathlib.Decide.{ℕ-discrete}
 use native.Mathlib.Omega.{arith}
 use lib.ListN.{length, drop, length-append, length-take}
+use Rattle.area.specs.Limits.{width, mostSteps}
 use Rattle.area.specs.SizeLaws.{router-count-most}
 use Rattle.plan.specs.Plan.{Tables}
 use Rattle.plan.specs.FreshLaws.{fresh-count}
@@ -26,14 +28,23 @@ use Rattle.report.specs.ReportLaws.{rehearsal-refused, routes-refused, r
 use Rattle.report.specs.ReportLaws.{sheet-turns-refused, sheet-steps-refused}
 use Rattle.report.specs.ReportLaws.{sheet-turns-whole, sheet-steps-whole}
 
-abbrev pub room : ℕ
-room = 147456
+abbrev pub rehearsalRoom : ℕ
+rehearsalRoom = 133 * width + 55 * mostSteps + 4
+
+abbrev pub routesRoom : ℕ
+routesRoom = 148 * (width * width)
+
+abbrev pub sheetTurnsRoom : ℕ
+sheetTurnsRoom = (67 + 42 * width) * width + 4
+
+abbrev pub sheetStepsRoom : ℕ
+sheetStepsRoom = 5 + 9 * mostSteps
 
 module _ (f m : List ℕ) (t : Tables) where
-  pub rehearsal-room : length (rehearsal f m t) ≤ room
+  pub rehearsal-room : length (rehearsal f m t) ≤ rehearsalRoom
   rehearsal-room = by-refusal (ℕ-discrete (refusal f m t) 0)
     where
-      by-refusal : Dec (refusal f m t ≡ 0) → length (rehearsal f m t) ≤ room
+      by-refusal : Dec (refusal f m t ≡ 0) → length (rehearsal f m t) ≤ rehearsalRoom
       by-refusal (no g) = rw (rehearsal-refused f m t g) (omega (arith, line-most (word "refused ") (refusal f m t)))
       by-refusal (yes z) =
           let file = file-of f m t z in
@@ -44,10 +55,10 @@ module _ (f m : List ℕ) (t : Tables) where
           let bytes = length-take (3 * stepCount f) (drop (stepsAt f) f) in
           rw (rehearsal-whole f m t z) (simp length-append (omega (arith, file .most-steps)))
 
-  pub routes-room : length (routes f m t) ≤ room
+  pub routes-room : length (routes f m t) ≤ routesRoom
   routes-room = by-refusal (ℕ-discrete (refusal f m t) 0)
     where
-      by-refusal : Dec (refusal f m t ≡ 0) → length (routes f m t) ≤ room
+      by-refusal : Dec (refusal f m t ≡ 0) → length (routes f m t) ≤ routesRoom
       by-refusal (no g) = rw (routes-refused f m t g) (omega (arith, line-most (word "refused ") (refusal f m t)))
       by-refusal (yes z) =
           let few = router-count-most (routers f) (file-of f m t z .routers-in) in
@@ -56,10 +67,10 @@ module _ (f m : List ℕ) (t : Tables) where
           let most = routes-most (p .oldDistances) (p .oldHops) (p .newDistances) (p .newHops) n n few in
           rw (routes-whole f m t z) (omega arith)
 
-  pub sheet-turns-room : length (sheetTurns f m t) ≤ room
+  pub sheet-turns-room : length (sheetTurns f m t) ≤ sheetTurnsRoom
   sheet-turns-room = by-refusal (ℕ-discrete (refusal f m t) 0)
     where
-      by-refusal : Dec (refusal f m t ≡ 0) → length (sheetTurns f m t) ≤ room
+      by-refusal : Dec (refusal f m t ≡ 0) → length (sheetTurns f m t) ≤ sheetTurnsRoom
       by-refusal (no g) =
           rw (sheet-turns-refused f m t g) (omega (arith, line-most (word "refused ") (refusal f m t)))
       by-refusal (yes z) =
@@ -68,10 +79,10 @@ module _ (f m : List ℕ) (t : Tables) where
           let turns = turns-most (planned f) (sheetOf (planned f)) (planned f .n) in
           rw (sheet-turns-whole f m t z) (simp length-append (omega arith))
 
-  pub sheet-steps-room : length (sheetSteps f m t) ≤ room
+  pub sheet-steps-room : length (sheetSteps f m t) ≤ sheetStepsRoom
   sheet-steps-room = by-refusal (ℕ-discrete (refusal f m t) 0)
     where
-      by-refusal : Dec (refusal f m t ≡ 0) → length (sheetSteps f m t) ≤ room
+      by-refusal : Dec (refusal f m t ≡ 0) → length (sheetSteps f m t) ≤ sheetStepsRoom
       by-refusal (no g) =
           rw (sheet-steps-refused f m t g) (omega (arith, line-most (word "refused ") (refusal f m t)))
       by-refusal (yes z) = rw (sheet-steps-whole f m t z) (omega (arith, section-most (sheetCalls (planned f))))

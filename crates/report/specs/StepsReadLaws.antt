@@ -4,7 +4,7 @@
 --     call-says, calls-say, count-says                 lines and all lines say what they are printed for
 --     InBytes, AllInBytes, sheet-in-bytes              calls whose numbers are bytes; those of a sheet are
 --     callBytes, calls-back                            the bytes of calls, and the calls that they stand for
---     steps-fit                                        a sheet never has too many steps for a file
+--     steps-fit                                        up to 44 routers, a sheet never has too many steps for a file
 --     section-read, steps-read                         the section of such calls, and the steps of a file's sheet
 use Prim.Native.Nat.{ℕ, zero, suc, _+_, _/_, _%_, _≤_, _<_}
 use mathlib.Core.Path.{_≡_, ap, _∙_}
@@ -30,7 +30,7 @@ use Rattle.machine.specs.CallLaws.{no-call, next-call}
 use Rattle.sheet.specs.Sheet.{couldCome, placed, sheetOf}
 use Rattle.sheet.specs.SheetLaws.{sheet-at}
 use Rattle.sheet.specs.Follow.{each, callEach, callMembers, turn, sheetCalls}
-use Rattle.sheet.specs.LengthLaws.{calls-most}
+use Rattle.sheet.specs.LengthLaws.{alwaysFit, record-fits}
 use Rattle.sheet.specs.EachLaws.{each-none, each-more}
 use Rattle.bench_file.specs.Sections.{routers, changes}
 use Rattle.hex.specs.Hex.{most, unhexed}
@@ -158,16 +158,18 @@ module _ (f m : List ℕ) (t : Tables) (z : refusal f m t ≡ 0) where
       let few = router-count-most (routers f) (file-of f m t z .routers-in) in
       omega (arith, fresh-count (routers f) (metrics f) (changes f))
 
-  pub steps-fit : length (sheetCalls (planned f)) ≤ mostSteps
-  steps-fit = omega (arith, few-routers, calls-most (planned f) few-routers)
+  pub steps-fit : routers f ≤ alwaysFit → length (sheetCalls (planned f)) ≤ mostSteps
+  steps-fit few =
+      record-fits (planned f) (omega (arith, fresh-count (routers f) (metrics f) (changes f)))
 
   -- decoded, what is printed is a count of two bytes, and bytes that stand for the calls of the sheet
   pub steps-read :
       let calls = sheetCalls (planned f) in
-      (unhexed (sheetSteps f m t) ≡ (length calls / 256) ∷ (length calls % 256) ∷ callBytes calls)
+      length calls ≤ mostSteps
+      → (unhexed (sheetSteps f m t) ≡ (length calls / 256) ∷ (length calls % 256) ∷ callBytes calls)
       × (callsOf (callBytes calls) ≡ calls)
-  steps-read = (
+  steps-read fit = (
     ap unhexed (sheet-steps-whole f m t z)
-        ∙ section-read (sheetCalls (planned f)) (sheet-in-bytes (planned f) few-routers) steps-fit,
+        ∙ section-read (sheetCalls (planned f)) (sheet-in-bytes (planned f) few-routers) fit,
     calls-back (sheetCalls (planned f)),
   )

@@ -1,6 +1,7 @@
 // The routes: distances and next-hop sets of every pair of routers, before the change and after it.
 use crate::lines::Path;
 use crate::lines::route_line;
+use area::limits::Set;
 use area::limits::UNREACHED;
 use area::limits::WIDTH;
 use prepare::prepare;
@@ -25,8 +26,8 @@ pub fn routes(
     new: &mut [u32],
     old_dist: &mut [u32],
     new_dist: &mut [u32],
-    old_hops: &mut [u32],
-    new_hops: &mut [u32],
+    old_hops: &mut [Set],
+    new_hops: &mut [Set],
     out: &mut [u8],
 ) -> usize
     ensures text { λ r.
@@ -61,9 +62,9 @@ fn printed(
     number: u8,
     n: u8,
     old_dist: &[u32],
-    old_hops: &[u32],
+    old_hops: &[Set],
     new_dist: &[u32],
-    new_hops: &[u32],
+    new_hops: &[Set],
     out: &mut [u8],
 ) -> usize
     requires { ⌜
@@ -85,9 +86,9 @@ fn printed(
 fn route_lines(
     n: usize,
     old_dist: &[u32],
-    old_hops: &[u32],
+    old_hops: &[Set],
     new_dist: &[u32],
-    new_hops: &[u32],
+    new_hops: &[Set],
     out: &mut [u8],
 ) -> usize
     requires { ⌜ n ≤ width ⌝ }
@@ -110,9 +111,9 @@ fn row_lines(
     n: usize,
     i: usize,
     old_dist: &[u32],
-    old_hops: &[u32],
+    old_hops: &[Set],
     new_dist: &[u32],
-    new_hops: &[u32],
+    new_hops: &[Set],
     out: &mut [u8],
     start: usize,
 ) -> usize
@@ -146,7 +147,7 @@ fn pair_text(i: usize, j: usize, before: Path, after: Path, out: &mut [u8], at: 
     ensures text { λ r. ⌜ Appended (now (out .entry)) at (pairText i j before after) (now (out .exit)) r ⌝ }
 {
     if is_printed(i, j, before, after) {
-        return route_line(i as u32, j as u32, before, after, out, at);
+        return route_line(i as u64, j as u64, before, after, out, at);
     }
     at
 }

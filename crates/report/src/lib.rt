@@ -11,7 +11,7 @@
 // What is printed is specs/Report.antt, made of the lines of specs/Lines.antt. Why it is right: specs/LineLaws.antt,
 // SheetLineLaws.antt and CallLineLaws.antt join the parts of a line, and a line to those before it;
 // specs/ReportLaws.antt goes from what `prepare` gives to the whole text; specs/RoomLaws.antt says that ROOM bytes are
-// enough for it, and specs/FirstBytesLaws.antt that 17,565 bytes of an input are. specs/StepsReadLaws.antt reads the
+// enough for it, and specs/FirstBytesLaws.antt that 33,085 bytes of an input are. specs/StepsReadLaws.antt reads the
 // steps of the sheet again: they are the calls that the sheet stands for.
 mod all_routes;
 mod hex_lines;
@@ -22,9 +22,18 @@ mod step_section;
 mod turns;
 
 pub use all_routes::routes;
+use area::limits::CELLS;
+use area::limits::MOST_STEPS;
+use area::limits::WIDTH;
 pub use rehearsal::rehearse;
 pub use step_section::sheet_steps;
 pub use turns::sheet_turns;
 
-// As many bytes as have room for all that is printed for any file.
-pub const ROOM: usize = 147456;
+// As many bytes as have room for all that each function prints for any file: so many for a line, by LengthLaws.antt.
+pub const REHEARSAL_ROOM: usize = 133 * WIDTH + 55 * MOST_STEPS + 4;
+
+pub const ROUTES_ROOM: usize = 148 * CELLS;
+
+pub const SHEET_TURNS_ROOM: usize = (67 + 42 * WIDTH) * WIDTH + 4;
+
+pub const SHEET_STEPS_ROOM: usize = 5 + 9 * MOST_STEPS;

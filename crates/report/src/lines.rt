@@ -1,5 +1,6 @@
 // The lines that the programs print, each appended to the text in a lent buffer. `at` is where the text ends, and what
 // is returned is where it ends then.
+use area::limits::Set;
 use area::limits::UNREACHED;
 use area::limits::WIDTH;
 use machine::Answer;
@@ -19,16 +20,16 @@ ghost use Rattle.report.specs.Lines.{memberWord, memberText, setText, tu
 // The distance between two routers, and the next-hop set by which it is reached.
 pub struct Path {
     pub distance: u32,
-    pub hops: u32,
+    pub hops: Set,
 }
 
 // The line of router i.
 pub(crate) fn router_line(
-    i: u32,
+    i: u64,
     rank: u8,
-    waits: u32,
-    tells: u32,
-    due: u32,
+    waits: Set,
+    tells: Set,
+    due: Set,
     out: &mut [u8],
     at: usize,
 ) -> usize
@@ -36,14 +37,14 @@ pub(crate) fn router_line(
         Appended (now (out .entry)) at (routerLine i rank waits tells due) (now (out .exit)) r ⌝ }
 {
     let at = field(out, at, b"router ", i);
-    let at = field(out, at, b" rank ", rank as u32);
+    let at = field(out, at, b" rank ", rank as u64);
     let at = field(out, at, b" waits ", waits);
     let at = field(out, at, b" tells ", tells);
     line(out, at, b" due ", due)
 }
 
 // The line of step k.
-pub(crate) fn step_line(k: u32, answer: Answer, out: &mut [u8], at: usize) -> usize
+pub(crate) fn step_line(k: u64, answer: Answer, out: &mut [u8], at: usize) -> usize
     ensures line { λ r. ⌜ Appended (now (out .entry)) at (stepLine k (replyOf answer)) (now (out .exit)) r ⌝ }
 {
     let at = field(out, at, b"step ", k);
@@ -57,14 +58,14 @@ fn answer_text(answer: Answer, out: &mut [u8], at: usize) -> usize
     match answer {
         Answer::Ok => append(out, at, b" ok\n"),
         Answer::Ignored => append(out, at, b" ignored\n"),
-        Answer::Refused(why) => line(out, at, b" refused ", why.number() as u32),
+        Answer::Refused(why) => line(out, at, b" refused ", why.number() as u64),
     }
 }
 
 // The line of the pair (i, j): its path before the change, and after it.
 pub(crate) fn route_line(
-    i: u32,
-    j: u32,
+    i: u64,
+    j: u64,
     before: Path,
     after: Path,
     out: &mut [u8],
@@ -79,7 +80,7 @@ pub(crate) fn route_line(
 }
 
 // The two routers of a pair.
-fn ends(i: u32, j: u32, out: &mut [u8], at: usize) -> usize
+fn ends(i: u64, j: u64, out: &mut [u8], at: usize) -> usize
     ensures text { λ r. ⌜
         Appended (now (out .entry)) at (field (word "route ") i ++ field (word " ") j) (now (out .exit)) r ⌝ }
 {
@@ -102,30 +103,30 @@ fn path_text(p: Path, out: &mut [u8], at: usize) -> usize
     if p.distance == UNREACHED {
         return append(out, at, b" none");
     }
-    let at = field(out, at, b" ", p.distance);
+    let at = field(out, at, b" ", p.distance as u64);
     field(out, at, b" via ", p.hops)
 }
 
 // The line of turn k: the router, the destinations that it writes, and the routers that it tells.
 pub(crate) fn turn_line(
-    k: u32,
+    k: u64,
     router: u8,
-    writes: u32,
-    tells: u32,
+    writes: Set,
+    tells: Set,
     out: &mut [u8],
     at: usize,
 ) -> usize
     ensures line { λ r. ⌜ Appended (now (out .entry)) at (turnLine k router writes tells) (now (out .exit)) r ⌝ }
 {
     let at = field(out, at, b"turn ", k);
-    let at = field(out, at, b" router ", router as u32);
+    let at = field(out, at, b" router ", router as u64);
     let at = named_set(b" writes", writes, out, at);
     let at = named_set(b" tells", tells, out, at);
     append(out, at, b"\n")
 }
 
 // A set after its name.
-fn named_set(name: &[u8], set: u32, out: &mut [u8], at: usize) -> usize
+fn named_set(name: &[u8], set: Set, out: &mut [u8], at: usize) -> usize
     ensures text { λ r. ⌜ Appended (now (out .entry)) at (now (name .entry) ++ setText set) (now (out .exit)) r ⌝ }
 {
     let at = append(out, at, name);
@@ -133,7 +134,7 @@ fn named_set(name: &[u8], set: u32, out: &mut [u8], at: usize) -> usize
 }
 
 // The members of a set, or that it has none.
-fn set_text(set: u32, out: &mut [u8], at: usize) -> usize
+fn set_text(set: Set, out: &mut [u8], at: usize) -> usize
     requires { ⌜ at ≤ length (now out) ⌝ }
     ensures text { λ r. ⌜ Appended (now (out .entry)) at (setText set) (now (out .exit)) r ⌝ }
 {
@@ -144,7 +145,7 @@ fn set_text(set: u32, out: &mut [u8], at: usize) -> usize
 }
 
 // The members of a set, each after a space.
-fn member_text(set: u32, out: &mut [u8], start: usize) -> usize
+fn member_text(set: Set, out: &mut [u8], start: usize) -> usize
     requires { ⌜ start ≤ length (now out) ⌝ }
     ensures text { λ r. ⌜ Appended (now (out .entry)) start (memberText set width) (now (out .exit)) r ⌝ }
 {
@@ -156,12 +157,12 @@ fn member_text(set: u32, out: &mut [u8], start: usize) -> usize
 }
 
 // Router k after a space, where it is a member.
-fn one_member(set: u32, k: usize, out: &mut [u8], at: usize) -> usize
+fn one_member(set: Set, k: usize, out: &mut [u8], at: usize) -> usize
     requires { ⌜ (k < width) × (at ≤ length (now out)) ⌝ }
     ensures text { λ r. ⌜ Appended (now (out .entry)) at (memberWord set k) (now (out .exit)) r ⌝ }
 {
     if member(set, k) {
-        return field(out, at, b" ", k as u32);
+        return field(out, at, b" ", k as u64);
     }
     at
 }

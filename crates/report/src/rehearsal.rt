@@ -2,6 +2,7 @@
 use crate::lines::router_line;
 use crate::lines::step_line;
 use area::limits::STEP;
+use area::limits::Set;
 use bench_file::Section;
 use in_place::applied;
 use plan::Record;
@@ -30,8 +31,8 @@ pub fn rehearse(
     new: &mut [u32],
     old_dist: &mut [u32],
     new_dist: &mut [u32],
-    old_hops: &mut [u32],
-    new_hops: &mut [u32],
+    old_hops: &mut [Set],
+    new_hops: &mut [Set],
     out: &mut [u8],
 ) -> usize
     ensures text { λ r.
@@ -100,7 +101,7 @@ fn router_lines(fresh: Record, out: &mut [u8]) -> usize
     let mut at = 0;
     for i in 0..n {
         at = router_line(
-            i as u32,
+            i as u64,
             fresh.ranks[i],
             fresh.waiting[i],
             fresh.telling[i],

@@ -1,5 +1,6 @@
 // How many steps it takes to follow a sheet: the calls of crates/sheet/specs/Follow.antt, counted.
 use crate::turns::entry;
+use area::limits::Set;
 use area::limits::WIDTH;
 use plan::Record;
 use sets::member;
@@ -50,7 +51,7 @@ fn turn_count(fresh: Record, router: u8) -> usize
 }
 
 // The members of a set that are below n.
-fn member_count(set: u32, n: usize) -> usize
+fn member_count(set: Set, n: usize) -> usize
     requires { ⌜ n ≤ width ⌝ }
     ensures { λ r. ⌜ r ≤ n ⌝ }
     ensures count { λ r. ⌜ r ≡ size n set ⌝ }

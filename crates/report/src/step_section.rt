@@ -4,6 +4,7 @@ use crate::hex_lines::count_line;
 use crate::step_count::step_count;
 use crate::turns::entry;
 use area::limits::MOST_STEPS;
+use area::limits::Set;
 use area::limits::WIDTH;
 use machine::DELIVER;
 use machine::FINISH;
@@ -40,8 +41,8 @@ pub fn sheet_steps(
     new: &mut [u32],
     old_dist: &mut [u32],
     new_dist: &mut [u32],
-    old_hops: &mut [u32],
-    new_hops: &mut [u32],
+    old_hops: &mut [Set],
+    new_hops: &mut [Set],
     out: &mut [u8],
 ) -> usize
     ensures text { λ r.
@@ -84,7 +85,7 @@ fn section(fresh: Record, out: &mut [u8]) -> usize
     let places = in_turn(fresh);
     let count = step_count(fresh, places);
     if MOST_STEPS < count {
-        return line(out, 0, b"too many steps: ", count as u32);
+        return line(out, 0, b"too many steps: ", count as u64);
     }
     let at = count_line(count as u16, out, 0);
     sheet_lines(fresh, places, out, at)
@@ -147,7 +148,7 @@ fn turn_calls(fresh: Record, router: u8, out: &mut [u8], at: usize) -> usize
 }
 
 // A call of router a for each member of a set.
-fn member_calls(kind: u8, a: u8, set: u32, n: usize, out: &mut [u8], start: usize) -> usize
+fn member_calls(kind: u8, a: u8, set: Set, n: usize, out: &mut [u8], start: usize) -> usize
     requires { ⌜ (n ≤ width) × (start ≤ length (now out)) ⌝ }
     ensures lines { λ r.
         let lines = callLines (callMembers n set (λ x. call kind a x)) in
@@ -161,7 +162,7 @@ fn member_calls(kind: u8, a: u8, set: u32, n: usize, out: &mut [u8], start: usiz
 }
 
 // A call of router a for x, where x is a member of the set.
-fn member_call(kind: u8, a: u8, set: u32, x: usize, out: &mut [u8], at: usize) -> usize
+fn member_call(kind: u8, a: u8, set: Set, x: usize, out: &mut [u8], at: usize) -> usize
     requires { ⌜ (x < width) × (at ≤ length (now out)) ⌝ }
     ensures lines { λ r.
         let lines = callLines (pick (bit set x) (call kind a x ∷ []) []) in

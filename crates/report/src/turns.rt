@@ -1,5 +1,6 @@
 // The running sheet: a line for each turn, and an end.
 use crate::lines::turn_line;
+use area::limits::Set;
 use area::limits::WIDTH;
 use plan::Record;
 use prepare::prepare;
@@ -25,8 +26,8 @@ pub fn sheet_turns(
     new: &mut [u32],
     old_dist: &mut [u32],
     new_dist: &mut [u32],
-    old_hops: &mut [u32],
-    new_hops: &mut [u32],
+    old_hops: &mut [Set],
+    new_hops: &mut [Set],
     out: &mut [u8],
 ) -> usize
     ensures text { λ r.
@@ -73,13 +74,13 @@ fn turn_lines(fresh: Record, places: [u8; WIDTH], out: &mut [u8]) -> usize
     let mut at = 0;
     for k in 0..n {
         let router = places[k];
-        at = turn_of(fresh, k as u32 + 1, router, out, at);
+        at = turn_of(fresh, k as u64 + 1, router, out, at);
     }
     at
 }
 
 // The line of a router's turn.
-fn turn_of(fresh: Record, k: u32, router: u8, out: &mut [u8], at: usize) -> usize
+fn turn_of(fresh: Record, k: u64, router: u8, out: &mut [u8], at: usize) -> usize
     ensures line { λ r. ⌜ Appended (now (out .entry)) at (turnLineOf fresh k router) (now (out .exit)) r ⌝ }
 {
     let due = fresh.due;
@@ -90,7 +91,7 @@ fn turn_of(fresh: Record, k: u32, router: u8, out: &mut [u8], at: usize) -> usiz
 }
 
 // A router's entry of a table per router; 0 for a number that is no router of any area.
-pub(crate) fn entry(table: &[u32], router: u8) -> u32
+pub(crate) fn entry(table: &[Set], router: u8) -> Set
     ensures entry { λ r. ⌜ r ≡ getD (now (table .entry)) router 0 ⌝ }
 {
     let i = router as usize;

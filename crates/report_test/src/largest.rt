@@ -1,10 +1,29 @@
-// The largest file: 32 routers, a link from each to each other, 62 changes and 4,096 steps, each by a rule.
+// The largest file: WIDTH routers, a link from each to each other, and as many changes and steps as may be, each by a
+// rule.
+use area::limits::ENTRY;
 use area::limits::LARGEST;
-ghost use Prim.Native.Nat.{_<_};
+use area::limits::MOST_CHANGES;
+use area::limits::MOST_STEPS;
+use area::limits::STEP;
+use area::limits::WIDTH;
+ghost use Prim.Native.Nat.{_*_, _-_, _<_};
+ghost use Rattle.area.specs.Limits.{width, mostChanges, mostSteps};
+ghost use Rattle.bench_file.specs.Sections.{largest};
+
+const OTHERS: usize = WIDTH - 1;
+
+const LINKS: usize = WIDTH * OTHERS;
+
+// Where the links begin, the changes and the steps. Before each part stands its count.
+pub const LINKS_AT: usize = 3;
+
+const CHANGES_AT: usize = LINKS_AT + ENTRY * LINKS + 1;
+
+const STEPS_AT: usize = CHANGES_AT + ENTRY * MOST_CHANGES + 2;
 
 // The file, and after it a byte that is one too many.
 pub fn fill(file: &mut [u8; LARGEST + 1]) {
-    for at in 0..17564 {
+    for at in 0..LARGEST {
         file[at] = byte(part(at));
     }
 }
@@ -13,53 +32,53 @@ fn byte(x: usize) -> u8 {
     (x % 256) as u8
 }
 
-// The byte at a place. The links begin at 3, the changes at 4,964 and the steps at 5,276. Before each part stands its
-// count: 992, 62 and 4,096.
+// The byte at a place.
 fn part(at: usize) -> usize
-    requires { ⌜ at < 17564 ⌝ }
+    requires { ⌜ at < largest ⌝ }
 {
-    if 5275 < at {
-        return step((at - 5276) / 3, at % 3);
+    if STEPS_AT <= at {
+        return step((at - STEPS_AT) / STEP, (at - STEPS_AT) % STEP);
     }
-    if 5273 < at {
-        return 16 * (5275 - at);
+    if STEPS_AT - 2 <= at {
+        return two(MOST_STEPS, at - (STEPS_AT - 2));
     }
-    if 4963 < at {
-        return change((at - 4964) / 5, (at - 4964) % 5);
+    if CHANGES_AT <= at {
+        return change((at - CHANGES_AT) / ENTRY, (at - CHANGES_AT) % ENTRY);
     }
-    if 4962 < at {
-        return 62;
+    if CHANGES_AT - 1 <= at {
+        return MOST_CHANGES;
     }
-    if 2 < at {
-        return link((at - 3) / 5, (at - 3) % 5);
+    if LINKS_AT <= at {
+        return link((at - LINKS_AT) / ENTRY, (at - LINKS_AT) % ENTRY);
     }
-    match at {
-        0 => 32,
-        1 => 3,
-        _ => 224,
-    }
+    if at < 1 { WIDTH } else { two(LINKS, at - 1) }
 }
 
-// The 31 links of router 0, then those of router 1, and so on.
+// A byte of a count, the high one first.
+fn two(count: usize, place: usize) -> usize {
+    if place == 0 { count / 256 } else { count }
+}
+
+// The links of router 0, then those of router 1, and so on.
 fn link(e: usize, place: usize) -> usize
-    requires { ⌜ e < 992 ⌝ }
+    requires { ⌜ e < width * (width - 1) ⌝ }
 {
-    let i = e / 31;
-    let j = other(i, e % 31);
+    let i = e / OTHERS;
+    let j = other(i, e % OTHERS);
     entry(place, i, j, metric(i, j))
 }
 
 // The k-th router of those that are not i.
 fn other(i: usize, k: usize) -> usize
-    requires { ⌜ k < 31 ⌝ }
-    ensures { λ r. ⌜ r < 32 ⌝ }
+    requires { ⌜ k < width - 1 ⌝ }
+    ensures { λ r. ⌜ r < width ⌝ }
 {
     if k < i { k } else { k + 1 }
 }
 
 // Every link of router 0 becomes worse, or goes down, in both directions.
 fn change(e: usize, place: usize) -> usize
-    requires { ⌜ e < 62 ⌝ }
+    requires { ⌜ e < mostChanges ⌝ }
 {
     let j = e / 2 + 1;
     if e % 2 == 0 {
@@ -70,7 +89,7 @@ fn change(e: usize, place: usize) -> usize
 }
 
 fn metric(i: usize, j: usize) -> usize
-    requires { ⌜ (i < 32) × (j < 32) ⌝ }
+    requires { ⌜ (i < width) × (j < width) ⌝ }
     ensures { λ r. ⌜ r < 30 ⌝ }
 {
     if i == 0 || j == 0 {
@@ -80,7 +99,7 @@ fn metric(i: usize, j: usize) -> usize
 }
 
 fn worse(i: usize, j: usize) -> usize
-    requires { ⌜ (i < 32) × (j < 32) ⌝ }
+    requires { ⌜ (i < width) × (j < width) ⌝ }
 {
     if (i + j) % 2 == 1 {
         return 16777215;
@@ -101,38 +120,39 @@ fn entry(place: usize, from: usize, to: usize, m: usize) -> usize {
 
 // First every router learns and is released. Here and there a step is of any kind and any routers.
 fn step(k: usize, place: usize) -> usize
-    requires { ⌜ k < 4096 ⌝ }
+    requires { ⌜ k < mostSteps ⌝ }
 {
     if k % 100 == 99 {
-        return call(place, k % 8, k % 35, k % 34);
+        return call(place, k % 8, k % (WIDTH + 3), k % (WIDTH + 2));
     }
-    if k < 32 {
+    if k < WIDTH {
         return call(place, 1, k, 0);
     }
-    if k < 64 {
-        return call(place, 2, k - 32, 0);
+    if k < 2 * WIDTH {
+        return call(place, 2, k - WIDTH, 0);
     }
-    turn(7 * ((k - 64) / 64) % 32, (k - 64) % 64, place)
+    let p = k - 2 * WIDTH;
+    turn(7 * (p / (2 * WIDTH)) % WIDTH, p % (2 * WIDTH), place)
 }
 
 // The turn of router r: it writes to every router, finishes, and its message arrives at every other one.
 fn turn(r: usize, p: usize, place: usize) -> usize
-    requires { ⌜ (r < 32) × (p < 64) ⌝ }
+    requires { ⌜ (r < width) × (p < 2 * width) ⌝ }
 {
-    if p < 32 {
+    if p < WIDTH {
         return call(place, 3, r, p);
     }
-    if p == 32 {
+    if p == WIDTH {
         return call(place, 4, r, 0);
     }
-    call(place, 5, r, (r + p) % 32)
+    call(place, 5, r, (r + p) % WIDTH)
 }
 
-// The kind of a step, and its two bytes. The steps begin at a place that leaves 2 when it is divided by 3.
+// The kind of a step, and its two bytes.
 fn call(place: usize, kind: usize, a: usize, b: usize) -> usize {
     match place {
-        2 => kind,
-        0 => a,
+        0 => kind,
+        1 => a,
         _ => b,
     }
 }

@@ -1,10 +1,12 @@
-// Prints the rehearsals, and some routes, of the files of the cases of standard input. The first lines of stdin say
-// what a case is.
-//     run        the lines of the input: of a case its name is printed, and under it what its file gives
-//     file       the file of a case, from its hexadecimal or the largest one
-//     largest    the largest file, by a rule
-//     texts      the text of a file
-//     summary    prints a text, or of a long one some lines
+// Prints the rehearsals of the files of the cases of standard input, and of some the routes or the running sheet. The
+// first lines of stdin say what a case is.
+//     run         the lines of the input: of a case its name is printed, and under it what its file gives
+//     file        the file of a case, from its hexadecimal, from words, or the largest one
+//     by_words    a file from words
+//     largest     the largest file, by a rule
+//     texts       the text of a file
+//     summary     prints a text, or of a long one some lines
+mod by_words;
 mod file;
 mod largest;
 mod summary;
@@ -18,7 +20,7 @@ ghost use Prim.Native.Nat.{_≤_};
 ghost use lib.ListN.{length};
 
 fn main() {
-    let mut input = [0u8; 16384];
+    let mut input = [0u8; 32768];
     let length = io::read_full(STDIN_FILENO, &mut input);
     run(&input[..length]);
 }
@@ -37,7 +39,7 @@ fn case(line: &[u8]) {
     }
 }
 
-// The words, and the file in hexadecimal.
+// The words, and what says the file.
 fn parts(case: &[u8]) {
     let from = end_of_words(case);
     file::run(&case[0..from], &case[from..]);

@@ -1,4 +1,6 @@
-// A text, and of a long one its length, a checksum, its first lines and its last ones.
+// A text, and of a long one its length, a checksum and its first lines, and of the longest rehearsal the last ones.
+use area::limits::MOST_STEPS;
+use area::limits::WIDTH;
 use cases::lines;
 use cases::print;
 ghost use Prim.Native.Nat.{_<_};
@@ -11,14 +13,15 @@ pub fn print(text: &[u8]) {
     }
 }
 
-// The text of 32 routers and 4,096 steps: 34 lines, and the last three of 4,129.
+// The rehearsal of most routers and most steps has a line for each, and one more: the lines of the routers and of two
+// steps, and the last three.
 fn short(text: &[u8]) {
     print::form(
         b"length #\nchecksum #\n",
         &[text.len() as u64, checksum(text)],
     );
-    let first = lines::start(text, 34);
-    let last = lines::start(text, 4126);
+    let first = lines::start(text, WIDTH + 2);
+    let last = lines::start(text, WIDTH + MOST_STEPS - 2);
     print::text(&text[0..first]);
     print::text(&text[last..]);
 }

@@ -1,67 +1,50 @@
 // The text of a file. The tables hold other numbers before, and none of those may show.
 use crate::summary;
+use area::limits::Set;
+use cases::LONG_TABLE;
+use cases::print;
 use cases::read;
-use report::ROOM;
+use report::ROUTES_ROOM;
 ghost use mathlib.Core.Path.{_≡_};
 ghost use Prim.Native.Nat.{_≤_};
 ghost use lib.ListN.{length, take};
 
-// Prints the rehearsal of a file, or its routes where the words say so.
+// Prints the text that the words say, or with the letter b whether the file is taken for a text.
 pub fn print(words: &[u8], file: &[u8]) {
-    let mut out = [0u8; ROOM];
+    if !has(words, b'b') {
+        of_file(words, file);
+    } else if hex::is_text(file) {
+        print::text(b"text\n");
+    } else {
+        print::text(b"binary\n");
+    }
+}
+
+// No text has more bytes than the routes.
+fn of_file(words: &[u8], file: &[u8]) {
+    let mut out = [0u8; ROUTES_ROOM];
     let length = text(words, file, &mut out);
     summary::print(&out[..length]);
 }
 
-// Puts the text at the start of `out`, and gives its length.
+// Puts the text at the start of `out`, and gives its length. Of each table as many cells are lent as the words say.
 fn text(words: &[u8], file: &[u8], out: &mut [u8]) -> usize
     ensures { λ r. ⌜ (r ≤ length (now (out .exit))) × (r ≡ length (take r (now (out .exit)))) ⌝ }
 {
-    if read::find(words, b'r') < words.len() {
-        routes(file, out)
-    } else {
-        rehearsal(words, file, out)
-    }
-}
-
-fn routes(file: &[u8], out: &mut [u8]) -> usize
-    ensures { λ r. ⌜ (r ≤ length (now (out .exit))) × (r ≡ length (take r (now (out .exit)))) ⌝ }
-{
-    let mut old = [1u32; 1024];
-    let mut new = [2u32; 1024];
-    let mut old_dist = [3u32; 1024];
-    let mut new_dist = [5u32; 1024];
-    let mut old_hops = [7u32; 1024];
-    let mut new_hops = [4294967295u32; 1024];
-    report::routes(
-        file,
-        &mut old,
-        &mut new,
-        &mut old_dist,
-        &mut new_dist,
-        &mut old_hops,
-        &mut new_hops,
-        out,
-    )
-}
-
-// The rehearsal with as many cells of each table as the words say.
-fn rehearsal(words: &[u8], file: &[u8], out: &mut [u8]) -> usize
-    ensures { λ r. ⌜ (r ≤ length (now (out .exit))) × (r ≡ length (take r (now (out .exit)))) ⌝ }
-{
-    let mut old = [1u32; 1025];
-    let mut new = [2u32; 1025];
-    let mut old_dist = [3u32; 1025];
-    let mut new_dist = [5u32; 1025];
-    let mut old_hops = [7u32; 1025];
-    let mut new_hops = [4294967295u32; 1025];
-    let a = read::size(words, 0, 1025);
-    let b = read::size(words, 1, 1025);
-    let c = read::size(words, 2, 1025);
-    let d = read::size(words, 3, 1025);
-    let e = read::size(words, 4, 1025);
-    let f = read::size(words, 5, 1025);
-    report::rehearse(
+    let mut old = [1u32; LONG_TABLE];
+    let mut new = [2u32; LONG_TABLE];
+    let mut old_dist = [3u32; LONG_TABLE];
+    let mut new_dist = [5u32; LONG_TABLE];
+    let mut old_hops: [Set; LONG_TABLE] = [7; LONG_TABLE];
+    let mut new_hops: [Set; LONG_TABLE] = [18446744073709551615; LONG_TABLE];
+    let a = read::size(words, 0, LONG_TABLE);
+    let b = read::size(words, 1, LONG_TABLE);
+    let c = read::size(words, 2, LONG_TABLE);
+    let d = read::size(words, 3, LONG_TABLE);
+    let e = read::size(words, 4, LONG_TABLE);
+    let f = read::size(words, 5, LONG_TABLE);
+    by_letter(
+        words,
         file,
         &mut old[..a],
         &mut new[..b],
@@ -71,4 +54,34 @@ fn rehearsal(words: &[u8], file: &[u8], out: &mut [u8]) -> usize
         &mut new_hops[..f],
         out,
     )
+}
+
+// The routes (r), the running sheet (t), its steps (s), or with no letter the rehearsal.
+fn by_letter(
+    words: &[u8],
+    file: &[u8],
+    old: &mut [u32],
+    new: &mut [u32],
+    old_dist: &mut [u32],
+    new_dist: &mut [u32],
+    old_hops: &mut [Set],
+    new_hops: &mut [Set],
+    out: &mut [u8],
+) -> usize
+    ensures { λ r. ⌜ (r ≤ length (now (out .exit))) × (r ≡ length (take r (now (out .exit)))) ⌝ }
+{
+    if has(words, b'r') {
+        return report::routes(file, old, new, old_dist, new_dist, old_hops, new_hops, out);
+    }
+    if has(words, b't') {
+        return report::sheet_turns(file, old, new, old_dist, new_dist, old_hops, new_hops, out);
+    }
+    if has(words, b's') {
+        return report::sheet_steps(file, old, new, old_dist, new_dist, old_hops, new_hops, out);
+    }
+    report::rehearse(file, old, new, old_dist, new_dist, old_hops, new_hops, out)
+}
+
+fn has(words: &[u8], letter: u8) -> bool {
+    read::find(words, letter) < words.len()
 }

@@ -1,44 +1,54 @@
-// All 992 links of 32 routers, and every other one is dead: the first, the third and so on. What is written for them is
-// compared with the file of the other 496 links, which is made by the same rule.
+// All links of WIDTH routers, and every other one is dead: the first, the third and so on. What is written for them is
+// compared with the file of the other half, which is made by the same rule.
+use area::limits::ENTRY;
+use area::limits::WIDTH;
 use cases::print;
-ghost use Prim.Native.Nat.{_≤_, _<_};
+ghost use Prim.Native.Nat.{_*_, _+_, _-_, _≤_, _<_};
+ghost use Rattle.area.specs.Limits.{width};
+
+const OTHERS: usize = WIDTH - 1;
+
+const LINKS: usize = WIDTH * OTHERS;
+
+// Bytes of the file, which has no change and no step.
+const LENGTH: usize = 6 + ENTRY * LINKS;
 
 pub fn run() {
-    let mut file = [0u8; 4966];
-    let mut expected = [0u8; 4966];
-    fill(&mut file, 992);
-    fill(&mut expected, 496);
+    let mut file = [0u8; LENGTH];
+    let mut expected = [0u8; LENGTH];
+    fill(&mut file, LINKS);
+    fill(&mut expected, LINKS / 2);
     compare(&file, &expected);
 }
 
 // Prints the length of what is written, and how many of its bytes are not those of the other file.
-fn compare(file: &[u8; 4966], expected: &[u8; 4966]) {
-    let mut out = [0u8; 4966];
+fn compare(file: &[u8; LENGTH], expected: &[u8; LENGTH]) {
+    let mut out = [0u8; LENGTH];
     let length = rewriting::rewrite(&file[..], &mut out);
     let others = differing(&out[..length], &expected[..]);
     print::form(b"length #\ndiffering #\n", &[length as u64, others]);
 }
 
-// 32 routers and all 992 links, or the 496 that are not dead. No change and no step follows.
-fn fill(file: &mut [u8; 4966], links: usize)
-    requires { ⌜ links ≤ 992 ⌝ }
+// All links, or those that are not dead, by how many they are.
+fn fill(file: &mut [u8; LENGTH], links: usize)
+    requires { ⌜ links ≤ width * (width - 1) ⌝ }
 {
-    for at in 0..4966 {
+    for at in 0..LENGTH {
         file[at] = (part(at, links) % 256) as u8;
     }
 }
 
 fn part(at: usize, links: usize) -> usize
-    requires { ⌜ (at < 4966) × (links ≤ 992) ⌝ }
+    requires { ⌜ (at < 6 + 5 * (width * (width - 1))) × (links ≤ width * (width - 1)) ⌝ }
 {
-    if 3 + 5 * links <= at {
+    if 3 + ENTRY * links <= at {
         return 0;
     }
     if 2 < at {
-        return link(place((at - 3) / 5, links), (at - 3) % 5);
+        return link(place((at - 3) / ENTRY, links), (at - 3) % ENTRY);
     }
     match at {
-        0 => 32,
+        0 => WIDTH,
         1 => links / 256,
         _ => links,
     }
@@ -46,18 +56,18 @@ fn part(at: usize, links: usize) -> usize
 
 // The place of link e among all links.
 fn place(e: usize, links: usize) -> usize
-    requires { ⌜ e < 1000 ⌝ }
-    ensures { λ r. ⌜ r < 2048 ⌝ }
+    requires { ⌜ e < width * width ⌝ }
+    ensures { λ r. ⌜ r < 2 * (width * width) ⌝ }
 {
-    if links < 992 { 2 * e + 1 } else { e }
+    if links < LINKS { 2 * e + 1 } else { e }
 }
 
-// The 31 links of router 0, then those of router 1, and so on.
+// The links of router 0, then those of router 1, and so on.
 fn link(place: usize, byte: usize) -> usize
-    requires { ⌜ place < 2048 ⌝ }
+    requires { ⌜ place < 2 * (width * width) ⌝ }
 {
-    let i = place / 31;
-    let k = place % 31;
+    let i = place / OTHERS;
+    let k = place % OTHERS;
     match byte {
         0 => i,
         1 => { if k < i { k } else { k + 1 } }

@@ -2,7 +2,7 @@
 // The first lines of stdin say what a case is.
 //     run          the lines of the input: of a case its name is printed, and under it what its file gives
 //     file         the file of a case, from its hexadecimal or by a rule
-//     half_dead    all links of 32 routers, of which every other one is dead
+//     half_dead    all links of most routers, of which every other one is dead
 //     output       prints what is written for a file
 mod file;
 mod half_dead;

@@ -4,17 +4,17 @@
 // have room for both.
 use area::limits::CELLS;
 use area::limits::LARGEST;
+use area::limits::Set;
 use area::limits::UNUSED;
-use report::ROOM;
+use report::ROUTES_ROOM;
 ghost use mathlib.Core.Path.{_≡_};
 ghost use mathlib.Core.List.{List};
-ghost use Prim.Native.Nat.{ℕ, _≤_, _<_};
+ghost use Prim.Native.Nat.{ℕ, _<_};
 ghost use lib.ListN.{length, take};
 ghost use Rattle.io.specs.Counts.{Counts};
 ghost use Rattle.plan.specs.Plan.{asTables};
 ghost use Rattle.bench_file.specs.Sections.{largest};
 ghost use Rattle.report.specs.Report.{routes};
-ghost use Rattle.report.specs.RoomLaws.{room};
 ghost use Rattle.streams.specs.Streams.{ReadOf};
 
 fn main() {
@@ -28,9 +28,9 @@ fn main() {
     let mut new = [UNUSED; CELLS];
     let mut old_dist = [0u32; CELLS];
     let mut new_dist = [0u32; CELLS];
-    let mut old_hops = [0u32; CELLS];
-    let mut new_hops = [0u32; CELLS];
-    let mut out = [0u8; ROOM];
+    let mut old_hops: [Set; CELLS] = [0; CELLS];
+    let mut new_hops: [Set; CELLS] = [0; CELLS];
+    let mut out = [0u8; ROUTES_ROOM];
     let printed = whole(
         &file,
         input.length,
@@ -54,13 +54,12 @@ fn whole(
     new: &mut [u32],
     old_dist: &mut [u32],
     new_dist: &mut [u32],
-    old_hops: &mut [u32],
-    new_hops: &mut [u32],
-    out: &mut [u8],
+    old_hops: &mut [Set],
+    new_hops: &mut [Set],
+    out: &mut [u8; ROUTES_ROOM],
 ) -> usize
     requires { ⌜ largest < length (now file) ⌝ }
     requires { ⌜ Counts count (now file) ⌝ }
-    requires { ⌜ room ≤ length (now out) ⌝ }
     ensures counted { λ r. ⌜ Counts r (now (out .exit)) ⌝ }
     ensures text { λ r.
         let lent = asTables (now (new .entry))

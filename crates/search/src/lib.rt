@@ -10,6 +10,7 @@ mod nearest;
 mod offers;
 
 use area::limits::CELLS;
+use area::limits::Set;
 use area::limits::UNREACHED;
 use area::limits::UNUSED;
 use area::limits::WIDTH;
@@ -27,7 +28,7 @@ ghost use Rattle.search.specs.Rows.{areSizes, distanceRow, hopRow};
 ghost use Rattle.search.specs.Search.{RowsRelaxed};
 
 // The source's rows of distances and of next hops; where a size is wrong, nothing is written.
-pub fn search(n: usize, metric: &[u32], source: usize, dist: &mut [u32], hops: &mut [u32])
+pub fn search(n: usize, metric: &[u32], source: usize, dist: &mut [u32], hops: &mut [Set])
     ensures distances { λ _. ⌜
         now (dist .exit)
         ≡ distanceRow n (now (metric .entry)) source (now (dist .entry)) (now (hops .entry)) ⌝ }
@@ -57,7 +58,7 @@ fn are_sizes(n: usize, cells: usize, distances: usize, sets: usize) -> bool
 }
 
 // The source's rows. Those of a router from n on are blank.
-fn rows(n: usize, metric: &[u32], source: usize, dist: &mut [u32], hops: &mut [u32])
+fn rows(n: usize, metric: &[u32], source: usize, dist: &mut [u32], hops: &mut [Set])
     requires { ⌜ (n ≤ width) × (length (now metric) ≡ width * width) ⌝ }
     requires { ⌜ (length (now dist) ≡ width) × (length (now hops) ≡ width) ⌝ }
     ensures { λ _. ⌜ now (dist .exit) ≡ build width (distanceCell n (now (metric .entry)) source) ⌝ }
@@ -70,7 +71,7 @@ fn rows(n: usize, metric: &[u32], source: usize, dist: &mut [u32], hops: &mut [u
 }
 
 // No router is reached, and none has a next hop.
-fn blank(dist: &mut [u32], hops: &mut [u32])
+fn blank(dist: &mut [u32], hops: &mut [Set])
     requires { ⌜ (length (now dist) ≡ width) × (length (now hops) ≡ width) ⌝ }
     ensures { λ _. ⌜ ((j : ℕ) → j < width → getD (now (dist .exit)) j 0 ≡ unreached) ⌝ }
     ensures { λ _. ⌜ ((j : ℕ) → j < width → getD (now (hops .exit)) j 0 ≡ 0) ⌝ }
@@ -83,7 +84,7 @@ fn blank(dist: &mut [u32], hops: &mut [u32])
 
 // Settles the routers that can be reached, the nearest first: a router's distance is final when it is taken, not when
 // it is first reached.
-fn settle(n: usize, metric: &[u32], source: usize, dist: &mut [u32], hops: &mut [u32])
+fn settle(n: usize, metric: &[u32], source: usize, dist: &mut [u32], hops: &mut [Set])
     requires { ⌜ (n ≤ width) × (length (now metric) ≡ width * width) ⌝ }
     requires { ⌜ (source < n) × (length (now dist) ≡ width) × (length (now hops) ≡ width) ⌝ }
     requires { ⌜ ((j : ℕ) → j < width → getD (now dist) j 0 ≡ unreached) ⌝ }
@@ -91,7 +92,7 @@ fn settle(n: usize, metric: &[u32], source: usize, dist: &mut [u32], hops: &mut 
     ensures { λ _. ⌜ now (dist .exit) ≡ build width (distanceCell n (now (metric .entry)) source) ⌝ }
     ensures { λ _. ⌜ now (hops .exit) ≡ build width (hopCell n (now (metric .entry)) source) ⌝ }
 {
-    let mut settled: u32 = 0;
+    let mut settled: Set = 0;
     dist[source] = 0;
     loop {
         let q = nearest(n, dist, settled);
@@ -104,7 +105,7 @@ fn settle(n: usize, metric: &[u32], source: usize, dist: &mut [u32], hops: &mut 
 }
 
 // Every router that has a link from the settled router q is offered the way by q.
-fn relax(n: usize, metric: &[u32], source: usize, q: usize, dist: &mut [u32], hops: &mut [u32])
+fn relax(n: usize, metric: &[u32], source: usize, q: usize, dist: &mut [u32], hops: &mut [Set])
     requires { ⌜ (n ≤ width) × (length (now metric) ≡ width * width) ⌝ }
     requires { ⌜ (length (now dist) ≡ width) × (length (now hops) ≡ width) ⌝ }
     requires { ⌜ (q < n) × (getD (now dist) q 0 + unused ≤ unreached) ⌝ }

@@ -5,7 +5,7 @@
 --     turn-length, following-length        the calls of a turn, and of turns in any order
 --     places-total                         a sum over the places of a sheet is the sum over its routers
 --     ordered-length, sheet-length         the calls of an ordered record's sheet, and of a plan's: `callCount`
---     calls-most, sheet-fits               they are never more than a bench file has steps
+--     calls-most, sheet-fits               up to so many routers, they are never more than a bench file has steps
 use Prim.Native.Nat.{ℕ, zero, suc, _+_, _*_, _≤_, _<_}
 use mathlib.Core.Path.{_≡_, refl, sym, ap, _∙_}
 use mathlib.Core.Bool.{Bool, true, false}
@@ -156,26 +156,37 @@ pub sheet-length :
 sheet-length n m l t z =
     rw (record-planned n m l t (planned-true n m l t z)) (ordered-length (fresh-ordered n m l (plan-of n m l t z)))
 
--- ---- they are never more than a bench file has steps
-pub calls-most : (r : Record) → r .n ≤ width → length (sheetCalls r) ≤ 3 * r .n + 2 * width * r .n
-calls-most r most = omega (arith, following-length r (λ k. getD (sheetOf r) k 0), bound)
+-- ---- how many they are at most: no set has more members than there are routers
+pub calls-most : (r : Record) (most : ℕ) → r .n ≤ most → length (sheetCalls r) ≤ 3 * r .n + 2 * most * r .n
+calls-most r most few = omega (arith, following-length r (λ k. getD (sheetOf r) k 0), bound)
   where
-    at-most : (a : ℕ) → itsCalls r a ≤ 2 * width
+    at-most : (a : ℕ) → itsCalls r a ≤ 2 * most
     at-most a = omega (arith, size-most (r .n) (dueOf r a), size-most (r .n) (tellingOf r a))
 
-    bound : total (r .n) (λ k. itsCalls r (getD (sheetOf r) k 0)) ≤ 2 * width * r .n
+    bound : total (r .n) (λ k. itsCalls r (getD (sheetOf r) k 0)) ≤ 2 * most * r .n
     bound =
-        total-most (2 * width) (λ k. itsCalls r (getD (sheetOf r) k 0)) (r .n)
+        total-most (2 * most) (λ k. itsCalls r (getD (sheetOf r) k 0)) (r .n)
         (λ k h. at-most (getD (sheetOf r) k 0))
 
+-- Up to so many routers, a bench file has room for the steps of every sheet. A larger area can have more: where all
+-- links of one router fall in a full mesh of 64, a sheet has 4,161.
+abbrev pub alwaysFit : ℕ
+alwaysFit = 44
+
+pub record-fits : (r : Record) → r .n ≤ alwaysFit → length (sheetCalls r) ≤ mostSteps
+record-fits r few = omega (arith, calls-most r alwaysFit few)
+
 -- on every input, since the record of a refusal has no routers
-pub sheet-fits : (n : ℕ) (m l : List ℕ) (t : Tables) → length (sheetCalls (recordOf n m l t)) ≤ mostSteps
-sheet-fits n m l t = omega (arith, most, calls-most (recordOf n m l t) most)
+pub sheet-fits :
+    (n : ℕ) (m l : List ℕ) (t : Tables)
+    → n ≤ alwaysFit
+    → length (sheetCalls (recordOf n m l t)) ≤ mostSteps
+sheet-fits n m l t few = record-fits (recordOf n m l t) most
   where
-    most : recordOf n m l t .n ≤ width
+    most : recordOf n m l t .n ≤ alwaysFit
     most = elim (ℕ-discrete (planRefusal n m l (areTables m t)) 0) [
       | yes z ↦
           rw (record-planned n m l t (planned-true n m l t z))
-          (omega (arith, fresh-count n m l, plan-of n m l t z .ready .most))
+          (omega (arith, fresh-count n m l))
       | no f ↦ omega (arith, refused-count n m l t f)
     ]

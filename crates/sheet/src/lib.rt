@@ -7,6 +7,7 @@
 //     could_come    whether a router could
 // What they promise is specs/Sheet.antt; what makes it a sheet is specs/SheetLaws.antt. The calls of following a sheet
 // are specs/Follow.antt, and that they finish every router is specs/FollowLaws.antt.
+use area::limits::Set;
 use area::limits::WIDTH;
 use area::refusal::Verdict;
 use plan::Record;
@@ -40,8 +41,8 @@ pub fn sheet(
     new: &mut [u32],
     old_dist: &mut [u32],
     new_dist: &mut [u32],
-    old_hops: &mut [u32],
-    new_hops: &mut [u32],
+    old_hops: &mut [Set],
+    new_hops: &mut [Set],
 ) -> RunningSheet
     ensures answer { λ r.
         let lent = asTables (now (new .entry))
@@ -86,12 +87,12 @@ pub fn in_turn(first: Record) -> [u8; WIDTH]
 }
 
 // The router at each of n places.
-fn by_turns(n: usize, waiting: [u32; WIDTH]) -> [u8; WIDTH]
+fn by_turns(n: usize, waiting: [Set; WIDTH]) -> [u8; WIDTH]
     requires { ⌜ n ≤ width ⌝ }
     ensures { λ t. ⌜ t ≡ perRouter width n (placeAt n (λ r. getD waiting r 0)) ⌝ }
 {
     let mut routers = [0u8; WIDTH];
-    let mut placed = 0u32;
+    let mut placed: Set = 0;
     for k in 0..n {
         let next = next_after(n, waiting, placed);
         routers[k] = next as u8;
@@ -101,7 +102,7 @@ fn by_turns(n: usize, waiting: [u32; WIDTH]) -> [u8; WIDTH]
 }
 
 // The lowest router that could come after those that are placed; n where none could.
-fn next_after(n: usize, waiting: [u32; WIDTH], placed: u32) -> usize
+fn next_after(n: usize, waiting: [Set; WIDTH], placed: Set) -> usize
     requires { ⌜ n ≤ width ⌝ }
     ensures { λ r. ⌜ (r ≤ n) × (r ≡ nextAfter n (λ k. getD waiting k 0) placed) ⌝ }
 {
@@ -114,7 +115,7 @@ fn next_after(n: usize, waiting: [u32; WIDTH], placed: u32) -> usize
 }
 
 // Could router r, which waits for the set `waits`, come next? It is not placed, and all that it waits for are.
-fn could_come(waits: u32, placed: u32, r: usize) -> bool
+fn could_come(waits: Set, placed: Set, r: usize) -> bool
     ensures { λ b. ⌜ b ≡ (not (bit placed r) && subset width waits placed) ⌝ }
 {
     if member(placed, r) {

@@ -1,4 +1,5 @@
 // Records made by hand.
+use area::limits::WIDTH;
 use cases::read;
 use plan::Record;
 ghost use Prim.Native.Nat.{_<_};
@@ -18,12 +19,8 @@ fn with_word(mut r: Record, words: &[u8], k: usize) -> Record
     requires { ⌜ k < 200 ⌝ }
 {
     let i = read::number(words, k) as usize;
-    if read::mark(words, k) == b'w' && i < 32 {
-        r.waiting[i] = set(read::number(words, k + 1));
+    if read::mark(words, k) == b'w' && i < WIDTH {
+        r.waiting[i] = read::number(words, k + 1);
     }
     r
-}
-
-fn set(x: u64) -> u32 {
-    (x % 4294967296) as u32
 }

@@ -4,25 +4,29 @@ use crate::call::NEW_DISTANCE;
 use crate::call::NEW_SET;
 use crate::call::OLD_DISTANCE;
 use crate::call::OLD_SET;
+use area::limits::Set;
+use area::limits::WIDTH;
+use cases::LONG_TABLE;
 use cases::compare;
 use cases::print;
 use sheet::RunningSheet;
 ghost use Prim.Native.Nat.{_<_};
+ghost use Rattle.area.specs.Limits.{width};
 
 // How many cells of each table changed.
 pub(crate) fn changed(
-    new: &[u32; 1025],
-    old_dist: &[u32; 1025],
-    new_dist: &[u32; 1025],
-    old_hops: &[u32; 1025],
-    new_hops: &[u32; 1025],
+    new: &[u32; LONG_TABLE],
+    old_dist: &[u32; LONG_TABLE],
+    new_dist: &[u32; LONG_TABLE],
+    old_hops: &[Set; LONG_TABLE],
+    new_hops: &[Set; LONG_TABLE],
 ) {
     print::form(
         b" changed # # # # #",
         &[
-            compare::changed(new, NEW),
-            compare::changed(old_dist, OLD_DISTANCE),
-            compare::changed(new_dist, NEW_DISTANCE),
+            compare::changed(&compare::wide(new), NEW as u64),
+            compare::changed(&compare::wide(old_dist), OLD_DISTANCE as u64),
+            compare::changed(&compare::wide(new_dist), NEW_DISTANCE as u64),
             compare::changed(old_hops, OLD_SET),
             compare::changed(new_hops, NEW_SET),
         ],
@@ -41,23 +45,23 @@ pub(crate) fn sheet(n: usize, s: RunningSheet) {
     }
 }
 
-// The routers of n places, and how many of the other places are 0. There are 32 places, so that of a larger n none is
-// shown.
-pub(crate) fn routers(n: usize, listed: [u8; 32]) {
-    let shown = if n < 33 { n } else { 0 };
+// The routers of n places, and how many of the other places are 0. There are WIDTH places, so that of a larger n none
+// is shown.
+pub(crate) fn routers(n: usize, listed: [u8; WIDTH]) {
+    let shown = if n <= WIDTH { n } else { 0 };
     print::text(b" sheet");
     places(shown, listed);
     print::form(b" zeros #\n", &[zeros(shown, listed)]);
 }
 
-fn places(shown: usize, listed: [u8; 32]) {
-    for k in 0..32 {
+fn places(shown: usize, listed: [u8; WIDTH]) {
+    for k in 0..WIDTH {
         place(shown, listed, k);
     }
 }
 
-fn place(shown: usize, listed: [u8; 32], k: usize)
-    requires { ⌜ k < 32 ⌝ }
+fn place(shown: usize, listed: [u8; WIDTH], k: usize)
+    requires { ⌜ k < width ⌝ }
 {
     if k < shown {
         print::form(b" #", &[listed[k] as u64]);
@@ -65,9 +69,9 @@ fn place(shown: usize, listed: [u8; 32], k: usize)
 }
 
 // How many of the places from here on are 0.
-fn zeros(from: usize, listed: [u8; 32]) -> u64 {
+fn zeros(from: usize, listed: [u8; WIDTH]) -> u64 {
     let mut count = 0;
-    for k in 0..32 {
+    for k in 0..WIDTH {
         if from <= k && listed[k] == 0 {
             count += 1;
         }

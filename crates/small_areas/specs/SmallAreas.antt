@@ -7,9 +7,10 @@
 --     deadLinks        files that list dead links (02, No. 5)
 --     isisAreas        lists of IS-IS entries (02, No. 6), and
 --     isisFaults       those that are refused
+--     largest          the largest areas, and those that are too large (02, No. 7)
 --     rehearsed        and all that the rehearsal replies and prints
 --     agreed           the theorem
-use Prim.Native.Nat.{ℕ, _/_, _%_}
+use Prim.Native.Nat.{ℕ, zero, suc, _/_, _%_}
 use mathlib.Core.Path.{_≡_, refl}
 use mathlib.Core.List.{List, [], _∷_, _++_, map}
 use lib.ListN.{length, take, replicate}
@@ -165,14 +166,14 @@ C4 =
     case (bench 3 (triangle 3) (both 2 1 down) [])
     (root is 1 ∷ ranks is (0 ∷ 1 ∷ 0 ∷ []) ∷ waits is (0 ∷ 5 ∷ 0 ∷ []) ∷ [])
 
--- C5: a link that is not used. It is asked of the metric table alone, each of whose 1,024 cells is 16,777,215: no file
+-- C5: a link that is not used. It is asked of the metric table alone, each of whose 4,096 cells is 16,777,215: no file
 -- may list such a link (02, No. 5).
 --
 --        0 --16,777,215-> 1
 abbrev C5 : Case
 C5 =
     case []
-    (distanceBy 2 (replicate 1_024 down) 0 1 is 4_294_967_295 ∷ setBy 2 (replicate 1_024 down) 0 1 is 0 ∷ [])
+    (distanceBy 2 (replicate 4_096 down) 0 1 is 4_294_967_295 ∷ setBy 2 (replicate 4_096 down) 0 1 is 0 ∷ [])
 
 -- C6: the largest metric of a used link.
 --
@@ -227,9 +228,9 @@ C13 =
     (distance 0 2 is 16_777_215 ∷ set 0 2 is 2 ∷ [])
 
 -- ---- running sheets (02, No. 1)
--- these routers in their order, and 0 in all other of the 32 entries
+-- these routers in their order, and 0 in all other of the 64 entries
 abbrev places : (routers : List ℕ) → List ℕ
-places routers = take 32 (routers ++ replicate 32 0)
+places routers = take 64 (routers ++ replicate 64 0)
 
 -- In C1 and in C4 router 1 waits for 0 and 2.
 abbrev sheetC1 : Case
@@ -315,8 +316,8 @@ smallerAndDown =
     case (bench 3 (both 0 1 5 ++ both 1 2 1) (link 1 2 3 ++ link 2 1 down) [])
     (refusal is 0 ∷ root is 1 ∷ waits is (0 ∷ 5 ∷ 0 ∷ []) ∷ [])
 
--- 2→0 has no link back, so it has no effect; beside 1→0, which has one, it is allowed, and is listed: the root is 0,
--- the only router in common. With 2→3 there is none.
+-- 2→0 has no link back, so it has no effect; beside 1→0, which has one, it is allowed, and is listed: the root is
+-- 0, the only router in common. With 2→3 there is none.
 abbrev withoutEffect : Case
 withoutEffect = case (bench 3 (both 0 1 5) (link 1 0 7 ++ link 2 0 4) []) (refusal is 0 ∷ root is 0 ∷ [])
 
@@ -407,31 +408,31 @@ isisLink i j m = isisMetric 2 identities i j is m
 abbrev bothEnds : Case
 bothEnds =
     case (list (entry 0xB 5 []) ++ list (entry 0xA 7 []))
-    (isis 2 identities 1_024 is 0
+    (isis 2 identities 4_096 is 0
     ∷ isisLink 0 1 5 ∷ isisLink 1 0 7 ∷ isisLink 0 0 down ∷ isisLink 2 0 down ∷ [])
 
 -- Of two entries for one router the lower counts, whichever identity it has. Sub-TLVs are skipped.
 abbrev lowestEntry : Case
 lowestEntry =
     case (list (entry 0xB 5 [] ++ entry 0xC 3 (1 ∷ 2 ∷ 3 ∷ [])) ++ list [])
-    (isis 2 identities 1_024 is 0 ∷ isisLink 0 1 3 ∷ isisLink 1 0 down ∷ [])
+    (isis 2 identities 4_096 is 0 ∷ isisLink 0 1 3 ∷ isisLink 1 0 down ∷ [])
 
 -- An entry may have the metric of a link that is not used, and gives no link.
 abbrev deadEntry : Case
-deadEntry = case (list (entry 0xB down []) ++ list []) (isis 2 identities 1_024 is 0 ∷ isisLink 0 1 down ∷ [])
+deadEntry = case (list (entry 0xB down []) ++ list []) (isis 2 identities 4_096 is 0 ∷ isisLink 0 1 down ∷ [])
 
 -- After a refusal the metric table has no link, not even one of a list before the fault.
 abbrev afterRefusal : Case
 afterRefusal =
     case (list (entry 0xB 5 []) ++ list (entry 0xC 7 []))
-    (isis 2 identities 1_024 is 5 ∷ isisLink 0 1 down ∷ [])
+    (isis 2 identities 4_096 is 5 ∷ isisLink 0 1 down ∷ [])
 
 abbrev isisAreas : List Case
 isisAreas = bothEnds ∷ lowestEntry ∷ deadEntry ∷ afterRefusal ∷ []
 
 -- lists of two routers, and the number with which they are refused: 0 where they are not, as for 244 bytes of sub-TLVs
 abbrev isisRow : (lists : List ℕ) (number : ℕ) → Case
-isisRow lists number = case lists (isis 2 identities 1_024 is number ∷ [])
+isisRow lists number = case lists (isis 2 identities 4_096 is number ∷ [])
 
 -- The size of the metric table, then n, then the rows of the table of identities, then the lists.
 abbrev tableOrder : (n : ℕ) (table : List ℕ) (cells number : ℕ) → Case
@@ -447,10 +448,41 @@ isisFaults =
     ∷ isisRow (list (entry 0xA 0 []) ++ list []) 5
     ∷ isisRow (list (entry 0xB 0 []) ++ list (word "a")) 6
     ∷ isisRow (list [] ++ list [] ++ word "a") 2
-    ∷ tableOrder 2 (row 0xA 2 ++ (0x00 ∷ [])) 1_024 4
-    ∷ tableOrder 2 (identities ++ (0x00 ∷ [])) 1_024 1
-    ∷ tableOrder 33 (0x00 ∷ []) 1_024 3
-    ∷ tableOrder 33 (0x00 ∷ []) 1_023 8 ∷ []
+    ∷ tableOrder 2 (row 0xA 2 ++ (0x00 ∷ [])) 4_096 4
+    ∷ tableOrder 2 (identities ++ (0x00 ∷ [])) 4_096 1
+    ∷ tableOrder 65 (0x00 ∷ []) 4_096 3
+    ∷ tableOrder 65 (0x00 ∷ []) 4_095 8 ∷ []
+
+-- ---- the largest areas (02, No. 7)
+-- the links between router 0 and each of the next k, all of them down
+hub : (k : ℕ) → List ℕ
+hub zero = []
+hub (suc k) = hub k ++ both 0 (suc k) down
+
+-- A file has up to 64 routers.
+abbrev sixtyFour : Case
+sixtyFour = case (bench 64 (both 62 63 1) [] []) (oldRefusal is 0 ∷ [])
+
+abbrev sixtyFive : Case
+sixtyFive = case (bench 65 (both 62 63 1) [] []) (refusal is 3 ∷ oldRefusal is 3 ∷ [])
+
+-- A list has up to 126 changes, and then each of them is judged: router 2 is none of two.
+abbrev mostChanges : Case
+mostChanges = case (bench 2 [] (hub 63) []) (refusal is 4 ∷ [])
+
+abbrev moreChanges : Case
+moreChanges = case (bench 2 [] (hub 63 ++ link 1 2 down) []) (refusal is 9 ∷ [])
+
+-- the last two routers list each other
+abbrev lastTwo : Case
+lastTwo =
+    case (replicate 124 0 ++ list (entry 0xB 5 []) ++ list (entry 0xA 7 []))
+    (isis 64 (row 0xA 62 ++ row 0xB 63) 4_096 is 0
+    ∷ isisMetric 64 (row 0xA 62 ++ row 0xB 63) 62 63 is 5
+    ∷ isisMetric 64 (row 0xA 62 ++ row 0xB 63) 63 62 is 7 ∷ [])
+
+abbrev largest : List Case
+largest = sixtyFour ∷ sixtyFive ∷ mostChanges ∷ moreChanges ∷ lastTwo ∷ []
 
 -- ---- the rehearsal, with the lines that 01 has below its file, as they are since 02, No. 2
 abbrev routerLines : List ℕ
@@ -480,7 +512,7 @@ rehearsed = replied ∷ wholeText ∷ []
 cases : List Case
 cases =
     C1 ∷ C2 ∷ C3 ∷ C4 ∷ C5 ∷ C6 ∷ C7 ∷ C8 ∷ C9 ∷ C10 ∷ C11 ∷ C12 ∷ C13
-    ∷ sheets ++ orders ++ halfLinks ++ deadLinks ++ isisAreas ++ isisFaults ++ rehearsed
+    ∷ sheets ++ orders ++ halfLinks ++ deadLinks ++ isisAreas ++ isisFaults ++ largest ++ rehearsed
 
 -- the questions of a row, with the definitions' answers
 abbrev answered : (c : Case) → List Result
@@ -491,24 +523,28 @@ abbrev Agree : (cs : List Case) → Type 0
 Agree [] = Unit {0}
 Agree (c ∷ cs) = (answered c ≡ c .results) × Agree cs
 
--- The definitions agree with the list: both sides are computed, in each of its 59 rows.
+-- The definitions agree with the list: both sides are computed, in each of its 64 rows.
 last-rows : Agree rehearsed
 unfolding answer
 last-rows = (refl, (refl, tt))
 
-isis-rows : Agree (isisFaults ++ rehearsed)
-unfolding answer
-isis-rows = (refl, (refl, (refl, (refl, (refl, (refl, (refl, (refl, (refl, (refl, (refl, (refl, last-rows))))))))))))
+large-rows : Agree (largest ++ rehearsed)
+unfolding answer hub
+large-rows = (refl, (refl, (refl, (refl, (refl, last-rows)))))
 
-dead-rows : Agree (deadLinks ++ isisAreas ++ isisFaults ++ rehearsed)
+isis-rows : Agree (isisFaults ++ largest ++ rehearsed)
+unfolding answer
+isis-rows = (refl, (refl, (refl, (refl, (refl, (refl, (refl, (refl, (refl, (refl, (refl, (refl, large-rows))))))))))))
+
+dead-rows : Agree (deadLinks ++ isisAreas ++ isisFaults ++ largest ++ rehearsed)
 unfolding answer
 dead-rows = (refl, (refl, (refl, (refl, (refl, (refl, (refl, (refl, (refl, (refl, (refl, (refl, isis-rows))))))))))))
 
-half-rows : Agree (halfLinks ++ deadLinks ++ isisAreas ++ isisFaults ++ rehearsed)
+half-rows : Agree (halfLinks ++ deadLinks ++ isisAreas ++ isisFaults ++ largest ++ rehearsed)
 unfolding answer
 half-rows = (refl, (refl, (refl, (refl, (refl, (refl, (refl, (refl, (refl, (refl, (refl, dead-rows)))))))))))
 
-others : Agree (sheets ++ orders ++ halfLinks ++ deadLinks ++ isisAreas ++ isisFaults ++ rehearsed)
+others : Agree (sheets ++ orders ++ halfLinks ++ deadLinks ++ isisAreas ++ isisFaults ++ largest ++ rehearsed)
 unfolding answer
 others = (refl, (refl, (refl, (refl, (refl, (refl, (refl, (refl, (refl, half-rows)))))))))
 

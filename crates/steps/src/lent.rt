@@ -8,6 +8,7 @@ use crate::moves::finish;
 use crate::moves::learn;
 use crate::moves::release;
 use crate::moves::write;
+use area::limits::Set;
 use area::limits::WIDTH;
 use area::refusal::Refusal;
 use machine::Answer;
@@ -30,11 +31,11 @@ ghost use Rattle.steps.specs.Lent.{CallsOne, CallsTwo, Steps};
 // One step, by its kind: first the tests of the record, of the kind and of the routers, then the call.
 pub fn step(
     n: u8,
-    waiting: &mut [u32; WIDTH],
-    telling: &[u32; WIDTH],
-    due: &[u32; WIDTH],
+    waiting: &mut [Set; WIDTH],
+    telling: &[Set; WIDTH],
+    due: &[Set; WIDTH],
     states: &mut [u8; WIDTH],
-    written: &mut [u32; WIDTH],
+    written: &mut [Set; WIDTH],
     kind: u8,
     a: u8,
     b: u8,
@@ -67,10 +68,10 @@ pub fn step(
 
 // The call of a kind that does not read b.
 fn call_one(
-    waiting: &[u32; WIDTH],
-    due: &[u32; WIDTH],
+    waiting: &[Set; WIDTH],
+    due: &[Set; WIDTH],
     states: &mut [u8; WIDTH],
-    written: &[u32; WIDTH],
+    written: &[Set; WIDTH],
     kind: u8,
     i: usize,
 ) -> Answer
@@ -90,11 +91,11 @@ fn call_one(
 
 // The call of a kind that reads b.
 fn call_two(
-    waiting: &mut [u32; WIDTH],
-    telling: &[u32; WIDTH],
-    due: &[u32; WIDTH],
+    waiting: &mut [Set; WIDTH],
+    telling: &[Set; WIDTH],
+    due: &[Set; WIDTH],
     states: &[u8; WIDTH],
-    written: &mut [u32; WIDTH],
+    written: &mut [Set; WIDTH],
     kind: u8,
     i: usize,
     j: usize,

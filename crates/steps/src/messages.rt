@@ -1,5 +1,6 @@
 // A message between two routers, over the tables per router that it reads and changes. What `deliver` promises is
 // specs/Lent.antt.
+use area::limits::Set;
 use area::limits::WIDTH;
 use area::refusal::Refusal;
 use machine::Answer;
@@ -17,8 +18,8 @@ ghost use Rattle.steps.specs.Lent.{Delivers};
 
 // The message that the sender is done arrives at the receiver.
 pub(crate) fn deliver(
-    waiting: &mut [u32; WIDTH],
-    telling: &[u32; WIDTH],
+    waiting: &mut [Set; WIDTH],
+    telling: &[Set; WIDTH],
     states: &[u8; WIDTH],
     sender: usize,
     receiver: usize,
@@ -44,7 +45,7 @@ pub(crate) fn deliver(
 }
 
 // Does a router in this state, which waits for these routers, listen for the message of the sender?
-fn listens(state: u8, waits: u32, sender: usize) -> bool
+fn listens(state: u8, waits: Set, sender: usize) -> bool
     ensures { λ r. ⌜ r ≡ listens state waits sender ⌝ }
 {
     if state == HOLDING {

@@ -1,6 +1,7 @@
 // The moves of one router, over the tables per router that each reads and changes. Each is the call of its kind: first
 // the refusals in their order, of which 23 is that the event leads nowhere from the router's state (`State::after`);
 // then one entry is written. What they promise is specs/Lent.antt.
+use area::limits::Set;
 use area::limits::WIDTH;
 use area::refusal::Refusal;
 use machine::Answer;
@@ -41,10 +42,10 @@ pub(crate) fn release(states: &mut [u8; WIDTH], i: usize) -> Answer
 
 // A router writes its new next hops to destination d.
 pub(crate) fn write(
-    waiting: &[u32; WIDTH],
-    due: &[u32; WIDTH],
+    waiting: &[Set; WIDTH],
+    due: &[Set; WIDTH],
     states: &[u8; WIDTH],
-    written: &mut [u32; WIDTH],
+    written: &mut [Set; WIDTH],
     i: usize,
     d: usize,
 ) -> Answer
@@ -74,10 +75,10 @@ pub(crate) fn write(
 
 // A router has written all that is due, and is done.
 pub(crate) fn finish(
-    waiting: &[u32; WIDTH],
-    due: &[u32; WIDTH],
+    waiting: &[Set; WIDTH],
+    due: &[Set; WIDTH],
     states: &mut [u8; WIDTH],
-    written: &[u32; WIDTH],
+    written: &[Set; WIDTH],
     i: usize,
 ) -> Answer
     requires { ⌜ i < width ⌝ }

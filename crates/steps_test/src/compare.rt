@@ -1,19 +1,22 @@
 // How much two records differ.
+use area::limits::Set;
+use area::limits::WIDTH;
 use plan::Record;
-ghost use Prim.Native.Nat.{_≤_, _<_};
+ghost use Prim.Native.Nat.{_*_, _+_, _≤_, _<_};
+ghost use Rattle.area.specs.Limits.{width};
 
 // In how many entries two records differ: of the tables, and n, root and direction.
 pub(crate) fn records(x: Record, y: Record) -> u64
-    ensures { λ r. ⌜ r ≤ 195 ⌝ }
+    ensures { λ r. ⌜ r ≤ 6 * width + 3 ⌝ }
 {
     unlike(x.n, y.n) + unlike(x.root, y.root) + unlike(x.direction, y.direction) + routers(x, y)
 }
 
 fn routers(x: Record, y: Record) -> u64
-    ensures { λ r. ⌜ r ≤ 192 ⌝ }
+    ensures { λ r. ⌜ r ≤ 6 * width ⌝ }
 {
     let mut count = 0;
-    for k in 0..32 {
+    for k in 0..WIDTH {
         count += router(x, y, k);
     }
     count
@@ -21,7 +24,7 @@ fn routers(x: Record, y: Record) -> u64
 
 // In how many of its six tables router k differs.
 fn router(x: Record, y: Record, k: usize) -> u64
-    requires { ⌜ k < 32 ⌝ }
+    requires { ⌜ k < width ⌝ }
     ensures { λ r. ⌜ r ≤ 6 ⌝ }
 {
     let of_bytes = unlike(x.ranks[k], y.ranks[k]) + unlike(x.states[k], y.states[k]);
@@ -38,7 +41,7 @@ pub(crate) fn unlike(x: u8, y: u8) -> u64
 }
 
 // 1 where two sets differ.
-fn unlike_sets(x: u32, y: u32) -> u64
+fn unlike_sets(x: Set, y: Set) -> u64
     ensures { λ r. ⌜ r ≤ 1 ⌝ }
 {
     if x == y { 0 } else { 1 }

@@ -5,7 +5,8 @@ use in_place::applied;
 use plan::Record;
 use steps::Machine;
 use steps::Stepped;
-ghost use Prim.Native.Nat.{_<_, _≤_};
+ghost use Prim.Native.Nat.{_*_, _+_, _<_, _≤_};
+ghost use Rattle.area.specs.Limits.{width};
 
 // In how many answers and entries the method and the call in place differ from the step that begins with number k, if
 // there is one.
@@ -36,7 +37,7 @@ pub(crate) fn method(now: Record, kind: u8, a: u8, b: u8) -> Stepped {
 }
 
 fn unlike(x: Stepped, y: Stepped) -> u64
-    ensures { λ r. ⌜ r ≤ 196 ⌝ }
+    ensures { λ r. ⌜ r ≤ 6 * width + 4 ⌝ }
 {
     let x_next = x.next;
     let y_next = y.next;

@@ -1,9 +1,14 @@
 // Records: Plan's, and those made by hand.
+use area::limits::CELLS;
+use area::limits::WIDTH;
+use cases::LONG_LIST;
+use cases::LONG_TABLE;
 use cases::lists;
 use cases::metrics;
 use cases::read;
 use plan::Record;
-ghost use Prim.Native.Nat.{_<_, _≤_};
+ghost use Prim.Native.Nat.{_*_, _+_, _<_, _≤_};
+ghost use Rattle.area.specs.Limits.{mostChanges};
 
 // The record with what the words say.
 pub(crate) fn with_words(left: Record, words: &[u8]) -> Record {
@@ -35,27 +40,27 @@ pub(crate) fn blank(n: u64, root: u64, direction: u64) -> Record {
         n: byte(n),
         root: byte(root),
         direction: byte(direction),
-        ranks: [0; 32],
-        waiting: [0; 32],
-        telling: [0; 32],
-        due: [0; 32],
-        states: [0; 32],
-        written: [0; 32],
+        ranks: [0; WIDTH],
+        waiting: [0; WIDTH],
+        telling: [0; WIDTH],
+        due: [0; WIDTH],
+        states: [0; WIDTH],
+        written: [0; WIDTH],
     }
 }
 
 // The record with one entry of router i replaced.
 fn with_entry(mut r: Record, letter: u8, i: usize, x: u64) -> Record {
-    if 32 <= i {
+    if WIDTH <= i {
         return r;
     }
     match letter {
         b'k' => r.ranks[i] = byte(x),
         b's' => r.states[i] = byte(x),
-        b'w' => r.waiting[i] = set(x),
-        b't' => r.telling[i] = set(x),
-        b'd' => r.due[i] = set(x),
-        b'v' => r.written[i] = set(x),
+        b'w' => r.waiting[i] = x,
+        b't' => r.telling[i] = x,
+        b'd' => r.due[i] = x,
+        b'v' => r.written[i] = x,
         _ => {}
     }
     r
@@ -65,32 +70,28 @@ fn byte(x: u64) -> u8 {
     (x % 256) as u8
 }
 
-fn set(x: u64) -> u32 {
-    (x % 4294967296) as u32
-}
-
 // Plan's record for the links and the changes of the words: all 0 where it refuses.
 fn planned(n: usize, words: &[u8]) -> Record {
-    let mut old = [0; 1025];
-    let mut list = [0; 320];
+    let mut old = [0; LONG_TABLE];
+    let mut list = [0; LONG_LIST];
     metrics::fill(&mut old, words);
     let bytes = lists::fill(&mut list, words);
     plan(n, &old, &list, bytes)
 }
 
-fn plan(n: usize, old: &[u32; 1025], list: &[u8; 320], bytes: usize) -> Record
-    requires { ⌜ bytes ≤ 320 ⌝ }
+fn plan(n: usize, old: &[u32; LONG_TABLE], list: &[u8; LONG_LIST], bytes: usize) -> Record
+    requires { ⌜ bytes ≤ 5 * (mostChanges + 2) ⌝ }
 {
-    let mut new = [0; 1024];
-    let mut old_dist = [0; 1024];
-    let mut new_dist = [0; 1024];
-    let mut old_hops = [0; 1024];
-    let mut new_hops = [0; 1024];
+    let mut new = [0; CELLS];
+    let mut old_dist = [0; CELLS];
+    let mut new_dist = [0; CELLS];
+    let mut old_hops = [0; CELLS];
+    let mut new_hops = [0; CELLS];
     let table = &old[..];
     let changes = &list[..];
     let p = plan::plan(
         n,
-        &table[0..1024],
+        &table[0..CELLS],
         &changes[0..bytes],
         &mut new,
         &mut old_dist,

@@ -1,4 +1,6 @@
 // Parts of a line of the output.
+use area::limits::Set;
+use area::limits::WIDTH;
 use cases::print;
 use cases::read;
 ghost use Prim.Native.Nat.{_<_};
@@ -38,22 +40,19 @@ pub(crate) fn outcome(number: u8) {
 // State, waiting, due and written set of each router of the area.
 pub(crate) fn routers<'a>(
     n: u8,
-    states: &'a [u8; 32],
-    waiting: &'a [u32; 32],
-    due: &'a [u32; 32],
-    written: &'a [u32; 32],
+    states: &'a [u8; WIDTH],
+    waiting: &'a [Set; WIDTH],
+    due: &'a [Set; WIDTH],
+    written: &'a [Set; WIDTH],
 ) {
     print::byte(b';');
-    for k in 0..32 {
+    for k in 0..WIDTH {
         if k < n as usize {
             router(states[k], waiting[k], due[k], written[k]);
         }
     }
 }
 
-fn router(state: u8, waiting: u32, due: u32, written: u32) {
-    print::form(
-        b" #/#/#/#",
-        &[state as u64, waiting as u64, due as u64, written as u64],
-    );
+fn router(state: u8, waiting: Set, due: Set, written: Set) {
+    print::form(b" #/#/#/#", &[state as u64, waiting, due, written]);
 }

@@ -16,8 +16,8 @@ use Rattle.text.specs.Text.{Appended, digits, decimal}
 use Rattle.text.specs.TextLaws.{digits-one, digits-more, shorter}
 
 pub record Spelled (x : ℕ) (d : List ℕ) (from rest : ℕ) : Type 0 where
-  pub size : length d ≡ 10
-  pub place : from ≤ 9
+  pub size : length d ≡ 20
+  pub place : from ≤ 19
   pub fits : rest < 10 ^ (from + 1)
   pub split : decimal x ≡ digits (from + 1) rest ++ drop (from + 1) d
 
@@ -27,15 +27,15 @@ written d i v h =
     drop-cons (set d i v) i 0 (omega (arith, length-set d i v))
     ∙ rw (getD-set-same d i v 0 h, drop-set-lt (suc i) d i v (omega arith), add-one) refl
 
-pub spelled-none : (x : ℕ) (d : List ℕ) → length d ≡ 10 → x < 2 ^ 32 → Spelled x d 9 x
+pub spelled-none : (x : ℕ) (d : List ℕ) → length d ≡ 20 → x < 2 ^ 64 → Spelled x d 19 x
 unfolding decimal
 spelled-none x d e h = record {
   size = e;
   place = omega arith;
   fits = omega arith;
   split =
-      let none = drop-of-length-le d {i = 10} (omega arith) in
-      sym (ap (λ (l : List ℕ). digits 10 x ++ l) none ∙ append-nil (digits 10 x));
+      let none = drop-of-length-le d {i = 20} (omega arith) in
+      sym (ap (λ (l : List ℕ). digits 20 x ++ l) none ∙ append-nil (digits 20 x));
 }
 
 -- a rest of two digits does not stand in one place
@@ -71,11 +71,11 @@ spelled-done {x} {from} {rest} {d} s h =
 -- the part of d from its first digit on is appended
 pub appended-rest :
     {o p w : List ℕ} {a r : ℕ} (d : List ℕ) (from : ℕ)
-    → length d ≡ 10
+    → length d ≡ 20
     → drop from d ≡ w
-    → Appended o a (take (10 - from) (drop from d)) p r
+    → Appended o a (take (20 - from) (drop from d)) p r
     → Appended o a w p r
 appended-rest {o} {p} {w} {a} {r} d from size e h =
-    let all = take-all (10 - from) (drop from d) (omega (arith, length-drop from d)) in
-    let whole : take (10 - from) (drop from d) ≡ w = all ∙ e in
+    let all = take-all (20 - from) (drop from d) (omega (arith, length-drop from d)) in
+    let whole : take (20 - from) (drop from d) ≡ w = all ∙ e in
     rw whole at h

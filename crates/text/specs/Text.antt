@@ -26,9 +26,9 @@ unfoldable pub digits : (k x : ℕ) → List ℕ
 digits zero x = []
 digits (suc k) x = cond (ltb x 10) ((48 + x) ∷ []) (digits k (x / 10) ++ ((48 + x % 10) ∷ []))
 
--- x in decimal; ten digits are enough for every u32
+-- x in decimal; twenty digits are enough for every u64
 unfoldable pub decimal : (x : ℕ) → List ℕ
-decimal x = digits 10 x
+decimal x = digits 20 x
 
 -- a number after its name
 unfoldable pub field : (name : List ℕ) (x : ℕ) → List ℕ

@@ -5,8 +5,9 @@
 --     field-after, line-after              a name that is made of two parts
 --     appended-all                         what is appended to the empty text is the text, where there is room
 --     shorter, digits-one, digits-more     a number without its last digit, one digit, and a digit more
---     decimal-some, decimal-most           a number has one to ten digits
+--     decimal-some, decimal-most           a number has one to twenty digits
 --     field-most, line-most                so a number after its name is not long
+--     decimal-below, field-below, line-below           a number below 10 ^ k has at most k digits, k from 1 on
 --     decimal-value                        they say the number
 --     decimal-ascii, decimal-lead          each is one of `0` to `9`, and the first is no `0` but in 0 itself
 --     refused-is, refusal-line, refused-most           the line of a refusal
@@ -133,6 +134,19 @@ digits-most (suc k) x = elim (decLt x 10) [
   | no f ↦ rw (le-ltb x 10 (omega arith), length-append) (omega (arith, digits-most k (x / 10)))
 ]
 
+-- a small number has few digits, however many there may be
+digits-below : (j k x : ℕ) → 1 ≤ k → x < 10 ^ k → length (digits j x) ≤ k
+unfolding digits
+digits-below zero k x s h = omega arith
+digits-below (suc j) zero x s h = absurd (not-suc-le-zero s)
+digits-below (suc j) (suc zero) x s h = rw (lt-ltb x 10 (omega arith)) (omega arith)
+digits-below (suc j) (suc (suc k)) x s h = elim (decLt x 10) [
+  | yes l ↦ rw (lt-ltb x 10 l) (omega arith)
+  | no f ↦
+      let rest = digits-below j (suc k) (x / 10) (omega arith) (shorter (suc k) x h) in
+      rw (le-ltb x 10 (omega arith), length-append) (omega (arith, rest))
+]
+
 -- the number that a list of digits is, where v is what the digits before it are
 unfoldable pub valueAfter : (v : ℕ) (l : List ℕ) → ℕ
 valueAfter v [] = v
@@ -209,37 +223,51 @@ digits-lead (suc k) x l h = elim (decLt x 10) [
 -- ---- numbers in decimal
 pub decimal-some : (x : ℕ) → 1 ≤ length (decimal x)
 unfolding decimal
-decimal-some x = digits-some 9 x
+decimal-some x = digits-some 19 x
 
-pub decimal-most : (x : ℕ) → length (decimal x) ≤ 10
+pub decimal-most : (x : ℕ) → length (decimal x) ≤ 20
 unfolding decimal
-decimal-most x = digits-most 10 x
+decimal-most x = digits-most 20 x
 
 -- so a number after its name is not long, and neither is its line
-pub field-most : (name : List ℕ) (x : ℕ) → length (field name x) ≤ length name + 10
+pub field-most : (name : List ℕ) (x : ℕ) → length (field name x) ≤ length name + 20
 unfolding field
 field-most name x = simp length-append (omega (arith, decimal-most x))
 
-pub line-most : (name : List ℕ) (x : ℕ) → length (line name x) ≤ length name + 11
+pub line-most : (name : List ℕ) (x : ℕ) → length (line name x) ≤ length name + 21
 unfolding line
 line-most name x = simp length-append (omega (arith, field-most name x))
 
-pub decimal-value : (x : ℕ) → x < 10 ^ 10 → value (decimal x) ≡ x
+-- and shorter where the number is known to be small
+module _ (k x : ℕ) (some : 1 ≤ k) (h : x < 10 ^ k) where
+  pub decimal-below : length (decimal x) ≤ k
+  unfolding decimal
+  decimal-below = digits-below 20 k x some h
+
+  pub field-below : (name : List ℕ) → length (field name x) ≤ length name + k
+  unfolding field
+  field-below name = simp length-append (omega (arith, decimal-below))
+
+  pub line-below : (name : List ℕ) → length (line name x) ≤ length name + k + 1
+  unfolding line
+  line-below name = simp length-append (omega (arith, field-below name))
+
+pub decimal-value : (x : ℕ) → x < 10 ^ 20 → value (decimal x) ≡ x
 unfolding decimal value
-decimal-value x h = digits-value 10 x h
+decimal-value x h = digits-value 20 x h
 
 pub decimal-ascii :
     (x i : ℕ)
     → i < length (decimal x)
     → (48 ≤ getD (decimal x) i 0) × (getD (decimal x) i 0 ≤ 57)
 unfolding decimal
-decimal-ascii x i h = digits-ascii 10 x i h
+decimal-ascii x i h = digits-ascii 20 x i h
 
-pub decimal-lead : (x : ℕ) → 1 ≤ x → x < 10 ^ 10 → 49 ≤ getD (decimal x) 0 0
+pub decimal-lead : (x : ℕ) → 1 ≤ x → x < 10 ^ 20 → 49 ≤ getD (decimal x) 0 0
 unfolding decimal
-decimal-lead x l h = digits-lead 10 x l h
+decimal-lead x l h = digits-lead 20 x l h
 
--- the smallest number, two with a zero in them, and the largest u32
+-- the smallest number, two with a zero in them, and the largest u64
 decimal-0 : decimal 0 ≡ 48 ∷ []
 unfolding decimal digits
 decimal-0 = refl
@@ -252,7 +280,7 @@ decimal-905 : decimal 905 ≡ 57 ∷ 48 ∷ 53 ∷ []
 unfolding decimal digits
 decimal-905 = refl
 
-decimal-largest : decimal 4294967295 ≡ 52 ∷ 50 ∷ 57 ∷ 52 ∷ 57 ∷ 54 ∷ 55 ∷ 50 ∷ 57 ∷ 53 ∷ []
+decimal-largest : decimal 18446744073709551615 ≡ word "18446744073709551615"
 unfolding decimal digits
 decimal-largest = refl
 
@@ -267,6 +295,6 @@ pub refusal-line :
     → Appended o a (refusedLine k) p b
 refusal-line k u = rw (refused-is k) u
 
-pub refused-most : (k : ℕ) → length (refusedLine k) ≤ 19
+pub refused-most : (k : ℕ) → length (refusedLine k) ≤ 29
 unfolding refusedLine
 refused-most k = line-most (word "refused ") k

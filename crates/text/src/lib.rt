@@ -37,16 +37,16 @@ fn byte(out: &mut [u8], at: usize, x: u8) -> usize
 }
 
 // Appends x in decimal.
-pub fn number(out: &mut [u8], at: usize, x: u32) -> usize
+pub fn number(out: &mut [u8], at: usize, x: u64) -> usize
     ensures appended { λ r. ⌜ Appended (now (out .entry)) at (decimal x) (now (out .exit)) r ⌝ }
 {
-    let mut digits = [0u8; 10];
+    let mut digits = [0u8; 20];
     let from = spell(x, &mut digits);
     append(out, at, &digits[from..])
 }
 
 // Appends a number after its name.
-pub fn field(out: &mut [u8], at: usize, name: &[u8], x: u32) -> usize
+pub fn field(out: &mut [u8], at: usize, name: &[u8], x: u64) -> usize
     ensures appended { λ r. ⌜ Appended (now (out .entry)) at (field (now (name .entry)) x) (now (out .exit)) r ⌝ }
 {
     let named = append(out, at, name);
@@ -54,7 +54,7 @@ pub fn field(out: &mut [u8], at: usize, name: &[u8], x: u32) -> usize
 }
 
 // Appends a line: a number after its name.
-pub fn line(out: &mut [u8], at: usize, name: &[u8], x: u32) -> usize
+pub fn line(out: &mut [u8], at: usize, name: &[u8], x: u64) -> usize
     ensures appended { λ r. ⌜ Appended (now (out .entry)) at (line (now (name .entry)) x) (now (out .exit)) r ⌝ }
 {
     let numbered = field(out, at, name, x);
@@ -65,15 +65,15 @@ pub fn line(out: &mut [u8], at: usize, name: &[u8], x: u32) -> usize
 pub fn refused_line(out: &mut [u8], at: usize, number: u8) -> usize
     ensures line { λ r. ⌜ Appended (now (out .entry)) at (refusedLine number) (now (out .exit)) r ⌝ }
 {
-    line(out, at, b"refused ", number as u32)
+    line(out, at, b"refused ", number as u64)
 }
 
 // Puts the decimal digits of x at the end of `digits`, and gives the place of the first.
-fn spell(x: u32, digits: &mut [u8]) -> usize
-    requires { ⌜ length (now digits) ≡ 10 ⌝ }
-    ensures { λ r. ⌜ (r ≤ 10) × (drop r (now (digits .exit)) ≡ decimal x) ⌝ }
+fn spell(x: u64, digits: &mut [u8]) -> usize
+    requires { ⌜ length (now digits) ≡ 20 ⌝ }
+    ensures { λ r. ⌜ (r ≤ 20) × (drop r (now (digits .exit)) ≡ decimal x) ⌝ }
 {
-    let mut from = 9;
+    let mut from = 19;
     let mut rest = x;
     while 10 <= rest {
         digits[from] = 48 + (rest % 10) as u8;

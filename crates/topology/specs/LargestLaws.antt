@@ -1,10 +1,10 @@
--- The largest real distance (01, "The area and its paths") is 31 times the largest metric. No distance is larger:
--- `distance-bound` of DistanceLaws.antt. Here is an area that has it: as many routers as there can be, one behind
--- another, each linked with the next at the largest metric.
+-- The largest real distance (01, "The area and its paths") is the largest metric, once for each link of the longest
+-- walk that meets no router twice. No distance is larger: `distance-bound` of DistanceLaws.antt. Here is an area that
+-- has it: as many routers as there can be, one behind another, each linked with the next at the largest metric.
 --     chainMetrics             its metric table
 --     chain-size, chain-range  it has the size of a table, and every metric is one that Paths takes
 --     chain-distance           the distance from i to a later j is j - i times the largest metric
---     largest-distance         so from the first router to the last it is 520,093,634
+--     largest-distance         so from the first router to the last it is `largestDistance`: 1,056,964,482
 -- A link leads at most one router further, so a walk from i to j takes at least j - i links, and the walk along the
 -- chain takes no more.
 use Prim.Native.Nat.{ℕ, zero, suc, _+_, _-_, _*_, _≤_, _<_}
@@ -29,7 +29,11 @@ use Rattle.topology.specs.TopologyLaws.{Link, link-metric, metric-link, 
 
 -- the largest metric of a link that is used
 abbrev pub largestMetric : ℕ
-largestMetric = 16777214
+largestMetric = unused - 1
+
+-- the largest real distance
+abbrev pub largestDistance : ℕ
+largestDistance = (width - 1) * largestMetric
 
 -- the metric of (i, j): the largest one between neighbours, and no link otherwise
 unfoldable pub chainMetric : (i j : ℕ) → ℕ
@@ -131,7 +135,7 @@ chain-distance i j a b =
     let along = walk-along (j - i) i j (omega arith) b in
     reached (along .0) (along .1) walk-least (omega arith)
 
-pub largest-distance : distance width chainTopology 0 31 ≡ 520093634
+pub largest-distance : distance width chainTopology 0 (width - 1) ≡ largestDistance
 largest-distance =
-    same-distance (distance-is (topology-graph width chainMetrics (omega arith)) 0 31)
-    (chain-distance 0 31 (omega arith) (omega arith))
+    same-distance (distance-is (topology-graph width chainMetrics (omega arith)) 0 (width - 1))
+    (chain-distance 0 (width - 1) (omega arith) (omega arith))

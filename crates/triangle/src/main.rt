@@ -1,6 +1,7 @@
 // A program of one's own over the libraries: three routers, the link of 1 and 2 goes down, and four steps. It prints
 // Plan's answer, the ranks, and the answers of the steps. README.md shows lines of `main`.
 use area::limits::CELLS;
+use area::limits::Set;
 use area::limits::UNUSED;
 use area::limits::WIDTH;
 use libc::STDOUT_FILENO;
@@ -14,8 +15,8 @@ fn main() {
     let mut new = [0u32; CELLS];
     let mut old_dist = [0u32; CELLS];
     let mut new_dist = [0u32; CELLS];
-    let mut old_hops = [0u32; CELLS];
-    let mut new_hops = [0u32; CELLS];
+    let mut old_hops: [Set; CELLS] = [0; CELLS];
+    let mut new_hops: [Set; CELLS] = [0; CELLS];
     let mut old = [UNUSED; CELLS];
     old[WIDTH * 0 + 1] = 1;
     old[WIDTH * 1 + 0] = 1;

@@ -18,7 +18,7 @@ use Rattle.bench_file.specs.FaultLaws.{accepted-of}
 use Rattle.bench_file.specs.FileLaws.{accepted-largest}
 use Rattle.hex.specs.Hex.{most, unhexed, isFaulty, isText}
 use Rattle.hex.specs.Digits.{hexed}
-use Rattle.hex.specs.HexLaws.{length-hexed, unhexed-fits, unhexed-hexed}
+use Rattle.hex.specs.HexLaws.{room, length-hexed, unhexed-fits, unhexed-hexed}
 use Rattle.hex.specs.FaultLaws.{hexed-sound, unhexed-first, faulty-first}
 use Rattle.hex.specs.BinaryLaws.{accepted-binary, hexed-text}
 use Rattle.unhex.specs.Unhex.{part, written, isError}
@@ -80,7 +80,7 @@ file-through format f z =
 
 pub hexed-through :
     (l : List ℕ)
-    → length l ≤ 65536
+    → length l ≤ room
     → ((k : ℕ) → getD l k 0 < 256)
     → (written (hexed l) ≡ l) × (isError (hexed l) ≡ false)
 hexed-through l h small =

@@ -19,9 +19,6 @@ hex-bytes-requires c κs = search needs
 slice-aggregate-line : tie.Need-slice-aggregate-line
 slice-aggregate-line c = search needs
 
-cast-line : tie.Need-cast-line
-cast-line c = search needs
-
 line-requires : tie.Need-line-requires
 line-requires c κs = search needs
 
@@ -40,7 +37,6 @@ count-line-spec =
     slice-aggregate-hex-bytes
     hex-bytes-requires
     slice-aggregate-line
-    cast-line
     line-requires
     same-length
     returns)

@@ -10,17 +10,11 @@ link-digits-requires c κs = search needs
 slice-aggregate-field : tie.Need-slice-aggregate-field
 slice-aggregate-field c = search needs
 
-cast-field : tie.Need-cast-field
-cast-field c = search needs
-
 field-requires : tie.Need-field-requires
 field-requires c κs = search needs
 
 slice-aggregate-field-2 : tie.Need-slice-aggregate-field-2
 slice-aggregate-field-2 c = search needs
-
-cast-field-2 : tie.Need-cast-field-2
-cast-field-2 c = search needs
 
 field-requires-2 : tie.Need-field-requires-2
 field-requires-2 c κs = search needs
@@ -43,10 +37,8 @@ link-line-spec =
     (tie.spec
     link-digits-requires
     slice-aggregate-field
-    cast-field
     field-requires
     slice-aggregate-field-2
-    cast-field-2
     field-requires-2
     slice-aggregate-line
     line-requires

@@ -36,15 +36,12 @@ same-length-5 c = search needs
 same-length-6 : tie.Need-same-length-6
 same-length-6 c = search needs
 
-same-length-7 : tie.Need-same-length-7
-same-length-7 c = search needs
-
 returns : tie.Need-returns
 returns c =
-    let at-end = c .before .before .before .before .before .before .before in
-    let called = at-end .before .before .before .before .before .before .before in
+    let at-end = c .before .before .before .before .before .before in
+    let called = at-end .before .before .before .before .before .before in
     let lent = called .before .before .before .before .before .before .before .before .before in
-    let start = lent .before .before .before .before .before .before .before .before in
+    let start = lent .before .before .before .before .before .before .before in
     let a = start .args in
     let file = now (a .file) in
     let m = now (a .old) in
@@ -67,5 +64,4 @@ whole-spec =
     same-length-4
     same-length-5
     same-length-6
-    same-length-7
     returns)

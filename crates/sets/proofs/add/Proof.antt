@@ -5,9 +5,6 @@ use Rattle.sets.specs.SetLaws.{or-added, same-added}
 use Rattle.sets.proofs.add.Statement.{statement}
 use Rattle.sets.proofs.add.Tie as tie
 
-cast-result : tie.Need-cast-result
-cast-result c = search needs
-
 shl-result : tie.Need-shl-result
 shl-result c = search needs
 
@@ -18,4 +15,4 @@ returns-2 : tie.Need-returns-2
 returns-2 c = same-added width (c .before .args .s) (c .before .fits .s .fits) (c .before .args .k) (c .if1 .left)
 
 pub add-spec : {M : Type 1} → statement M
-add-spec = tie.close (tie.spec cast-result shl-result returns returns-2)
+add-spec = tie.close (tie.spec shl-result returns returns-2)

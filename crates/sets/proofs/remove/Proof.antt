@@ -16,9 +16,6 @@ low c =
     let a = c .before .before in
     bit-lt width (a .args .s) (a .args .k) (a .fits .s .fits) (sym (c .before .member .ensures) ∙ c .if1 .taken)
 
-cast-result : tie.Need-cast-result
-cast-result c = omega (arith, low c)
-
 shl-result : tie.Need-shl-result
 shl-result c = omega (arith, low c)
 
@@ -34,4 +31,4 @@ returns-2 c =
     same-removed width (a .args .s) (a .fits .s .fits) (a .args .k) (sym (c .before .member .ensures) ∙ c .if1 .left)
 
 pub remove-spec : {M : Type 1} → statement M
-remove-spec = tie.close (tie.spec member-requires cast-result shl-result returns returns-2)
+remove-spec = tie.close (tie.spec member-requires shl-result returns returns-2)

@@ -1,15 +1,16 @@
--- `show::pairs` is safe and ends. The loop has passed k of the 1024 cells.
-use Prim.Native.Nat.{_-_, _≤_}
+-- `show::pairs` is safe and ends. The loop has passed k of the cells.
+use Prim.Native.Nat.{_*_, _-_, _≤_}
 use native.Mathlib.Omega.{arith}
 use borrow.Author.Needs.{needs}
+use Rattle.area.specs.Limits.{width}
 use Rattle.paths_test.proofs.show.pairs.Statement.{statement}
 use Rattle.paths_test.proofs.show.pairs.Tie as tie
 
 abbrev Inv-loop : tie.InvT-loop
-Inv-loop mark n dist hops k₀ k = k ≤ 1024
+Inv-loop mark n dist hops k₀ k = k ≤ width * width
 
 abbrev μ-loop : tie.MeasureT-loop
-μ-loop mark n dist hops k₀ k = 1024 - k
+μ-loop mark n dist hops k₀ k = width * width - k
 
 pub pairs-spec : {M : Type 1} → statement M
 pairs-spec =

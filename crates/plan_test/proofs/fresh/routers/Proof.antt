@@ -1,15 +1,16 @@
--- `fresh::routers` is safe and ends. The loop has passed k of the 32 routers.
+-- `fresh::routers` is safe and ends. The loop has passed k of the routers.
 use Prim.Native.Nat.{_-_, _≤_}
 use native.Mathlib.Omega.{arith}
 use borrow.Author.Needs.{needs}
+use Rattle.area.specs.Limits.{width}
 use Rattle.plan_test.proofs.fresh.routers.Statement.{statement}
 use Rattle.plan_test.proofs.fresh.routers.Tie as tie
 
 abbrev Inv-loop : tie.InvT-loop
-Inv-loop n r k₀ k = k ≤ 32
+Inv-loop n r k₀ k = k ≤ width
 
 abbrev μ-loop : tie.MeasureT-loop
-μ-loop n r k₀ k = 32 - k
+μ-loop n r k₀ k = width - k
 
 pub routers-spec : {M : Type 1} → statement M
 routers-spec =

@@ -7,12 +7,6 @@ use Rattle.report.proofs.all_routes.pair_text.Tie as tie
 is-printed-requires : tie.Need-is-printed-requires
 is-printed-requires c κs = search needs
 
-cast-route-line : tie.Need-cast-route-line
-cast-route-line c = search needs
-
-cast-route-line-2 : tie.Need-cast-route-line-2
-cast-route-line-2 c = search needs
-
 route-line-requires : tie.Need-route-line-requires
 route-line-requires c κs = search needs
 
@@ -30,8 +24,6 @@ pair-text-spec =
     tie.close
     (tie.spec
     is-printed-requires
-    cast-route-line
-    cast-route-line-2
     route-line-requires
     same-length
     returns

@@ -42,14 +42,14 @@ shared-slice-read-t20 c = omega arith
 mul-t15-2 : tie.Need-mul-t15-2 Inv-loop μ-loop
 mul-t15-2 c = omega arith
 
-shared-slice-read-t20-2 : tie.Need-shared-slice-read-t20-2 Inv-loop μ-loop
-shared-slice-read-t20-2 c = omega arith
+shared-slice-read-t17-2 : tie.Need-shared-slice-read-t17-2 Inv-loop μ-loop
+shared-slice-read-t17-2 c = omega arith
 
 mul-t18-2 : tie.Need-mul-t18-2 Inv-loop μ-loop
 mul-t18-2 c = omega arith
 
-shared-slice-read-t17-2 : tie.Need-shared-slice-read-t17-2 Inv-loop μ-loop
-shared-slice-read-t17-2 c = omega arith
+shared-slice-read-t20-2 : tie.Need-shared-slice-read-t20-2 Inv-loop μ-loop
+shared-slice-read-t20-2 c = omega arith
 
 pair-text-requires : tie.Need-pair-text-requires Inv-loop μ-loop
 pair-text-requires c κs = omega arith
@@ -94,9 +94,9 @@ row-lines-spec =
     mul-t18
     shared-slice-read-t20
     mul-t15-2
-    shared-slice-read-t20-2
-    mul-t18-2
     shared-slice-read-t17-2
+    mul-t18-2
+    shared-slice-read-t20-2
     pair-text-requires
     add-j
     loop-less

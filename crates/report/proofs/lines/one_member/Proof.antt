@@ -10,9 +10,6 @@ member-requires c κs = search needs
 slice-aggregate-field : tie.Need-slice-aggregate-field
 slice-aggregate-field c = search needs
 
-cast-field : tie.Need-cast-field
-cast-field c = search needs
-
 field-requires : tie.Need-field-requires
 field-requires c κs = search needs
 
@@ -31,7 +28,6 @@ one-member-spec =
     (tie.spec
     member-requires
     slice-aggregate-field
-    cast-field
     field-requires
     same-length
     returns

@@ -19,6 +19,9 @@ returns c = search none-appended
 slice-aggregate-field : tie.Need-slice-aggregate-field
 slice-aggregate-field c = search needs
 
+cast-field : tie.Need-cast-field
+cast-field c = search needs
+
 field-requires : tie.Need-field-requires
 field-requires c κs = search needs
 
@@ -43,6 +46,7 @@ path-text-spec =
     same-length
     returns
     slice-aggregate-field
+    cast-field
     field-requires
     slice-aggregate-field-2
     field-requires-2

@@ -20,9 +20,6 @@ cast-n c = omega arith
 loop-holds : tie.Need-loop-holds Inv-loop μ-loop
 loop-holds c = (omega arith, routers-none _ _)
 
-cast-router-line : tie.Need-cast-router-line Inv-loop μ-loop
-cast-router-line c = omega arith
-
 element-copy-out-router-line : tie.Need-element-copy-out-router-line Inv-loop μ-loop
 element-copy-out-router-line c = omega arith
 
@@ -74,7 +71,6 @@ router-lines-spec =
     μ-loop
     cast-n
     loop-holds
-    cast-router-line
     element-copy-out-router-line
     mul-router-line
     element-copy-out-router-line-2

@@ -1,13 +1,6 @@
 -- The section, or that it has too many steps, for the routers at the places of the sheet.
-use Prim.Native.Nat.{ℕ, _≤_}
-use mathlib.Core.Path.{ap, _∙_}
-use mathlib.Core.List.{List}
 use native.Mathlib.Omega.{arith}
 use borrow.Author.Needs.{needs}
-use lib.ListN.{length, getD}
-use Rattle.area.specs.Limits.{width}
-use Rattle.sheet.specs.Follow.{following}
-use Rattle.sheet.specs.LengthLaws.{calls-most}
 use Rattle.report.specs.CallLineLaws.{section-whole, section-long, sheet-section}
 use Rattle.report.proofs.step_section.section.Statement.{statement}
 use Rattle.report.proofs.step_section.section.Tie as tie
@@ -20,15 +13,6 @@ step-count-requires c κs = search needs
 
 slice-aggregate-line : tie.Need-slice-aggregate-line
 slice-aggregate-line c = search needs
-
-cast-line : tie.Need-cast-line
-cast-line c =
-    let counted = c .before .before .before in
-    let a = counted .before .before .before .args in
-    let few : a .fresh .n ≤ width = omega arith in
-    let calls : List ℕ → ℕ = λ places. length (following (a .fresh) (λ k. getD places k 0)) in
-    let count = counted .step-count .ensures ∙ ap calls (counted .before .in-turn .ensures) in
-    omega (arith, calls-most (a .fresh) few)
 
 line-requires : tie.Need-line-requires
 line-requires c κs = search needs
@@ -71,7 +55,6 @@ section-spec =
     in-turn-requires
     step-count-requires
     slice-aggregate-line
-    cast-line
     line-requires
     same-length
     returns

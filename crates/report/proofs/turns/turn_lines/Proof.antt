@@ -25,9 +25,6 @@ loop-holds c = (omega arith, omega arith, turns-none _ _ _)
 array-read-router : tie.Need-array-read-router Inv-loop μ-loop
 array-read-router c = omega arith
 
-cast-turn-of : tie.Need-cast-turn-of Inv-loop μ-loop
-cast-turn-of c = omega arith
-
 add-turn-of : tie.Need-add-turn-of Inv-loop μ-loop
 add-turn-of c = omega arith
 
@@ -61,7 +58,6 @@ turn-lines-spec =
     cast-n
     loop-holds
     array-read-router
-    cast-turn-of
     add-turn-of
     turn-of-requires
     add-k

@@ -1,15 +1,16 @@
--- `largest::fill` is safe and ends. The loop has passed `at` of the 17564 bytes.
+-- `largest::fill` is safe and ends. The loop has passed `at` of the bytes.
 use Prim.Native.Nat.{_-_, _≤_}
 use native.Mathlib.Omega.{arith}
 use borrow.Author.Needs.{needs}
+use Rattle.bench_file.specs.Sections.{largest}
 use Rattle.report_test.proofs.largest.fill.Statement.{statement}
 use Rattle.report_test.proofs.largest.fill.Tie as tie
 
 abbrev Inv-loop : tie.InvT-loop
-Inv-loop file₀ at₀ file at = at ≤ 17564
+Inv-loop file₀ at₀ file at = at ≤ largest
 
 abbrev μ-loop : tie.MeasureT-loop
-μ-loop file₀ at₀ file at = 17564 - at
+μ-loop file₀ at₀ file at = largest - at
 
 pub fill-spec : {M : Type 1} → statement M
 fill-spec =

@@ -1,15 +1,16 @@
--- `half_dead::fill` is safe and ends. The loop has passed `at` of the 4,966 bytes.
-use Prim.Native.Nat.{_-_, _≤_}
+-- `half_dead::fill` is safe and ends. The loop has passed `at` of the bytes.
+use Prim.Native.Nat.{_*_, _+_, _-_, _≤_}
 use native.Mathlib.Omega.{arith}
 use borrow.Author.Needs.{needs}
+use Rattle.area.specs.Limits.{width}
 use Rattle.rewriting_test.proofs.half_dead.fill.Statement.{statement}
 use Rattle.rewriting_test.proofs.half_dead.fill.Tie as tie
 
 abbrev Inv-loop : tie.InvT-loop
-Inv-loop file₀ links at₀ file at = (at ≤ 4966) × (links ≤ 992)
+Inv-loop file₀ links at₀ file at = (at ≤ 6 + 5 * (width * (width - 1))) × (links ≤ width * (width - 1))
 
 abbrev μ-loop : tie.MeasureT-loop
-μ-loop file₀ links at₀ file at = 4966 - at
+μ-loop file₀ links at₀ file at = 6 + 5 * (width * (width - 1)) - at
 
 pub fill-spec : {M : Type 1} → statement M
 fill-spec =

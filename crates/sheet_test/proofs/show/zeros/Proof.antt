@@ -1,16 +1,17 @@
--- `show::zeros` is safe and ends. The loop has passed k of the 32 places and counted at most k of them.
+-- `show::zeros` is safe and ends. The loop has passed k of the places and counted at most k of them.
 use mathlib.Core.Logic.{⊎-elim}
 use Prim.Native.Nat.{_-_, _≤_}
 use native.Mathlib.Omega.{arith}
 use borrow.Author.Needs.{needs}
+use Rattle.area.specs.Limits.{width}
 use Rattle.sheet_test.proofs.show.zeros.Statement.{statement}
 use Rattle.sheet_test.proofs.show.zeros.Tie as tie
 
 abbrev Inv-loop : tie.InvT-loop
-Inv-loop from listed count₀ k₀ count k = (count ≤ k) × (k ≤ 32)
+Inv-loop from listed count₀ k₀ count k = (count ≤ k) × (k ≤ width)
 
 abbrev μ-loop : tie.MeasureT-loop
-μ-loop from listed count₀ k₀ count k = 32 - k
+μ-loop from listed count₀ k₀ count k = width - k
 
 pub zeros-spec : {M : Type 1} → statement M
 zeros-spec =

@@ -1,16 +1,17 @@
--- `compare::routers` is safe and ends, and gives at most 192. The loop has passed k of the 32 routers, and counted at
--- most six for each.
+-- `compare::routers` is safe and ends, and gives at most six for each router. The loop has passed k of the routers, and
+-- counted at most six for each.
 use Prim.Native.Nat.{_-_, _≤_, _*_}
 use native.Mathlib.Omega.{arith}
 use borrow.Author.Needs.{needs}
+use Rattle.area.specs.Limits.{width}
 use Rattle.steps_test.proofs.compare.routers.Statement.{statement}
 use Rattle.steps_test.proofs.compare.routers.Tie as tie
 
 abbrev Inv-loop : tie.InvT-loop
-Inv-loop x y count₀ k₀ count k = (count ≤ 6 * k) × (k ≤ 32)
+Inv-loop x y count₀ k₀ count k = (count ≤ 6 * k) × (k ≤ width)
 
 abbrev μ-loop : tie.MeasureT-loop
-μ-loop x y count₀ k₀ count k = 32 - k
+μ-loop x y count₀ k₀ count k = width - k
 
 pub routers-spec : {M : Type 1} → statement M
 routers-spec =

@@ -1,15 +1,16 @@
--- `show::routers` is safe and ends. The loop has passed k of the 32 routers.
+-- `show::routers` is safe and ends. The loop has passed k of the routers.
 use Prim.Native.Nat.{_-_, _≤_}
 use native.Mathlib.Omega.{arith}
 use borrow.Author.Needs.{needs}
+use Rattle.area.specs.Limits.{width}
 use Rattle.steps_test.proofs.show.routers.Statement.{statement}
 use Rattle.steps_test.proofs.show.routers.Tie as tie
 
 abbrev Inv-loop : tie.InvT-loop
-Inv-loop n states waiting due written k₀ k = k ≤ 32
+Inv-loop n states waiting due written k₀ k = k ≤ width
 
 abbrev μ-loop : tie.MeasureT-loop
-μ-loop n states waiting due written k₀ k = 32 - k
+μ-loop n states waiting due written k₀ k = width - k
 
 pub routers-spec : {M : Type 1} → statement M
 routers-spec =

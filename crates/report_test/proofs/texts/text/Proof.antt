@@ -1,14 +1,14 @@
--- `texts::rehearsal` is safe and ends. The parts of the tables that are lent are as long as is asked, since the tables
+-- `texts::text` is safe and ends. The parts of the tables that are lent are as long as is asked, since the tables
 -- are not shorter.
 use mathlib.Core.Path.{sym}
 use lib.Seq.{length-take-le}
 use native.Mathlib.Omega.{arith}
 use borrow.Author.Needs.{needs}
-use Rattle.report_test.proofs.texts.rehearsal.Statement.{statement}
-use Rattle.report_test.proofs.texts.rehearsal.Tie as tie
+use Rattle.report_test.proofs.texts.text.Statement.{statement}
+use Rattle.report_test.proofs.texts.text.Tie as tie
 
-pub rehearsal-spec : {M : Type 1} → statement M
-rehearsal-spec =
+pub text-spec : {M : Type 1} → statement M
+text-spec =
     tie.close
     (tie.spec
     (λ c κs. search needs)
