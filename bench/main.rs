@@ -5,7 +5,8 @@
 //!   judges all links first. The same goes for the lists of an area from IS-IS.
 //! - Identities are compared byte by byte; the library makes a number of each.
 //! - A repeated change is found by a set of pairs; the library looks through the changes before it.
-//! - The members of a set are visited one by one; the library asks of every router whether it is one.
+//! - The members of a set are visited one by one, or counted at once; the library asks of every router whether it is
+//!   one.
 
 mod areas;
 mod entries;

@@ -1,7 +1,7 @@
 //! The rehearsal of a bench file, as text.
 
 use crate::file;
-use crate::limits::{ENTRY, STEP};
+use crate::limits::{ENTRY, STEP, Set};
 use crate::plan::{Record, Tables, plan};
 use crate::refusal::Refusal;
 use crate::step::{Answer, step};
@@ -20,6 +20,8 @@ fn lines(file: &[u8], tables: &mut Tables, out: &mut Vec<u8>) -> Result<(), Refu
     let changes = &file[contents.changes_at..contents.changes_at + ENTRY * contents.changes];
     let mut record = plan(contents.n, changes, tables)?;
     routers(&record, out);
+    field(out, b"needs ", needs(&record));
+    out.push(b'\n');
     for (k, s) in file[contents.steps_at..].chunks_exact(STEP).enumerate() {
         let answer = step(&mut record, s[0], s[1], s[2]);
         field(out, b"step ", k as u64 + 1);
@@ -39,6 +41,15 @@ fn routers(record: &Record, out: &mut Vec<u8>) {
         field(out, b" due ", record.due[r]);
         out.push(b'\n');
     }
+}
+
+/// How many steps that are answered ok bring the fresh record to its end: three of each router, and each message and
+/// each write.
+fn needs(fresh: &Record) -> u64 {
+    let size = |set: &Set| u64::from(set.count_ones());
+    let messages: u64 = fresh.waiting.iter().map(size).sum();
+    let writes: u64 = fresh.due.iter().map(size).sum();
+    3 * u64::from(fresh.n) + messages + writes
 }
 
 /// An answer, up to the end of its line.

@@ -1,4 +1,4 @@
-// The ordered FIB bench for C and C++: the nine functions of the proved static library, x86-64 Linux.
+// The ordered FIB bench for C and C++: the eleven functions of the proved static library, x86-64 Linux.
 //
 //     rt staticlib exports                                     # makes target/staticlib/libexports.a
 //     cc -I bindings program.c target/staticlib/libexports.a   # it needs memcpy and memset, and nothing else
@@ -60,7 +60,7 @@ typedef uint64_t ofib_set;
 #define OFIB_LARGEST \
     (6 + OFIB_ENTRY * OFIB_WIDTH * (OFIB_WIDTH - 1) + OFIB_ENTRY * OFIB_MOST_CHANGES + OFIB_STEP * OFIB_MOST_STEPS)
 // As many bytes have room for the rehearsal of any file, and for its routes.
-#define OFIB_REHEARSAL_ROOM (133 * OFIB_WIDTH + 55 * OFIB_MOST_STEPS + 4)
+#define OFIB_REHEARSAL_ROOM (133 * OFIB_WIDTH + 27 + 55 * OFIB_MOST_STEPS + 4)
 #define OFIB_ROUTES_ROOM (148 * OFIB_CELLS)
 
 // The places of the six numbers that ofib_read gives.
@@ -230,6 +230,24 @@ void ofib_run(
     ofib_set written[OFIB_WHOLE OFIB_WIDTH],
     const uint8_t *OFIB_ALONE bytes, size_t bytes_len);
 
+// How many steps a plan needs. From the record that ofib_plan gives, every list of steps after which all routers are
+// done has so many answered OFIB_OK, and no list has more; while a router is not done, some step is answered OFIB_OK.
+// Gives 3 * n plus the sizes of the waiting and due sets of the routers below n, of any record.
+size_t ofib_needs(
+    uint8_t n,
+    const ofib_set waiting[OFIB_WHOLE OFIB_WIDTH],
+    const ofib_set due[OFIB_WHOLE OFIB_WIDTH]);
+
+// How many of these are still missing after some steps: 0 where all routers are done.
+// Gives the sum, over the routers below n of any record, of the states up to OFIB_DONE, the size of the waiting set and
+// the number of destinations that are due and not written. A router that no table has an entry for counts as idle.
+size_t ofib_missing(
+    uint8_t n,
+    const ofib_set waiting[OFIB_WHOLE OFIB_WIDTH],
+    const ofib_set due[OFIB_WHOLE OFIB_WIDTH],
+    const uint8_t states[OFIB_WHOLE OFIB_WIDTH],
+    const ofib_set written[OFIB_WHOLE OFIB_WIDTH]);
+
 // The text of the rehearsal of a file, as the program `rehearse` prints it: put at the start of `out`, as far as that
 // has room, with no 0 after it. Where the file, its change or the size of a table is refused, the text is one line,
 // `refused k`. Gives the number of bytes put there: `out_len` where the text was cut off or just fits. What the rest
@@ -304,6 +322,16 @@ static inline void ofib_record_run(ofib_record *r, const uint8_t *bytes, size_t 
 {
     ofib_run(&r->n, &r->root, &r->direction, r->ranks, r->waiting, r->telling, r->due, r->states, r->written, bytes,
              bytes_len);
+}
+
+static inline size_t ofib_record_needs(const ofib_record *r)
+{
+    return ofib_needs(r->n, r->waiting, r->due);
+}
+
+static inline size_t ofib_record_missing(const ofib_record *r)
+{
+    return ofib_missing(r->n, r->waiting, r->due, r->states, r->written);
 }
 
 static inline size_t ofib_tables_rehearse(ofib_tables *t, const uint8_t *file, size_t file_len, uint8_t *out,

@@ -12,7 +12,7 @@ pub const MOST_STEPS: usize = 4096;
 pub const LARGEST: usize = 6 + ENTRY * WIDTH * (WIDTH - 1) + ENTRY * MOST_CHANGES + STEP * MOST_STEPS;
 
 /// Room for the rehearsal of any file, and for its routes.
-pub const REHEARSAL_ROOM: usize = 133 * WIDTH + 55 * MOST_STEPS + 4;
+pub const REHEARSAL_ROOM: usize = 133 * WIDTH + 27 + 55 * MOST_STEPS + 4;
 pub const ROUTES_ROOM: usize = 148 * CELLS;
 
 /// A set of routers: bit k stands for router k, so it has WIDTH bits.
@@ -176,6 +176,14 @@ mod c {
             bytes: *const u8,
             bytes_len: usize,
         );
+        pub fn ofib_needs(n: u8, waiting: *const [Set; WIDTH], due: *const [Set; WIDTH]) -> usize;
+        pub fn ofib_missing(
+            n: u8,
+            waiting: *const [Set; WIDTH],
+            due: *const [Set; WIDTH],
+            states: *const [u8; WIDTH],
+            written: *const [Set; WIDTH],
+        ) -> usize;
         pub fn ofib_rehearse(
             file: *const u8,
             file_len: usize,
@@ -358,6 +366,16 @@ pub fn run(r: &mut Record, steps: &[u8]) {
             steps.len(),
         )
     }
+}
+
+/// How many steps answered ok bring a fresh record to the one in which all routers are done.
+pub fn needs(r: &Record) -> usize {
+    unsafe { c::ofib_needs(r.n, &r.waiting, &r.due) }
+}
+
+/// How many of them are still to come from this record on.
+pub fn missing(r: &Record) -> usize {
+    unsafe { c::ofib_missing(r.n, &r.waiting, &r.due, &r.states, &r.written) }
 }
 
 /// Puts the text of a rehearsal at the start of `out`, as far as that has room; the number of bytes put there.

@@ -412,12 +412,15 @@ static void test_steps(void)
     static const ofib_record last = {3,         1,         OFIB_RISE, {0, 1, 0},
                                      {0, 4, 0}, {2, 0, 2}, {4, 4, 3}, {OFIB_DONE, OFIB_ONGOING, OFIB_IDLE},
                                      {4, 0, 0}};
+    // Those of the 15 steps that are needed which are still missing, after each step.
+    static const uint8_t missing[] = {14, 13, 13, 12, 11, 10, 9, 8, 8, 8};
     const uint8_t *steps = file.bytes + 46;
     ofib_record r = fresh;
     for (size_t k = 0; k < sizeof answers; k++) {
         const uint8_t *step = steps + OFIB_STEP * k;
         ofib_record before = r, at_once = fresh, and_a_part = fresh;
         number("ofib_step", ofib_record_step(&r, step[0], step[1], step[2]), answers[k]);
+        number("ofib_missing", ofib_record_missing(&r), missing[k]);
         if (answers[k] != OFIB_OK)
             records("ofib_step, refused or ignored", &r, &before);
         ofib_record_run(&at_once, steps, OFIB_STEP * (k + 1));
@@ -462,6 +465,29 @@ static void test_refused_steps(void)
     one_refused(r, OFIB_DELIVER, 0, 2, OFIB_NOT_TOLD);
 }
 
+// What fresh records need, and records that no plan gives.
+static void test_counts(void)
+{
+    ofib_record r = fresh;
+    number("ofib_needs, C1", ofib_record_needs(&r), 15);
+    number("ofib_missing, C1", ofib_record_missing(&r), 15);
+    number("ofib_needs, no router", ofib_record_needs(&blank), 0);
+    number("ofib_missing, no router", ofib_record_missing(&blank), 0);
+    // All done, and all written, also what is not due; routers from n on are not looked at.
+    memset(r.states, OFIB_DONE, sizeof r.states);
+    memset(r.written, 255, sizeof r.written);
+    memset(r.waiting, 0, sizeof r.waiting);
+    memset(r.due + 3, 255, sizeof r.due - 3 * sizeof *r.due);
+    number("ofib_missing, all done", ofib_record_missing(&r), 0);
+    number("ofib_needs, no waiting", ofib_record_needs(&r), 13);
+    r.states[2] = 255;
+    number("ofib_missing, a state above OFIB_DONE", ofib_record_missing(&r), 0);
+    // Every set is full, and there are more routers than entries.
+    memset(&r, 255, sizeof r);
+    number("ofib_needs, 255 routers", ofib_record_needs(&r), 3 * 255 + 2 * OFIB_CELLS);
+    number("ofib_missing, 255 routers", ofib_record_missing(&r), 3 * (255 - OFIB_WIDTH) + OFIB_CELLS);
+}
+
 #define BIT(k) ((ofib_set)1 << (k))
 
 // C1 with the routers 61, 62 and 63 of an area of 64, whose other routers have no link: the highest bits of sets.
@@ -484,6 +510,7 @@ static void test_last_plan(void)
     triangle_from(61, tables.old, old_metrics, OFIB_UNUSED);
     number(what, ofib_record_plan(&r, 64, &tables, last_change, sizeof last_change), OFIB_OK);
     records(what, &r, &last_fresh);
+    number("ofib_needs, routers 61 to 63", ofib_record_needs(&r), 3 * 64 + 4 + 2);
     for (size_t k = 0; k < 9; k++) {
         number(what, tables.old_hops[cell_of(61, k)], old_next_hops[k] << 61);
         number(what, tables.new_hops[cell_of(61, k)], new_next_hops[k] << 61);
@@ -517,6 +544,7 @@ static void test_last_steps(void)
         number(what, ofib_record_step(&r, steps[k][0], steps[k][1], steps[k][2]), OFIB_OK);
     number(what, r.written[63], BIT(61) | BIT(62));
     number(what, r.waiting[62], BIT(61));
+    number("ofib_missing, routers 61 to 63", ofib_record_missing(&r), 3 * 64 + 4 + 2 - 7);
     one_refused(r, OFIB_LEARN, 64, 0, OFIB_UNKNOWN_ROUTER);
     one_refused(r, OFIB_WRITE, 63, 64, OFIB_UNKNOWN_ROUTER);
 }
@@ -543,6 +571,8 @@ static void test_texts(void)
     static uint32_t longer[OFIB_CELLS + 1];
     uint8_t out[sizeof a_table];
     one_text("ofib_rehearse", ofib_tables_rehearse, file.len, rehearsal.bytes, rehearsal.len);
+    number("ofib_rehearse, the line between routers and steps",
+           strstr((const char *)rehearsal.bytes, " due 3\nneeds 15\nstep 1 ok\n") != NULL, 1);
     one_text("ofib_routes", ofib_tables_routes, file.len, routes.bytes, routes.len);
     one_text("ofib_rehearse, an empty file", ofib_tables_rehearse, 0, (const uint8_t *)too_early, 10);
     one_text("ofib_routes, an empty file", ofib_tables_routes, 0, (const uint8_t *)too_early, 10);
@@ -578,6 +608,7 @@ int main(int argc, char **argv)
     test_plan();
     test_steps();
     test_refused_steps();
+    test_counts();
     test_last_plan();
     test_last_sheet();
     test_last_steps();

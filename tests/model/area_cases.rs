@@ -4,6 +4,7 @@ use crate::areas::{self, Area};
 use crate::changes;
 use crate::compare::{Comparison, Planned, records};
 use crate::counts::Usable;
+use crate::course::Course;
 use crate::difference::{Difference, case_title, describe_area};
 use crate::flaw::Flaw;
 use crate::ofib::{self, CELLS, Record};
@@ -68,13 +69,18 @@ fn compare_steps(
 ) -> Result<Record, String> {
     let (mut library, mut model) = (fresh.clone(), fresh.clone());
     let mut caller = Caller::new(random);
+    let mut course = Course {
+        needs: comparison.needs(fresh)?,
+        oks: 0,
+    };
     for _ in 0..steps::length(random, fresh) {
         let call = caller.next(random, &library);
         calls.extend(call);
-        let outcome = comparison.step(&mut library, &mut model, call);
+        let answer = comparison.step(&mut library, &mut model, call);
+        let outcome = answer.and_then(|answer| course.went_on(comparison, answer, &library));
         outcome.map_err(|what| format!("{what}\n{}", before_last(fresh, calls)))?;
     }
-    comparison.counts.finished_runs += u64::from(steps::all_done(&library));
+    comparison.counts.progress.finished_runs += u64::from(steps::all_done(&library));
     Ok(library)
 }
 

@@ -4,6 +4,7 @@ use std::fmt::Debug;
 use std::path::Path;
 
 use crate::counts::{Counts, Numbers};
+use crate::course::Course;
 use crate::flaw::Flaw;
 use crate::lent::{Lent, RIGHT_SIZES, SixTables};
 use crate::link_state::Input;
@@ -161,12 +162,18 @@ impl Comparison {
         Ok(routers)
     }
 
-    /// Following the sheet, no step is refused or ignored, and in the end every router is done.
+    /// Following the sheet, no step is refused or ignored, and in the end every router is done. The sheet has as many
+    /// steps as the plan needs.
     fn follow(&mut self, fresh: &Record, routers: &[u8; WIDTH]) -> Result<(), String> {
         let (mut library, mut model) = (fresh.clone(), fresh.clone());
         let following = sheet::following(fresh, &routers[..usize::from(fresh.n)]);
+        let mut course = Course {
+            needs: self.needs(fresh)?,
+            oks: 0,
+        };
         for &call in &following {
             let answer = self.step(&mut library, &mut model, call)?;
+            course.went_on(self, answer, &library)?;
             if answer != Answer::Ok {
                 return Err(format!("following the sheet {routers:?}, step {call:?}: {answer:?}"));
             }
@@ -276,6 +283,14 @@ impl Comparison {
         } else {
             count_text(&mut self.counts.sheet_steps, &text);
         }
+        Ok(())
+    }
+
+    /// What is printed as unfinished.
+    pub fn unfinished(&mut self, random: &mut Random, program: &Path, file: &[u8]) -> Result<(), String> {
+        let text = process::compare_unfinished(random, program, file, self.flaw)?;
+        count_text(&mut self.counts.progress.unfinished, &text);
+        self.counts.progress.unfinished_parts(&text);
         Ok(())
     }
 

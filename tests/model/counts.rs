@@ -61,13 +61,24 @@ const USABLE: [(Usable, &str); 7] = [
     (Usable::SameNoCommon, "11 without a common router"),
 ];
 
+/// What texts of unfinished routers are to have, each somewhere.
+const UNFINISHED: [(&str, &str); 8] = [
+    (" idle waits", "router that is idle in the end"),
+    (" holding waits", "router that is holding in the end"),
+    (" ongoing waits", "router that is ongoing in the end"),
+    (" ongoing waits none", "router that could write or finish in the end"),
+    (" unwritten none\n", "router with nothing left to write"),
+    (" 63 unwritten", "router that waits for router 63 in the end"),
+    (" 62 63\n", "router that has written neither router 62 nor 63"),
+    ("missing 0\n", "file whose steps leave nothing missing"),
+];
+
 pub struct Counts {
     pub areas: u64,
     /// Accepted rises and falls, by the number of routers.
     pub rises: [u64; WIDTH + 1],
     pub falls: [u64; WIDTH + 1],
     pub sizes: [u64; WIDTH + 1],
-    pub finished_runs: u64,
     /// Accepted plans that another order of the changes left the same.
     orders: u64,
     /// Refusals that another order of the changes gave another number, of 4 to 7.
@@ -110,6 +121,64 @@ pub struct Counts {
     /// What the program that prints the steps of a sheet answered, and how many sheets have too many for a file.
     pub sheet_steps: Numbers,
     pub too_many_steps: u64,
+    pub progress: Progress,
+}
+
+/// How far runs got (02, No. 8).
+pub struct Progress {
+    pub finished_runs: u64,
+    /// How often it was asked what a record needs, and what it is short of.
+    pub needs: u64,
+    pub missing: u64,
+    /// What the program that prints what is unfinished answered, and how many of its texts have each part.
+    pub unfinished: Numbers,
+    parts: [u64; UNFINISHED.len()],
+}
+
+impl Progress {
+    fn new() -> Progress {
+        Progress {
+            finished_runs: 0,
+            needs: 0,
+            missing: 0,
+            unfinished: [0; 256],
+            parts: [0; UNFINISHED.len()],
+        }
+    }
+
+    /// The parts of one text.
+    pub fn unfinished_parts(&mut self, text: &str) {
+        for (seen, (part, _)) in self.parts.iter_mut().zip(UNFINISHED) {
+            *seen += u64::from(text.contains(part));
+        }
+    }
+
+    /// The program that prints what is unfinished may not be run.
+    fn not_seen(&self, missing: &mut Vec<String>) {
+        require(missing, self.finished_runs, || {
+            "run in which every router is done".to_string()
+        });
+        if self.unfinished.iter().all(|&count| count == 0) {
+            return;
+        }
+        for number in [0, 1, 2, 3, 4, 5, 6, 7, 9, 10, 11, 12, 13, 30] {
+            require(missing, self.unfinished[number], || {
+                format!("program that prints what is unfinished answering {number}")
+            });
+        }
+        for (seen, (_, what)) in self.parts.iter().zip(UNFINISHED) {
+            require(missing, *seen, || what.to_string());
+        }
+    }
+
+    fn print(&self) {
+        println!("runs in which every router got done: {}", self.finished_runs);
+        println!(
+            "asked what is needed: {}, what is missing: {}",
+            self.needs, self.missing
+        );
+        println!("unfinished routers printed: {}", answers(&self.unfinished));
+    }
 }
 
 impl Counts {
@@ -119,7 +188,6 @@ impl Counts {
             rises: [0; WIDTH + 1],
             falls: [0; WIDTH + 1],
             sizes: [0; WIDTH + 1],
-            finished_runs: 0,
             orders: 0,
             other_numbers: 0,
             usable: [0; USABLE.len()],
@@ -150,6 +218,7 @@ impl Counts {
             too_long: 0,
             sheet_steps: [0; 256],
             too_many_steps: 0,
+            progress: Progress::new(),
         }
     }
 
@@ -205,6 +274,7 @@ impl Counts {
         self.missing_places(&mut missing);
         self.missing_isis(&mut missing);
         self.missing_sheet_steps(&mut missing);
+        self.progress.not_seen(&mut missing);
         for n in 1..=WIDTH {
             require(&mut missing, self.sizes[n], || format!("area of {n} routers"));
         }
@@ -216,9 +286,6 @@ impl Counts {
                 format!("accepted fall with {n} routers")
             });
         }
-        require(&mut missing, self.finished_runs, || {
-            "run in which every router is done".to_string()
-        });
         require(&mut missing, self.orders, || {
             "accepted plan of changes in another order".to_string()
         });
@@ -365,7 +432,7 @@ impl Counts {
             sum(&self.rises),
             sum(&self.falls)
         );
-        println!("runs in which every router got done: {}", self.finished_runs);
+        self.progress.print();
         println!("Paths: {}", answers(&self.paths));
         println!("Plan: {}", answers(&self.plan));
         println!(

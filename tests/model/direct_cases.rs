@@ -7,7 +7,7 @@ use crate::compare::Comparison;
 use crate::difference::{Difference, describe_area, describe_step};
 use crate::files;
 use crate::lent::RIGHT_SIZES;
-use crate::ofib::{CELLS, Record, WIDTH};
+use crate::ofib::{CELLS, Record, Set, WIDTH};
 use crate::paths::{UNUSED, at, pairs};
 use crate::plan::Change;
 use crate::random::Random;
@@ -50,6 +50,7 @@ pub fn direct_cases(comparison: &mut Comparison, seed: u64, count: u64) -> Resul
     wrong_metric_at_each_place(comparison, &mut random)?;
     every_kind(comparison, &mut random)?;
     wrong_state_at_each_index(comparison, &mut random)?;
+    full_and_empty_sets(comparison, &mut random)?;
     for number in 1..=count {
         let mut random = Random::for_case(seed, PART, number);
         wrong_at_random(comparison, &mut random)?;
@@ -278,15 +279,41 @@ fn wrong_state_at_each_index(comparison: &mut Comparison, random: &mut Random) -
     Ok(())
 }
 
+/// What records need and are short of whose sets are full or empty, with every number of routers.
+fn full_and_empty_sets(comparison: &mut Comparison, random: &mut Random) -> Result<(), Difference> {
+    for n in 0..=255 {
+        let sets = |_| random.pick(&[[0; WIDTH], [Set::MAX; WIDTH]]);
+        let [waiting, due, written] = std::array::from_fn(sets);
+        let record = Record {
+            n,
+            waiting,
+            due,
+            written,
+            states: [random.pick(&[0, 1, 3, 4, 255]); WIDTH],
+            ..steps::any_record(random)
+        };
+        let outcome = compare_counts(comparison, &record);
+        outcome.map_err(|what| Difference::in_calls(what, describe_step(&record, &[])))?;
+    }
+    Ok(())
+}
+
+fn compare_counts(comparison: &mut Comparison, record: &Record) -> Result<(), String> {
+    comparison.needs(record)?;
+    comparison.missing(record)?;
+    Ok(())
+}
+
 fn compare_one_step(comparison: &mut Comparison, record: &Record, call: [u8; 3]) -> Result<(), Difference> {
     let (mut library, mut model) = (record.clone(), record.clone());
-    let outcome = comparison.step(&mut library, &mut model, call);
+    let outcome = compare_counts(comparison, record).and_then(|()| comparison.step(&mut library, &mut model, call));
     outcome.map_err(|what| Difference::in_calls(what, describe_step(record, &call)))?;
     Ok(())
 }
 
-/// Steps on a record that no plan gives, one after the other and as one list.
-fn any_record(comparison: &mut Comparison, random: &mut Random) -> Result<(), Difference> {
+/// Steps on a record that no plan gives, one after the other and as one list, and what the record needs and is short
+/// of before each of them.
+pub fn any_record(comparison: &mut Comparison, random: &mut Random) -> Result<(), Difference> {
     let start = steps::any_record(random);
     let (mut library, mut model) = (start.clone(), start.clone());
     let mut bytes = Vec::new();
@@ -297,7 +324,8 @@ fn any_record(comparison: &mut Comparison, random: &mut Random) -> Result<(), Di
             _ => steps::within(random, &library),
         };
         bytes.extend(call);
-        let outcome = comparison.step(&mut library, &mut model, call);
+        let outcome = compare_counts(comparison, &library);
+        let outcome = outcome.and_then(|()| comparison.step(&mut library, &mut model, call));
         outcome.map_err(|what| Difference::in_calls(what, describe_step(&start, &bytes)))?;
     }
     let left_over = random.below(3);

@@ -32,6 +32,9 @@ pub struct Amount {
     /// The program that prints the steps of a sheet, and from one file that it is run with to the next.
     pub sheet_steps: Option<PathBuf>,
     pub sheet_stride: u64,
+    /// The program that prints what is unfinished, and from one file that it is run with to the next.
+    pub unfinished: Option<PathBuf>,
+    pub unfinished_stride: u64,
 }
 
 impl Amount {
@@ -41,6 +44,7 @@ impl Amount {
             program_stride: 1,
             rewrite_stride: 1,
             sheet_stride: 1,
+            unfinished_stride: 1,
             ..self.clone()
         }
     }
@@ -51,6 +55,7 @@ pub fn file_cases(comparison: &mut Comparison, seed: u64, amount: &Amount) -> Re
     largest_file(comparison, &mut random, amount)?;
     dead_links(comparison, &mut random, amount)?;
     long_sheets(comparison, &mut random, amount)?;
+    stopped(comparison, &mut random, amount)?;
     for (n, stride) in [(2, 1), (5, 1), (WIDTH, amount.link_stride)] {
         link_faults(comparison, &mut random, n, stride, amount)?;
     }
@@ -151,6 +156,16 @@ fn long_sheets(comparison: &mut Comparison, random: &mut Random, amount: &Amount
     Ok(())
 }
 
+/// Runs that stop after each of their steps, or after some of a long one.
+fn stopped(comparison: &mut Comparison, random: &mut Random, amount: &Amount) -> Result<(), Difference> {
+    for n in [2, 3, 5, 33, WIDTH] {
+        for parts in files::stopped(random, n) {
+            compare_file(comparison, random, &parts.bytes(), &amount.with_each_file())?;
+        }
+    }
+    Ok(())
+}
+
 /// Dead links at chosen places, in areas of some sizes and in the largest: half of its links, among others.
 fn dead_links(comparison: &mut Comparison, random: &mut Random, amount: &Amount) -> Result<(), Difference> {
     for n in [2, 3, 5, 33, WIDTH] {
@@ -224,6 +239,11 @@ fn run_programs(comparison: &mut Comparison, random: &mut Random, file: &[u8], a
         && number % amount.sheet_stride == 0
     {
         comparison.sheet_steps(random, program, file)?;
+    }
+    if let Some(program) = &amount.unfinished
+        && number % amount.unfinished_stride == 0
+    {
+        comparison.unfinished(random, program, file)?;
     }
     Ok(())
 }

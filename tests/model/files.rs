@@ -4,6 +4,7 @@ use crate::areas::{self, Area};
 use crate::changes;
 use crate::flaw::Flaw;
 use crate::lent::{RIGHT_SIZES, SixTables};
+use crate::needs::needs;
 use crate::ofib::{CELLS, Record, WIDTH};
 use crate::paths::{UNUSED, at, pairs};
 use crate::plan::{Change, MOST_CHANGES, plan};
@@ -108,6 +109,8 @@ pub const LONG_SHEETS: [usize; 5] = [
     MOST_STEPS + 1,
     FEWEST + (WIDTH - 1) * (WIDTH - 2),
 ];
+/// How often a run of many steps is stopped.
+const STOPS: usize = 50;
 /// Three of each router, the writes of router 0 and those to it, and a message from each other router to router 0.
 const FEWEST: usize = 3 * WIDTH + 2 * (WIDTH - 1) + (WIDTH - 1);
 
@@ -123,6 +126,24 @@ pub fn long_sheet(random: &mut Random, steps: usize) -> Parts {
     let area = Area { n: WIDTH, metric };
     let list = changes::bytes_of(&changes::router_down(&area, 0));
     Parts::new(WIDTH, links_of(random, &area, 0), list, Vec::new())
+}
+
+/// A router of a full mesh goes down: a run that brings every router to its end, stopped after each step, or after each
+/// of some steps where they are many, and not at all.
+pub fn stopped(random: &mut Random, n: usize) -> Vec<Parts> {
+    let area = areas::full_mesh(random, n);
+    let list = changes::bytes_of(&changes::router_down(&area, random.below(n)));
+    let record = fresh(random, &area, &list).expect("a router that goes down is planned");
+    let (count, caller) = (needs(&record, Flaw::None), Caller::orderly(random));
+    let steps = chosen(random, record, caller, count);
+    let whole = Parts::new(n, links_of(random, &area, 0), list, steps);
+    let stops = (0..count).step_by(count.div_ceil(STOPS)).chain([count]);
+    let stopped = |stop: usize| Parts {
+        step_count: stop,
+        steps: whole.steps[..3 * stop].to_vec(),
+        ..whole.clone()
+    };
+    stops.map(stopped).collect()
 }
 
 /// The area's links in any order; such a part of the pairs that are not used is listed as well.
@@ -146,13 +167,24 @@ fn steps_for(random: &mut Random, area: &Area, list: &[u8]) -> Vec<u8> {
 
 /// Calls chosen along the run of the area's plan; any bytes where there is no plan.
 fn calls(random: &mut Random, area: &Area, list: &[u8], count: usize) -> Vec<u8> {
+    let Some(record) = fresh(random, area, list) else {
+        return random.bytes(3 * count);
+    };
+    let caller = Caller::new(random);
+    chosen(random, record, caller, count)
+}
+
+/// The fresh record of the area's plan, where there is one.
+fn fresh(random: &mut Random, area: &Area, list: &[u8]) -> Option<Record> {
     let mut tables = SixTables::filled(random, RIGHT_SIZES);
     tables.old.cells_mut().copy_from_slice(&area.metric);
     let mut record = Record::default();
-    if plan(area.n, list, &mut tables.lend(), &mut record, Flaw::None) != 0 {
-        return random.bytes(3 * count);
-    }
-    let mut caller = Caller::new(random);
+    let answer = plan(area.n, list, &mut tables.lend(), &mut record, Flaw::None);
+    (answer == 0).then_some(record)
+}
+
+/// So many calls of the caller's choice, from the record on.
+fn chosen(random: &mut Random, mut record: Record, mut caller: Caller, count: usize) -> Vec<u8> {
     let mut bytes = Vec::new();
     for _ in 0..count {
         let call = caller.next(random, &record);

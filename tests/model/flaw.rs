@@ -154,6 +154,46 @@ pub enum Flaw {
     LastRowLeftOut,
     /// A sheet is printed, however many steps it has.
     AnySheetPrinted,
+    /// A router with nothing due has no message to deliver.
+    NothingDueNothingTold,
+    /// A plan needs two calls of each router beside writes and messages.
+    NeedsTwoEach,
+    /// A destination that is due at several routers counts once.
+    DueOnceForAll,
+    /// Members from 32 on are not counted.
+    SizeOf32Bits,
+    /// The sets of routers from n on count too.
+    NeedsBeyondN,
+    /// Of routers that have no entry in the tables, none is counted.
+    NeedsUpTo64,
+    /// The line `needs` counts the destinations with another distance.
+    NeedsByDistances,
+    /// The line `needs` is of the record after the steps.
+    NeedsOfLast,
+    /// The line `needs` stands after the steps.
+    NeedsAfterSteps,
+    /// A refused file has a line `needs` too.
+    NeedsThoughRefused,
+    /// What is missing is counted without the waiting sets.
+    MissingWithoutWaiting,
+    /// From a state above done, the states back to done are missing.
+    StatesBackToDone,
+    /// The size of the written set is taken off that of the due set, whatever was written.
+    WrittenTakenOff,
+    /// Every call makes one less missing, whatever its answer.
+    MissingByCalls,
+    /// An ignored call makes one less missing.
+    MissingByIgnored,
+    /// Where nothing is missing, no line says so.
+    MissingLineLeftOut,
+    /// What is printed as unwritten is all that is due.
+    UnwrittenAsDue,
+    /// Those that a router waits for are printed as they were before the first step.
+    WaitsOfFresh,
+    /// Routers that are done are printed too.
+    DonePrinted,
+    /// Sets are printed as numbers.
+    SetsAsNumbers,
 }
 
 impl Flaw {
@@ -179,8 +219,8 @@ impl Flaw {
     }
 }
 
-/// Those that areas and files show.
-pub const FLAWS: [Flaw; 46] = [
+/// Those that areas, files and arbitrary records show.
+pub const FLAWS: [Flaw; 59] = [
     Flaw::ReadTwoForOne,
     Flaw::ReadKeepsLinks,
     Flaw::DeadAfterRepeated,
@@ -227,6 +267,19 @@ pub const FLAWS: [Flaw; 46] = [
     Flaw::WrittenOf32Bits,
     Flaw::StruckModulo32,
     Flaw::LastRowLeftOut,
+    Flaw::NothingDueNothingTold,
+    Flaw::NeedsTwoEach,
+    Flaw::DueOnceForAll,
+    Flaw::SizeOf32Bits,
+    Flaw::NeedsBeyondN,
+    Flaw::NeedsUpTo64,
+    Flaw::NeedsByDistances,
+    Flaw::NeedsOfLast,
+    Flaw::NeedsAfterSteps,
+    Flaw::NeedsThoughRefused,
+    Flaw::MissingWithoutWaiting,
+    Flaw::StatesBackToDone,
+    Flaw::WrittenTakenOff,
 ];
 
 /// Those that link-state data shows.
@@ -259,6 +312,22 @@ pub const ISIS_FLAWS: [Flaw; 24] = [
 
 /// Those that what is printed for link-state data shows.
 pub const PRINTED_FLAWS: [Flaw; 3] = [Flaw::WholeListsCounted, Flaw::OneByteMoreTaken, Flaw::LargestNotListed];
+
+/// Those that what is printed as unfinished shows.
+pub const UNFINISHED_FLAWS: [Flaw; 9] = [
+    Flaw::NeedsTwoEach,
+    Flaw::DueOnceForAll,
+    Flaw::MissingByCalls,
+    Flaw::MissingByIgnored,
+    Flaw::MissingLineLeftOut,
+    Flaw::UnwrittenAsDue,
+    Flaw::WaitsOfFresh,
+    Flaw::DonePrinted,
+    Flaw::SetsAsNumbers,
+];
+
+/// Those that the calls answered ok show, on the records that small plans can get to.
+pub const COURSE_FLAWS: [Flaw; 3] = [Flaw::NothingDueNothingTold, Flaw::FinishUnordered, Flaw::WriteTwice];
 
 /// Those that what is written for a stored file shows.
 pub const REWRITING_FLAWS: [Flaw; 3] = [Flaw::OldReaderDead, Flaw::CountNotCorrected, Flaw::DeadAtEndOnly];

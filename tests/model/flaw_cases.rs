@@ -1,6 +1,7 @@
 //! Each mistake that the model can be given must show: in the comparison, where it breaks the order of the writes also
-//! in the walks along the pointers, where the plan hangs on the order of the changes also beside another order, and
-//! where a stored file is rewritten, or an area or the steps of a sheet printed, also beside the program that does it.
+//! in the walks along the pointers, where it makes a run stick or end early also in the calls answered ok, where the
+//! plan hangs on the order of the changes also beside another order, and where a stored file is rewritten, or an area,
+//! the steps of a sheet or what is unfinished printed, also beside the program that does it.
 
 use std::path::Path;
 
@@ -9,16 +10,18 @@ use crate::areas::Area;
 use crate::changes::in_another_order;
 use crate::compare::{Comparison, Planned, same_plan};
 use crate::difference::Difference;
+use crate::direct_cases::any_record;
 use crate::file_cases::{self, file_case};
 use crate::files::{self, LONG_SHEETS};
-use crate::flaw::{FLAWS, Flaw, ISIS_FLAWS, PRINTED_FLAWS, REWRITING_FLAWS};
+use crate::flaw::{COURSE_FLAWS, FLAWS, Flaw, ISIS_FLAWS, PRINTED_FLAWS, REWRITING_FLAWS, UNFINISHED_FLAWS};
 use crate::isis_cases::{isis_case, printed_case, printed_on_purpose};
 use crate::lent::{RIGHT_SIZES, SixTables};
+use crate::needs::{missing, needs};
 use crate::ofib::Record;
 use crate::plan::plan;
 use crate::process;
 use crate::random::Random;
-use crate::reachable::{search, small_area, unchanged_between};
+use crate::reachable::{Visit, judge_pointers, judge_progress, search, small_area, unchanged_between};
 use crate::step::step;
 
 const PART: u64 = 5;
@@ -41,30 +44,55 @@ pub fn flaw_cases(seed: u64, programs: &file_cases::Amount, from_isis: Option<&P
         let (cases, what) = first_isis_difference(flaw, seed).ok_or(format!("flaw {flaw:?}: no lists showed it"))?;
         println!("flaw {flaw:?}: caught at lists {cases} ({what})");
     }
-    for flaw in [Flaw::FinishUnordered, Flaw::FallAsRise] {
-        let (plans, what) = first_bad_walk(flaw, seed).ok_or(format!("flaw {flaw:?}: no walk showed it"))?;
-        let what = what.split(" with ").next().unwrap_or_default();
-        println!("flaw {flaw:?}: caught by a walk at plan {plans} ({what})");
-    }
+    record_flaws(seed)?;
     let flaw = Flaw::RootFarEnd;
     let (plans, what) = first_other_plan(flaw, seed).ok_or(format!("flaw {flaw:?}: no other order showed it"))?;
     println!("flaw {flaw:?}: caught by another order at plan {plans} ({what})");
+    program_flaws(seed, programs)?;
+    if let Some(program) = from_isis {
+        printed_flaws(seed, program)?;
+    }
+    let without = |judge: Judge| first_bad_record(Flaw::None, seed, judge);
+    match without(walks)
+        .or(without(progress))
+        .or(first_other_plan(Flaw::None, seed))
+    {
+        None => Ok(()),
+        Some((_, what)) => Err(format!("the model without a flaw: {what}")),
+    }
+}
+
+/// The records of small plans, by the model alone, show the mistakes that break the order of the writes, or by which a
+/// run sticks or ends early.
+fn record_flaws(seed: u64) -> Result<(), String> {
+    for flaw in [Flaw::FinishUnordered, Flaw::FallAsRise] {
+        let (plans, what) = first_bad_record(flaw, seed, walks).ok_or(format!("flaw {flaw:?}: no walk showed it"))?;
+        let what = what.split(" with ").next().unwrap_or_default();
+        println!("flaw {flaw:?}: caught by a walk at plan {plans} ({what})");
+    }
+    for flaw in COURSE_FLAWS {
+        let (plans, what) =
+            first_bad_record(flaw, seed, progress).ok_or(format!("flaw {flaw:?}: no calls showed it"))?;
+        let what = what.split(" with ").next().unwrap_or_default();
+        println!("flaw {flaw:?}: caught by the calls answered ok at plan {plans} ({what})");
+    }
+    Ok(())
+}
+
+fn program_flaws(seed: u64, programs: &file_cases::Amount) -> Result<(), String> {
     if let Some(program) = &programs.rewrite {
         rewriting_flaws(seed, program)?;
     }
     if let Some(program) = &programs.sheet_steps {
         sheet_flaw(seed, program)?;
     }
-    if let Some(program) = from_isis {
-        printed_flaws(seed, program)?;
+    if let Some(program) = &programs.unfinished {
+        unfinished_flaws(seed, program)?;
     }
-    match first_bad_walk(Flaw::None, seed).or(first_other_plan(Flaw::None, seed)) {
-        None => Ok(()),
-        Some((_, what)) => Err(format!("the model without a flaw: {what}")),
-    }
+    Ok(())
 }
 
-/// Areas and files in turn; after how many cases library and flawed model differ, and in what.
+/// Areas, files and arbitrary records in turn; after how many cases library and flawed model differ, and in what.
 fn first_difference(flaw: Flaw, seed: u64) -> Option<(u64, String)> {
     let mut comparison = Comparison::new(flaw);
     let amount = file_cases::Amount {
@@ -76,10 +104,14 @@ fn first_difference(flaw: Flaw, seed: u64) -> Option<(u64, String)> {
         rewrite_stride: 1,
         sheet_steps: None,
         sheet_stride: 1,
+        unfinished: None,
+        unfinished_stride: 1,
     };
     for number in 0..MOST_CASES {
         let outcome = area_case(&mut comparison, seed, number);
         let outcome = outcome.and_then(|()| file_case(&mut comparison, seed, number, &amount));
+        let mut random = Random::for_case(seed, PART, number);
+        let outcome = outcome.and_then(|()| any_record(&mut comparison, &mut random));
         if let Err(Difference { what, .. }) = outcome {
             return Some((comparison.counts.areas + comparison.counts.files, what));
         }
@@ -131,6 +163,24 @@ fn sheet_flaw(seed: u64, program: &Path) -> Result<(), String> {
     Err(format!("flaw {flaw:?}: the program did not show it"))
 }
 
+/// What the program prints as unfinished shows the mistakes of its text.
+fn unfinished_flaws(seed: u64, program: &Path) -> Result<(), String> {
+    for flaw in UNFINISHED_FLAWS {
+        let mut comparison = Comparison::new(flaw);
+        let mut random = Random::for_case(seed, PART, 4);
+        let differs = |number: u64| {
+            let file = files::faultless(&mut random, 8).bytes();
+            let outcome = comparison.unfinished(&mut random, program, &file);
+            outcome.err().map(|what| (number, what))
+        };
+        let (files, what) = (1..=MOST_CASES)
+            .find_map(differs)
+            .ok_or(format!("flaw {flaw:?}: the program did not show it"))?;
+        println!("flaw {flaw:?}: caught by the program at file {files} ({what})");
+    }
+    Ok(())
+}
+
 /// What the program prints for link-state data shows the mistakes of the printing, at inputs that are made for it or at
 /// random ones.
 fn printed_flaws(seed: u64, program: &Path) -> Result<(), String> {
@@ -148,8 +198,20 @@ fn printed_flaws(seed: u64, program: &Path) -> Result<(), String> {
     Ok(())
 }
 
-/// The walks over the flawed model by itself: after how many plans one goes wrong, and how.
-fn first_bad_walk(flaw: Flaw, seed: u64) -> Option<(u64, String)> {
+/// How a record of the model is judged by itself.
+type Judge = fn(&Planned, &Visit) -> Result<(), String>;
+
+fn walks(planned: &Planned, visit: &Visit) -> Result<(), String> {
+    judge_pointers(&planned.tables, visit.record).map(|_| ())
+}
+
+fn progress(planned: &Planned, visit: &Visit) -> Result<(), String> {
+    let needed = needs(&planned.record, Flaw::None);
+    judge_progress(needed, missing(visit.record, Flaw::None), visit)
+}
+
+/// The records that the flawed model by itself gets to: after how many plans one is judged to be wrong, and why.
+fn first_bad_record(flaw: Flaw, seed: u64, judge: Judge) -> Option<(u64, String)> {
     for number in 1..=if flaw == Flaw::None { 20 } else { MOST_SEARCHES } {
         let mut random = Random::for_case(seed, PART, number);
         let n = random.between(2, 4);
@@ -162,10 +224,8 @@ fn first_bad_walk(flaw: Flaw, seed: u64) -> Option<(u64, String)> {
         if planned.answer != 0 {
             continue;
         }
-        let outcome = search(&planned.tables, &planned.record, |record, call| {
-            step(record, call, flaw);
-            Ok(())
-        });
+        let step = |record: &mut Record, call| Ok(step(record, call, flaw));
+        let outcome = search(&planned.record, step, |visit| judge(&planned, visit));
         if let Err(what) = outcome {
             return Some((number, what));
         }

@@ -5,6 +5,7 @@ mod areas;
 mod changes;
 mod compare;
 mod counts;
+mod course;
 mod difference;
 mod direct_cases;
 mod file_cases;
@@ -17,6 +18,7 @@ mod isis_cases;
 mod isis_worked;
 mod lent;
 mod link_state;
+mod needs;
 // The binding is not only for this program, which need not use all of it.
 #[allow(dead_code)]
 #[path = "../../bindings/ofib.rs"]

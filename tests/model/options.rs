@@ -41,6 +41,8 @@ impl Options {
                 rewrite_stride: 19,
                 sheet_steps: None,
                 sheet_stride: 29,
+                unfinished: None,
+                unfinished_stride: 31,
             },
             small: reachable::Amount {
                 stride: 1,
@@ -73,6 +75,7 @@ pub fn parse(mut words: impl Iterator<Item = String>) -> Result<Options, String>
             "--program" => options.files.program = Some(PathBuf::from(value()?)),
             "--rewrite" => options.files.rewrite = Some(PathBuf::from(value()?)),
             "--sheet-steps" => options.files.sheet_steps = Some(PathBuf::from(value()?)),
+            "--unfinished" => options.files.unfinished = Some(PathBuf::from(value()?)),
             "--from-isis" => options.isis.program = Some(PathBuf::from(value()?)),
             "--out" => options.out = PathBuf::from(value()?),
             "--replay" => options.replay = Some(PathBuf::from(value()?)),

@@ -296,7 +296,7 @@ pub fn members(set: Set) -> impl Iterator<Item = usize> {
     (0..WIDTH).filter(move |&router| has(set, router))
 }
 
-fn set_of(n: usize, belongs: impl Fn(usize) -> bool) -> Set {
+pub fn set_of(n: usize, belongs: impl Fn(usize) -> bool) -> Set {
     (0..n)
         .filter(|&router| belongs(router))
         .fold(0, |set, router| set | 1 << router)

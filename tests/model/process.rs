@@ -1,5 +1,5 @@
-//! The rehearsal program, the one that prints the steps of a sheet, the one that rewrites stored files and the one that
-//! prints areas from IS-IS, run as processes with a file as their standard input.
+//! The rehearsal program and those that print the steps of a sheet, print what is unfinished, rewrite stored files and
+//! print areas from IS-IS, run as processes with a file as their standard input.
 
 use std::io::{self, ErrorKind, Write};
 use std::path::Path;
@@ -13,7 +13,7 @@ use crate::lent::{RIGHT_SIZES, SixTables};
 use crate::random::Random;
 use crate::read::LARGEST;
 use crate::rewriting::rewritten;
-use crate::text::{rehearsal, sheet_steps};
+use crate::text::{rehearsal, sheet_steps, unfinished};
 
 /// How much of a bench file a program reads.
 const READ: usize = LARGEST + 1;
@@ -34,6 +34,20 @@ pub fn compare_sheet_steps(random: &mut Random, program: &Path, file: &[u8], fla
     let mut tables = SixTables::filled(random, RIGHT_SIZES);
     let text = sheet_steps(&file[..file.len().min(READ)], &mut tables.lend(), flaw);
     texts("output of the program that prints steps", &output, text.as_bytes())?;
+    Ok(text)
+}
+
+/// The same of the program that prints what is unfinished.
+pub fn compare_unfinished(random: &mut Random, program: &Path, file: &[u8], flaw: Flaw) -> Result<String, String> {
+    let in_pieces = random.chance(20);
+    let output = output(program, file, in_pieces).map_err(|error| format!("{}: {error}", program.display()))?;
+    let mut tables = SixTables::filled(random, RIGHT_SIZES);
+    let text = unfinished(&file[..file.len().min(READ)], &mut tables.lend(), flaw);
+    texts(
+        "output of the program that prints what is unfinished",
+        &output,
+        text.as_bytes(),
+    )?;
     Ok(text)
 }
 

@@ -1,19 +1,21 @@
-//! Small areas: every record that a plan can get to, and on each of them all walks along the pointers (01, "The steps",
-//! what demand 3 is about).
+//! Small areas: every record that a plan can get to. On each of them all walks along the pointers (01, "The steps",
+//! what demand 3 is about), whether some call is answered ok, and how many were (02, No. 8).
 
-use std::collections::HashSet;
+use std::collections::HashMap;
 use std::hash::{BuildHasherDefault, Hasher};
 
 use crate::areas::{self, Area};
 use crate::changes::{self, bytes_of};
 use crate::compare::Comparison;
+use crate::course::Course;
 use crate::difference::{Difference, describe_area};
 use crate::lent::SixTables;
-use crate::ofib::{CELLS, Record, Set};
+use crate::ofib::{self, Answer, CELLS, Record, Set};
 use crate::paths::{UNREACHED, UNUSED, at, pairs};
 use crate::plan::{Change, has, members};
 use crate::random::Random;
 use crate::step::{DELIVER, FINISH, LEARN, RELEASE, WRITE};
+use crate::steps::all_done;
 
 const PART: u64 = 4;
 /// The metrics of the areas that are listed completely.
@@ -26,11 +28,13 @@ pub struct Amount {
     pub records: u64,
 }
 
-/// What a search has found.
-#[derive(Default)]
-pub struct Found {
-    pub records: u64,
-    pub walks: u64,
+/// A record that a search has come to.
+pub struct Visit<'a> {
+    pub record: &'a Record,
+    /// How many calls on the way to it were answered ok.
+    pub oks: usize,
+    /// Whether some call on it is answered ok.
+    pub goes_on: bool,
 }
 
 pub fn small_areas(comparison: &mut Comparison, seed: u64, amount: &Amount) -> Result<(), Difference> {
@@ -149,43 +153,82 @@ fn search_area(comparison: &mut Comparison, random: &mut Random, area: &Area, li
             return Ok(());
         }
         comparison.counts.small_plans[area.n] += 1;
-        let found = search(&planned.tables, &planned.record, |record, call| {
+        let needs = comparison.needs(&planned.record)?;
+        let mut walks = 0;
+        let step = |record: &mut Record, call| {
             let mut model = record.clone();
-            comparison.step(record, &mut model, call).map(|_| ())
-        })?;
-        comparison.counts.records += found.records;
-        comparison.counts.walks += found.walks;
+            comparison.step(record, &mut model, call)
+        };
+        let judge = |visit: &Visit| {
+            walks += judge_pointers(&planned.tables, visit.record)?;
+            judge_progress(needs, ofib::missing(visit.record), visit)
+        };
+        let records = search(&planned.record, step, judge)?;
+        comparison.counts.records += records;
+        comparison.counts.progress.missing += records;
+        comparison.counts.walks += walks;
         Ok(())
     };
     compare().map_err(|what: String| Difference::in_calls(what, describe_area("reachable records", area, list, &[])))
 }
 
-/// Visits every record that calls lead to from the fresh one, and judges the pointers of each.
+/// Visits every record that calls lead to from the fresh one, and judges each. On every way to a record as many calls
+/// are answered ok. The number of records.
 pub fn search(
-    tables: &SixTables,
     fresh: &Record,
-    mut step: impl FnMut(&mut Record, [u8; 3]) -> Result<(), String>,
-) -> Result<Found, String> {
-    let mut found = Found::default();
-    let mut seen: HashSet<u64, BuildHasherDefault<KeyHasher>> = HashSet::default();
-    seen.insert(key(fresh));
-    let mut open = vec![fresh.clone()];
-    while let Some(record) = open.pop() {
-        found.records += 1;
-        found.walks += judge_pointers(tables, &record)?;
+    mut step: impl FnMut(&mut Record, [u8; 3]) -> Result<Answer, String>,
+    mut judge: impl FnMut(&Visit) -> Result<(), String>,
+) -> Result<u64, String> {
+    let mut seen = Seen::default();
+    seen.is_new(fresh, 0)?;
+    let mut open = vec![(fresh.clone(), 0)];
+    let mut records = 0;
+    while let Some((record, oks)) = open.pop() {
+        records += 1;
+        let mut goes_on = false;
         let mut next = record.clone();
-        for call in all_calls(record.n, found.records as u8) {
-            step(&mut next, call).map_err(|what| format!("from {record:?}: {what}"))?;
-            if key(&next) == key(&record) {
+        for call in all_calls(record.n, records as u8) {
+            let answer = step(&mut next, call).map_err(|what| format!("from {record:?}: {what}"))?;
+            if answer != Answer::Ok && key(&next) == key(&record) {
                 continue;
             }
+            goes_on |= answer == Answer::Ok;
             let reached = std::mem::replace(&mut next, record.clone());
-            if seen.insert(key(&reached)) {
-                open.push(reached);
+            let oks = oks + usize::from(answer == Answer::Ok);
+            if seen.is_new(&reached, oks)? {
+                open.push((reached, oks));
             }
         }
+        let record = &record;
+        judge(&Visit { record, oks, goes_on })?;
     }
-    Ok(found)
+    Ok(records)
+}
+
+/// The records that a search has come to, each with how many calls were answered ok on the way.
+#[derive(Default)]
+struct Seen(HashMap<u64, usize, BuildHasherDefault<KeyHasher>>);
+
+impl Seen {
+    fn is_new(&mut self, record: &Record, oks: usize) -> Result<bool, String> {
+        match self.0.insert(key(record), oks) {
+            Some(others) if others != oks => Err(format!(
+                "{oks} calls answered ok, and {others} another time with {record:?}"
+            )),
+            before => Ok(before.is_none()),
+        }
+    }
+}
+
+/// It always gets there: unless all routers are done, some call is answered ok.
+pub fn judge_progress(needs: usize, missing: usize, visit: &Visit) -> Result<(), String> {
+    let &Visit { record, oks, goes_on } = visit;
+    if !goes_on && !all_done(record) {
+        return Err(format!("no call is answered ok with {record:?}"));
+    }
+    let course = Course { needs, oks };
+    course.judge(record)?;
+    course.judge_missing(missing)
 }
 
 /// All calls of the five kinds with routers of the area. Three kinds do not read b, which is then any byte.
@@ -227,7 +270,7 @@ impl Hasher for KeyHasher {
 
 /// For every destination and every start: no walk goes round in a cycle, and where the start reaches the destination
 /// in both topologies no walk ends elsewhere. The number of walks.
-fn judge_pointers(tables: &SixTables, record: &Record) -> Result<u64, String> {
+pub fn judge_pointers(tables: &SixTables, record: &Record) -> Result<u64, String> {
     let n = usize::from(record.n);
     let mut walks = 0;
     for destination in 0..n {

@@ -74,6 +74,7 @@ fn refusal(record: &Record, kind: u8, a: u8, b: u8, flaw: Flaw) -> u8 {
         WRITE => write_refusal(record, a, b, flaw),
         FINISH => finish_refusal(record, a, flaw),
         _ if record.states[a] != DONE => 27,
+        _ if flaw == Flaw::NothingDueNothingTold && record.due[a] == 0 => 28,
         _ => unless(has(record.telling[a], b), 28),
     }
 }

@@ -1,5 +1,7 @@
 //! Lists of steps: orderly runs, random calls, repeated and late messages, and any bytes.
 
+use crate::flaw::Flaw;
+use crate::needs::needs;
 use crate::ofib::{Record, Set, WIDTH};
 use crate::plan::{has, members};
 use crate::random::Random;
@@ -26,6 +28,16 @@ impl Caller {
         }
     }
 
+    /// Every call brings some router forward, as long as not all are done.
+    pub fn orderly(random: &mut Random) -> Caller {
+        Caller {
+            orderly_percent: 100,
+            any_bytes_percent: 0,
+            late_learners: random.set(),
+            last: [0; 3],
+        }
+    }
+
     pub fn next(&mut self, random: &mut Random, record: &Record) -> [u8; 3] {
         self.last = if random.chance(self.any_bytes_percent) {
             [random.byte(), random.byte(), random.byte()]
@@ -46,9 +58,7 @@ impl Caller {
 
 /// How many calls a list has: none, a few, or enough for a whole run of most plans.
 pub fn length(random: &mut Random, record: &Record) -> usize {
-    let messages: u32 = record.waiting.iter().map(|set| set.count_ones()).sum();
-    let writes: u32 = record.due.iter().map(|set| set.count_ones()).sum();
-    let whole = 3 * usize::from(record.n) + messages as usize + writes as usize;
+    let whole = needs(record, Flaw::None);
     match random.below(10) {
         0 => 0,
         1 | 2 => random.between(1, 40),

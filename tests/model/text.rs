@@ -1,27 +1,113 @@
-//! The text of the rehearsal (01, "The rehearsal"), of the routes, and of the steps of the running sheet.
+//! The text of the rehearsal (01, "The rehearsal", with the line of 02, No. 8), of the routes, of the steps of the
+//! running sheet, and of what is unfinished.
 
 use std::fmt::Write;
 
 use crate::flaw::Flaw;
+use crate::needs::needs;
 use crate::ofib::{Answer, Contents, Record, Set, Tables, WIDTH};
 use crate::paths::{UNREACHED, at, pairs};
-use crate::plan::plan;
+use crate::plan::{members, plan, set_of};
 use crate::read::{MOST_STEPS, read};
 use crate::sheet;
-use crate::step::step;
+use crate::step::{DONE, run, step};
 
 /// What the text of a sheet with too many steps begins with; their number follows.
 pub const TOO_MANY_STEPS: &str = "too many steps: ";
 
 pub fn rehearsal(file: &[u8], t: &mut Tables, flaw: Flaw) -> String {
     match prepare(file, t, flaw) {
+        Err(number) if flaw == Flaw::NeedsThoughRefused => format!("refused {number}\nneeds 0\n"),
         Err(number) => format!("refused {number}\n"),
         Ok((contents, record)) => {
             if flaw == Flaw::RehearsalExchanges {
                 t.old_dist.swap_with_slice(t.new_dist);
             }
-            router_lines(&record) + &step_lines(file, &contents, record, flaw) + "end\n"
+            let steps = steps_of(file, &contents);
+            let needs = format!("needs {}\n", needs(&counted(&record, steps, t, flaw), flaw));
+            let (routers, steps) = (router_lines(&record), step_lines(record, steps, flaw));
+            match flaw {
+                Flaw::NeedsAfterSteps => routers + &steps + &needs + "end\n",
+                _ => routers + &needs + &steps + "end\n",
+            }
         }
+    }
+}
+
+/// The record whose sets are counted before the steps: the fresh one.
+fn counted(fresh: &Record, steps: &[u8], t: &Tables, flaw: Flaw) -> Record {
+    let mut record = fresh.clone();
+    match flaw {
+        Flaw::NeedsOfLast => run(&mut record, steps, flaw),
+        Flaw::NeedsByDistances => {
+            let n = usize::from(record.n);
+            let moved = |r, d| t.old_dist[at(r, d)] != t.new_dist[at(r, d)];
+            for r in 0..n {
+                record.due[r] = set_of(n, |d| moved(r, d));
+            }
+        }
+        _ => {}
+    }
+    record
+}
+
+/// After the last step, a line for each router that is not done: its state, those that it still waits for, and what is
+/// due and not written. Then how many calls are missing: as many as the plan needs but for those answered ok.
+pub fn unfinished(file: &[u8], t: &mut Tables, flaw: Flaw) -> String {
+    let (contents, fresh) = match prepare(file, t, flaw) {
+        Err(number) => return format!("refused {number}\n"),
+        Ok(prepared) => prepared,
+    };
+    let mut last = fresh.clone();
+    let mut oks = 0;
+    for call in steps_of(file, &contents).chunks_exact(3) {
+        let answer = step(&mut last, [call[0], call[1], call[2]], flaw);
+        oks += i64::from(match flaw {
+            Flaw::MissingByCalls => true,
+            Flaw::MissingByIgnored => matches!(answer, Answer::Ok | Answer::Ignored),
+            _ => answer == Answer::Ok,
+        });
+    }
+    let missing = needs(&fresh, flaw) as i64 - oks;
+    let mut text = unfinished_lines(&fresh, &last, flaw);
+    if missing != 0 || flaw != Flaw::MissingLineLeftOut {
+        line(&mut text, format_args!("missing {missing}"));
+    }
+    text
+}
+
+fn unfinished_lines(fresh: &Record, last: &Record, flaw: Flaw) -> String {
+    let mut text = String::new();
+    for r in 0..usize::from(last.n) {
+        if last.states[r] == DONE && flaw != Flaw::DonePrinted {
+            continue;
+        }
+        let state = ["idle", "holding", "ongoing", "done"][usize::from(last.states[r])];
+        let waits = match flaw {
+            Flaw::WaitsOfFresh => fresh.waiting[r],
+            _ => last.waiting[r],
+        };
+        let unwritten = match flaw {
+            Flaw::UnwrittenAsDue => last.due[r],
+            _ => last.due[r] & !last.written[r],
+        };
+        let (waits, unwritten) = (members_or_none(waits, flaw), members_or_none(unwritten, flaw));
+        line(
+            &mut text,
+            format_args!("router {r} {state} waits {waits} unwritten {unwritten}"),
+        );
+    }
+    text
+}
+
+fn members_or_none(set: Set, flaw: Flaw) -> String {
+    if flaw == Flaw::SetsAsNumbers {
+        return set.to_string();
+    }
+    let words: Vec<String> = members(set).map(|router| router.to_string()).collect();
+    match words.is_empty() {
+        true => "none".to_string(),
+        false => words.join(" "),
     }
 }
 
@@ -95,9 +181,12 @@ fn router_lines(record: &Record) -> String {
     text
 }
 
-fn step_lines(file: &[u8], contents: &Contents, mut record: Record, flaw: Flaw) -> String {
+fn steps_of<'a>(file: &'a [u8], contents: &Contents) -> &'a [u8] {
+    &file[contents.steps_at..contents.steps_at + 3 * contents.steps]
+}
+
+fn step_lines(mut record: Record, steps: &[u8], flaw: Flaw) -> String {
     let mut text = String::new();
-    let steps = &file[contents.steps_at..contents.steps_at + 3 * contents.steps];
     for (index, call) in steps.chunks_exact(3).enumerate() {
         let number = index + 1;
         match step(&mut record, [call[0], call[1], call[2]], flaw) {

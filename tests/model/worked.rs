@@ -1,6 +1,6 @@
 //! The printed rehearsal and the small areas C1 to C13 of 01, by the root of 02, No. 2, with the other directions of
-//! No. 4, running sheets of them, links that are up at one end only, and dead links: the model must give what is worked
-//! out by hand, and the library the same.
+//! No. 4, running sheets of them, links that are up at one end only, dead links, how many calls some plans need, and
+//! what is unfinished after some steps: the model must give what is worked out by hand, and the library the same.
 
 use crate::areas::Area;
 use crate::changes::bytes_of;
@@ -10,6 +10,7 @@ use crate::file_cases::{Amount, compare_file};
 use crate::files::{Parts, bytes};
 use crate::flaw::Flaw;
 use crate::lent::{RIGHT_SIZES, SixTables};
+use crate::needs::needs;
 use crate::ofib::{Answer, CELLS, Record, Set, WIDTH};
 use crate::paths::{UNUSED, at, paths};
 use crate::plan::{Change, FALL, RISE, plan};
@@ -18,17 +19,21 @@ use crate::read::read;
 use crate::rewriting::rewritten;
 use crate::sheet::sheet;
 use crate::step::step;
-use crate::text::rehearsal;
+use crate::text::{rehearsal, unfinished};
 
 type Link = (u8, u8, u32);
 
 const INPUT: &str = "03 0006 0001000001 0100000001 0102000001 0201000001 0002000003 0200000003 \
     02 0102FFFFFF 0201FFFFFF 000A 010100 020100 030102 010000 020000 030002 040000 050001 050001 030102";
 
+/// Where in it the step count stands.
+const STEP_COUNT_AT: usize = 44;
+
 const OUTPUT: &str = "\
 router 0 rank 0 waits 0 tells 2 due 4
 router 1 rank 1 waits 5 tells 0 due 4
 router 2 rank 0 waits 0 tells 2 due 3
+needs 15
 step 1 ok
 step 2 ok
 step 3 refused 24
@@ -42,8 +47,53 @@ step 10 refused 24
 end
 ";
 
+/// After so many of the printed steps, what is unfinished. Steps 3 and 10 are refused and step 9 is ignored, so that 7
+/// of the 15 calls that are needed have been answered ok in the end.
+const UNFINISHED: [(usize, &str); 4] = [
+    (
+        0,
+        "\
+router 0 idle waits none unwritten 2
+router 1 idle waits 0 2 unwritten 2
+router 2 idle waits none unwritten 0 1
+missing 15
+",
+    ),
+    (
+        4,
+        "\
+router 0 holding waits none unwritten 2
+router 1 ongoing waits 0 2 unwritten 2
+router 2 idle waits none unwritten 0 1
+missing 12
+",
+    ),
+    (
+        6,
+        "\
+router 0 ongoing waits none unwritten none
+router 1 ongoing waits 0 2 unwritten 2
+router 2 idle waits none unwritten 0 1
+missing 10
+",
+    ),
+    (
+        10,
+        "\
+router 1 ongoing waits 2 unwritten 2
+router 2 idle waits none unwritten 0 1
+missing 8
+",
+    ),
+];
+
+/// What brings the printed rehearsal to its end after its own steps.
+const THE_REST: &str = "010200 020200 030200 030201 040200 050201 030102 040100";
+
 const FIRST_LINKS: [Link; 6] = [(0, 1, 1), (1, 0, 1), (1, 2, 1), (2, 1, 1), (0, 2, 3), (2, 0, 3)];
 const FIRST_CHANGES: [Link; 2] = [(1, 2, UNUSED), (2, 1, UNUSED)];
+const SECOND_LINKS: [Link; 4] = [(0, 1, 1), (1, 0, 1), (0, 2, 3), (2, 0, 3)];
+const SECOND_CHANGES: [Link; 2] = [(1, 2, 1), (2, 1, 1)];
 const SIXTH_LINKS: [Link; 2] = [(0, 1, UNUSED - 1), (1, 0, 1)];
 const NINTH_LINKS: [Link; 4] = [(0, 1, 1), (1, 0, 1), (2, 3, 1), (3, 2, 1)];
 const NINTH_CHANGES: [Link; 2] = [(0, 1, 2), (2, 3, 2)];
@@ -68,7 +118,83 @@ pub fn check_model() -> Result<(), String> {
     half_links()?;
     printed_steps()?;
     dead_links()?;
-    sheets()
+    sheets()?;
+    needed()?;
+    unfinished_texts()
+}
+
+/// How many calls plans need: 3 of each router, the messages and the writes. C1, C4 and C2 need as many with the root
+/// of 01, the far end of the first change: where it is another router, others wait, and as many messages are sent.
+fn needed() -> Result<(), String> {
+    let reversed = [FIRST_CHANGES[1], FIRST_CHANGES[0]];
+    for (name, links, changes, far_end) in [
+        ("C1", &FIRST_LINKS[..], FIRST_CHANGES, 2),
+        ("C4", &FIRST_LINKS, reversed, 1),
+        ("C2", &SECOND_LINKS, SECOND_CHANGES, 2),
+    ] {
+        for (flaw, root) in [(Flaw::None, 1), (Flaw::RootFarEnd, far_end)] {
+            let (_, record, _) = planned_with(3, links, &changes, flaw);
+            let found = (record.root, needs(&record, Flaw::None));
+            same(&format!("{name}, root and needs"), found, (root, 9 + 2 + 4))?;
+        }
+    }
+    needed_elsewhere()
+}
+
+fn needed_elsewhere() -> Result<(), String> {
+    let of = |n, links: &[Link], changes: &[Link]| {
+        let (answer, record, _) = planned(n, links, changes);
+        (answer, needs(&record, Flaw::None))
+    };
+    // Router 0 waits for router 1, and each has the other due.
+    let down = of(2, &both_ways(0, 1, 1), &both_ways(0, 1, UNUSED));
+    same("a link down, needs", down, (0, 6 + 1 + 2))?;
+    // Router 1 waits for 0, and 2 for 1 and 3. No next hop changes.
+    let chain: Vec<Link> = (0..3).flat_map(|i| both_ways(i, i + 1, 1)).collect();
+    same("a dearer link, needs", of(4, &chain, &both_ways(2, 3, 2)), (0, 12 + 3))?;
+    // The hub waits for all others, or they for it. Every router loses or gets every other, or keeps all.
+    let (hub, no_hub) = (star(5, 1), star(5, UNUSED));
+    same("a hub down, needs", of(5, &hub, &no_hub), (0, 15 + 4 + 5 * 4))?;
+    same("a hub up, needs", of(5, &[], &hub), (0, 15 + 4 + 5 * 4))?;
+    same("a cheaper hub, needs", of(5, &star(5, 2), &hub), (0, 15 + 4))?;
+    let largest = of(64, &star(64, 1), &star(64, UNUSED));
+    same("a hub of 64 down, needs", largest, (0, 192 + 63 + 64 * 63))
+}
+
+/// Router 0 is the hub of all others.
+fn star(n: u8, metric: u32) -> Vec<Link> {
+    (1..n).flat_map(|i| both_ways(0, i, metric)).collect()
+}
+
+fn unfinished_texts() -> Result<(), String> {
+    let text = |file: &[u8]| {
+        let mut tables = SixTables::filled(&mut Random::for_case(0, 0, 3), RIGHT_SIZES);
+        unfinished(file, &mut tables.lend(), Flaw::None)
+    };
+    for (steps, wanted) in UNFINISHED {
+        let what = format!("unfinished after {steps} of the printed steps");
+        same(&what, text(&stopped(steps)), wanted.to_string())?;
+    }
+    same("unfinished at the end", text(&finished()), "missing 0\n".to_string())?;
+    let refused = file_of((4, &NINTH_LINKS, &NINTH_CHANGES));
+    same("C9, unfinished", text(&refused), "refused 13\n".to_string())
+}
+
+/// The printed rehearsal with so many of its steps.
+fn stopped(steps: usize) -> Vec<u8> {
+    let mut file = input();
+    file.truncate(file.len() - 3 * (10 - steps));
+    file[STEP_COUNT_AT + 1] = steps as u8;
+    file
+}
+
+/// The printed rehearsal with the steps that are missing behind its own.
+fn finished() -> Vec<u8> {
+    let mut file = input();
+    let rest = bytes(THE_REST);
+    file[STEP_COUNT_AT + 1] += rest.len() as u8 / 3;
+    file.extend(rest);
+    file
 }
 
 /// The examples on the library and its programs beside the model.
@@ -98,17 +224,15 @@ fn input() -> Vec<u8> {
 }
 
 fn planned(n: usize, links: &[Link], changes: &[Link]) -> (u8, Record, SixTables) {
+    planned_with(n, links, changes, Flaw::None)
+}
+
+fn planned_with(n: usize, links: &[Link], changes: &[Link], flaw: Flaw) -> (u8, Record, SixTables) {
     let mut random = Random::for_case(0, 0, 2);
     let mut tables = SixTables::filled(&mut random, RIGHT_SIZES);
     tables.old.cells_mut().copy_from_slice(&area(n, links).metric);
     let mut record = Record::default();
-    let answer = plan(
-        n,
-        &bytes_of(&entries(changes)),
-        &mut tables.lend(),
-        &mut record,
-        Flaw::None,
-    );
+    let answer = plan(n, &bytes_of(&entries(changes)), &mut tables.lend(), &mut record, flaw);
     (answer, record, tables)
 }
 
@@ -133,8 +257,7 @@ fn orders() -> Result<(), String> {
     same("C1, root", first.root, 1)?;
     same("C1, ranks", &first.ranks[..3], &[0, 1, 0])?;
     same("C1, waits", &first.waiting[..3], &[0, 5, 0])?;
-    let links = [(0, 1, 1), (1, 0, 1), (0, 2, 3), (2, 0, 3)];
-    let (_, record, _) = planned(3, &links, &[(1, 2, 1), (2, 1, 1)]);
+    let (_, record, _) = planned(3, &SECOND_LINKS, &SECOND_CHANGES);
     same("C2, ranks", &record.ranks[..3], &[1, 0, 1])?;
     same("C2, waits", &record.waiting[..3], &[2, 0, 2])?;
     let (_, record, _) = planned(3, &FIRST_LINKS, &[FIRST_CHANGES[1], FIRST_CHANGES[0]]);
@@ -350,8 +473,7 @@ fn sheets() -> Result<(), String> {
     let of = |n, links: &[Link], changes: &[Link]| sheet(&planned(n, links, changes).1, [9; WIDTH], Flaw::None);
     let places = |routers: &[u8]| std::array::from_fn(|place| routers.get(place).copied().unwrap_or(0));
     same("C1, sheet", of(3, &FIRST_LINKS, &FIRST_CHANGES), places(&[0, 2, 1]))?;
-    let links = [(0, 1, 1), (1, 0, 1), (0, 2, 3), (2, 0, 3)];
-    same("C2, sheet", of(3, &links, &[(1, 2, 1), (2, 1, 1)]), places(&[1, 0, 2]))?;
+    same("C2, sheet", of(3, &SECOND_LINKS, &SECOND_CHANGES), places(&[1, 0, 2]))?;
     let reversed = [FIRST_CHANGES[1], FIRST_CHANGES[0]];
     same("C4, sheet", of(3, &FIRST_LINKS, &reversed), places(&[0, 2, 1]))?;
     let links = [(0, 1, 1), (1, 0, 1), (1, 3, 1), (3, 1, 1), (2, 3, 1), (3, 2, 1)];
@@ -374,7 +496,9 @@ fn file_of((n, links, changes): Example) -> Vec<u8> {
 fn large_files() -> Vec<Vec<u8>> {
     let (chain, ring, cube) = (longest_chain(), ring(), hypercube());
     let across = both_ways(0, 63, 1);
-    let examples: [Example; 6] = [
+    let (hub, hub_down) = (star(64, 1), star(64, UNUSED));
+    let examples: [Example; 7] = [
+        (64, &hub, &hub_down),
         (64, &chain, &[(62, 63, UNUSED)]),
         (64, &chain, &across),
         (64, &ring, &RING_CHANGES),
@@ -388,11 +512,7 @@ fn large_files() -> Vec<Vec<u8>> {
 /// The examples as bench files.
 fn files() -> Vec<Vec<u8>> {
     let examples: [Example; 12] = [
-        (
-            3,
-            &[(0, 1, 1), (1, 0, 1), (0, 2, 3), (2, 0, 3)],
-            &[(1, 2, 1), (2, 1, 1)],
-        ),
+        (3, &SECOND_LINKS, &SECOND_CHANGES),
         (3, &FIRST_LINKS, &[(2, 1, UNUSED), (1, 2, UNUSED)]),
         (2, &[(0, 1, UNUSED)], &[(0, 1, UNUSED - 1)]),
         (2, &[], &[(0, 1, UNUSED - 1)]),
@@ -407,6 +527,8 @@ fn files() -> Vec<Vec<u8>> {
     ];
     let mut files: Vec<Vec<u8>> = examples.into_iter().map(file_of).collect();
     files.extend(DEAD_LINKS.map(|(file, ..)| bytes(file)));
-    files.push(input());
+    files.extend((0..=10).map(stopped));
+    files.push(finished());
+    files.push(file_of((5, &star(5, 1), &star(5, UNUSED))));
     files
 }

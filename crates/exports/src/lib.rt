@@ -5,6 +5,7 @@
 //     ofib_paths, ofib_plan           Paths and Plan
 //     ofib_sheet                      the running sheet of a plan
 //     ofib_step, ofib_run             one step, and all the steps of a list
+//     ofib_needs, ofib_missing        how many calls a change takes, and how many of them are still to come
 //     ofib_rehearse, ofib_routes      the texts that the programs print
 // Module `fields` takes a record from its fields and puts it back, and makes a number of a step's answer. Each function
 // promises what the call under it promises: the same definitions, over the numbers of specs/Fields.antt and
@@ -23,6 +24,7 @@ ghost use Rattle.plan.specs.Plan.{asTables, areTables, planRefusal, recordOf, t
 ghost use Rattle.sheet.specs.Sheet.{sheetOf};
 ghost use Rattle.machine.specs.Machine.{over, stepOf};
 ghost use Rattle.machine.specs.Run.{run, callsOf};
+ghost use Rattle.needs.specs.Needs.{needs, missing};
 ghost use Rattle.bench_file.specs.Read.{readRefusal, contentsOf, metricsOf};
 ghost use Rattle.isis.specs.Isis.{isisRefusal, isisMetrics};
 ghost use Rattle.text.specs.Text.{Appended};
@@ -258,6 +260,33 @@ pub extern "C" fn ofib_run(
         states,
         written,
     );
+}
+
+// How many calls are answered ok until all routers are done. n and two of the tables per router are all that it reads
+// of a fresh record.
+#[no_mangle]
+pub extern "C" fn ofib_needs(n: u8, waiting: &[Set; WIDTH], due: &[Set; WIDTH]) -> usize
+    ensures count { λ r. ⌜ ((x : Record) →
+        r ≡ needs (over x n (now (waiting .entry)) (x .telling) (now (due .entry)) (x .states) (x .written))) ⌝ }
+{
+    needs::lent::needs(n, waiting, due)
+}
+
+// How many of these are still to come. n and four of the tables per router are all that it reads of a record.
+#[no_mangle]
+pub extern "C" fn ofib_missing(
+    n: u8,
+    waiting: &[Set; WIDTH],
+    due: &[Set; WIDTH],
+    states: &[u8; WIDTH],
+    written: &[Set; WIDTH],
+) -> usize
+    ensures count { λ r. ⌜ ((x : Record) →
+        let now = over x n (now (waiting .entry)) (x .telling) (now (due .entry))
+        (now (states .entry)) (now (written .entry)) in
+        r ≡ missing now) ⌝ }
+{
+    needs::lent::missing(n, waiting, due, states, written)
 }
 
 // The text of the rehearsal of a file.

@@ -19,7 +19,7 @@ use Rattle.area.specs.Limits.{width, unused}
 use Rattle.area.specs.Tests.{all, first}
 use Rattle.area.specs.Tables.{build, tabulate, perRouter}
 use Rattle.area.specs.Sizes.{isRouterCount, isTable}
-use Rattle.sets.specs.Sets.{bit, setOf, added, removed, subset}
+use Rattle.sets.specs.Sets.{bit, setOf, added, removed, without, subset}
 use Rattle.entries.specs.Entries.{entryCount, entryOf, isFree, entryRefusal, listedRefusal, listedMetric}
 use Rattle.topology.specs.Topology.{isLink, topology}
 use Rattle.topology.specs.Distance.{sums, least, distance}
@@ -147,7 +147,8 @@ record FallAnswers (r : Record) : Type 0 where
 
 answered : RiseAnswers (recordOf 3 metricsUp goesDown lent) × FallAnswers (recordOf 3 metricsDown comesUp lent)
 unfolding beforeRise beforeFall riseCalls riseRest fallCalls replies hasWritten stepOf callOf areRouters readsB
-    isKind isSound isRouterCount all deliver listens finish write ready release learn bit setOf added removed subset
+    isKind isSound isRouterCount all deliver listens finish write ready release learn bit setOf added removed without
+    subset
 answered = (
   subst RiseAnswers (sym (planned .0 .given)) (record { all-replies = refl; has-written = refl; has-not = refl }),
   subst FallAnswers (sym (planned .1 .given)) (record { all-replies = refl; has-written = refl; has-not = refl }),

@@ -12,7 +12,7 @@
 //     RunLaws      what every list of calls keeps: `Kept`; crate loop_free builds on it
 //     HeldLaws     what it keeps beside: `Held`
 //     OkLaws       when a call of each kind is answered ok, and the record that it gives then
-//     OrderedLaws  what is ordered in a plan's record: `Ordered`; crate sheet builds on these three
+//     OrderedLaws  what is ordered in a plan's record: `Ordered`; crates needs and sheet build on these three
 // The code of Step is in the crate steps.
 pub mod states;
 

@@ -1,5 +1,5 @@
 -- Laws of what a bench file gives before its first step.
---     read-passed, file-of                             Read and the file, where nothing is refused
+--     read-passed, file-of, plan-passed                Read, the file and its plan, where nothing is refused
 --     record-passed, tables-passed                     what is handed back and left then
 --     changes-within                                   the changes lie in the file, also where Read refuses
 --     refusal-given, record-given, tables-given        Read, and then Plan on what Read gives
@@ -22,7 +22,7 @@ use Rattle.area.specs.TestLaws.{then-some, then-none, then-both}
 use Rattle.area.specs.SizeLaws.{router-count-low}
 use Rattle.plan.specs.declared.Record.{Record}
 use Rattle.plan.specs.Plan.{Tables, areTables, planRefusal, isPlanned, blank, recordOf, tablesOf as fills}
-use Rattle.plan.specs.PlanLaws.{plan-count, planned-true, planned-false}
+use Rattle.plan.specs.PlanLaws.{Plan, plan-of, plan-count, planned-true, planned-false}
 use Rattle.plan.specs.PlanLaws.{record-planned, record-refused, tables-planned, tables-refused}
 use Rattle.bench_file.specs.Sections.{routers, changeCount, changesAt, changes, largest}
 use Rattle.bench_file.specs.declared.Format.the-variants.{New}
@@ -86,6 +86,9 @@ module _ (f m : List ℕ) where
 
       pub file-of : Accepted New f
       file-of = file-accepted f m read-passed
+
+      pub plan-passed : Plan (routers f) (metrics f) (changes f)
+      plan-passed = plan-of (routers f) (metrics f) (changes f) t (both .1)
 
       pub record-passed : recordAt f m t ≡ planned f
       unfolding recordAt

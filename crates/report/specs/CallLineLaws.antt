@@ -5,7 +5,8 @@
 --     one-appended, member-called, member-uncalled  one call; a call for a member of a set, and none for another router
 --     each-start, each-next                        no list of calls, and one more
 --     turn-called, sheet-called                    the calls of a turn, and of a whole sheet
---     section-whole, section-long, sheet-section   the section, one with too many steps, and that of a sheet
+--     section-whole, section-long                  the section, and one with too many steps
+--     places-called                                the calls of a sheet, by its places
 use Prim.Native.Nat.{ℕ, _+_, _/_, _%_, _≤_, _<_}
 use mathlib.Core.Path.{_≡_, refl, sym, ap, subst, _∙_}
 use mathlib.Core.Bool.{Bool, true, false}
@@ -136,11 +137,11 @@ module _ (calls : List Call) (count : ℕ) (counted : count ≡ length calls) wh
   unfolding stepSection
   section-long h u = rw (← counted, lt-leb count mostSteps h) u
 
--- the section of a record's sheet, by the routers at its places
-pub sheet-section :
+-- the calls of a record's sheet, by the routers at its places
+pub places-called :
     (r : Record) (places : List ℕ) {o p : List ℕ} {a b : ℕ}
     → places ≡ sheetOf r
-    → Appended o a (stepSection (following r (λ k. getD places k 0))) p b
-    → Appended o a (stepSection (sheetCalls r)) p b
-sheet-section r places {o} {p} {a} {b} is u =
-    subst (λ (l : List ℕ). Appended o a (stepSection (following r (λ k. getD l k 0))) p b) is u
+    → Appended o a (callLines (following r (λ k. getD places k 0))) p b
+    → Appended o a (callLines (sheetCalls r)) p b
+places-called r places {o} {p} {a} {b} is u =
+    subst (λ (l : List ℕ). Appended o a (callLines (following r (λ k. getD l k 0))) p b) is u

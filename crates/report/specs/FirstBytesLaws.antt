@@ -2,7 +2,8 @@
 -- bytes are enough for every program (01, "The rehearsal").
 -- Why: a file that is not refused has no byte beyond them (first-all); of one that is refused the number of the refusal
 -- is all that is printed, and it is the same for them (refusal-first).
---     rehearsal-first, routes-first, sheet-turns-first, sheet-steps-first      what each function prints
+--     rehearsal-first, routes-first, sheet-turns-first, sheet-steps-first, unfinished-first
+--                                                                              what each function prints
 use Prim.Native.Nat.{ℕ, _<_}
 use mathlib.Core.Path.{_≡_, sym, ap, _∙_}
 use mathlib.Core.Logic.{_≢_}
@@ -14,9 +15,9 @@ use Rattle.bench_file.specs.Sections.{largest}
 use Rattle.text.specs.Text.{word, line}
 use Rattle.prepare.specs.Bench.{refusal}
 use Rattle.prepare.specs.BenchLaws.{first-all, refusal-first}
-use Rattle.report.specs.Report.{rehearsal, routes, sheetTurns, sheetSteps}
+use Rattle.report.specs.Report.{rehearsal, routes, sheetTurns, sheetSteps, unfinished}
 use Rattle.report.specs.ReportLaws.{rehearsal-refused, routes-refused}
-use Rattle.report.specs.ReportLaws.{sheet-turns-refused, sheet-steps-refused}
+use Rattle.report.specs.ReportLaws.{sheet-turns-refused, sheet-steps-refused, unfinished-refused}
 
 module _ (f m : List ℕ) (t : Tables) (k : ℕ) (more : largest < k) where
   -- all texts are such: where something is refused, they are the line of its number
@@ -47,3 +48,6 @@ module _ (f m : List ℕ) (t : Tables) (k : ℕ) (more : largest < k) where
 
   pub sheet-steps-first : sheetSteps (take k f) m t ≡ sheetSteps f m t
   sheet-steps-first = text-first (λ g. sheetSteps g m t) (λ g. sheet-steps-refused g m t)
+
+  pub unfinished-first : unfinished (take k f) m t ≡ unfinished f m t
+  unfinished-first = text-first (λ g. unfinished g m t) (λ g. unfinished-refused g m t)

@@ -1,8 +1,8 @@
 -- How many bytes the lines have at most. A word has its own length and a number at most twenty digits (`field-most` and
 -- `line-most` of the crate text), so each line is bounded by the sum of its parts; all lines of a kind are bounded by
 -- that for each of them.
---     refused-most, router-most, step-most, route-most, turn-most, call-most      one line
---     routers-most, steps-most, routes-most, turns-most, section-most             all lines of a kind
+--     refused-most, router-most, step-most, route-most, turn-most, unfinished-most, call-most     one line
+--     routers-most, steps-most, routes-most, turns-most, unfinished-lines-most, section-most      all lines of a kind
 use Prim.Native.Nat.{ℕ, zero, suc, _+_, _*_, _/_, _%_, _≤_}
 use mathlib.Core.Path.{_≡_}
 use mathlib.Core.Bool.{true, false}
@@ -17,8 +17,12 @@ use Rattle.area.specs.TestLaws.{look}
 use Rattle.sets.specs.Sets.{bit}
 use Rattle.plan.specs.declared.Record.{Record}
 use Rattle.machine.specs.Answers.{Reply, ok, ignored, refused}
-use Rattle.machine.specs.Machine.{dueOf, tellingOf}
+use Rattle.machine.specs.declared.states.State.{State}
+use Rattle.machine.specs.declared.states.State.the-variants.{Idle, Holding, Ongoing, Done}
+use Rattle.machine.specs.Machine.{done, stateOf, waitingOf, dueOf, tellingOf}
+use Rattle.machine.specs.States.{named}
 use Rattle.machine.specs.Run.{Call}
+use Rattle.needs.specs.Needs.{unwrittenOf}
 use Rattle.text.specs.Text.{word}
 use Rattle.text.specs.TextLaws.{field-most, line-most, refused-most}
 use Rattle.hex.specs.PrintingLaws.{byte-length}
@@ -26,6 +30,7 @@ use Rattle.report.specs.declared.lines.Path.{Path}
 use Rattle.report.specs.Lines.{routerLine, routerLines, answerText, stepLine, stepLines}
 use Rattle.report.specs.Lines.{pathText, routeLine, isPrinted, pairText, path, rowLines, routeLines}
 use Rattle.report.specs.Lines.{memberWord, memberText, setText, turnLine, turnLines}
+use Rattle.report.specs.Lines.{stateWord, unfinishedLine, unfinishedText, unfinishedLines}
 use Rattle.report.specs.Lines.{countLine, callLine, callLines, stepSection}
 
 -- ---- one line
@@ -91,6 +96,27 @@ turn-most k a writes tells =
     let named = field-most (word " router ") a in
     simp length-append (omega (arith, set-most writes, set-most tells))
 
+state-most : (s : State) → length (stateWord s) ≤ 8
+unfolding stateWord
+state-most Idle = omega arith
+state-most Holding = omega arith
+state-most Ongoing = omega arith
+state-most Done = omega arith
+
+unfinished-most :
+    (i : ℕ) (s : State) (waits unwritten : ℕ)
+    → length (unfinishedLine i s waits unwritten) ≤ 52 + 42 * width
+unfolding unfinishedLine
+unfinished-most i s waits unwritten =
+    let named = field-most (word "router ") i in
+    simp length-append (omega (arith, state-most s, set-most waits, set-most unwritten))
+
+unfinished-text-most : (r : Record) (i : ℕ) → length (unfinishedText r i) ≤ 52 + 42 * width
+unfolding unfinishedText
+unfinished-text-most r i =
+    let most = unfinished-most i (named (stateOf r i)) (waitingOf r i) (unwrittenOf r i) in
+    ⊎-elim (λ t. rw t (omega arith)) (λ f. rw f (omega arith)) (look (eqb (stateOf r i) done))
+
 count-most : (count : ℕ) → length (countLine count) ≤ 5
 unfolding countLine
 count-most count =
@@ -133,6 +159,12 @@ turns-most r places zero = omega arith
 turns-most r places (suc k) =
     let a = getD places k 0 in
     simp length-append (omega (arith, turns-most r places k, turn-most (k + 1) a (dueOf r a) (tellingOf r a)))
+
+pub unfinished-lines-most : (r : Record) (k : ℕ) → length (unfinishedLines r k) ≤ (52 + 42 * width) * k
+unfolding unfinishedLines
+unfinished-lines-most r zero = omega arith
+unfinished-lines-most r (suc k) =
+    simp length-append (omega (arith, unfinished-lines-most r k, unfinished-text-most r k))
 
 calls-most : (calls : List Call) → length (callLines calls) ≤ 9 * length calls
 unfolding callLines

@@ -3,6 +3,7 @@ pub mod Lines
 pub mod Report
 pub mod LineLaws
 pub mod SheetLineLaws
+pub mod UnfinishedLaws
 pub mod CallLineLaws
 pub mod LengthLaws
 pub mod ReportLaws

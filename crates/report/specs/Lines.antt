@@ -1,5 +1,5 @@
--- The lines that the programs print, as bytes: those of the rehearsal (01, "The rehearsal"), and those of the routes
--- and of the running sheet, which are our own (docs/DECISIONS.md).
+-- The lines that the programs print, as bytes: those of the rehearsal (01, "The rehearsal"; 02, No. 8), and those of
+-- the routes, of the running sheet and of what is left after the last step, which are our own (docs/DECISIONS.md).
 use Prim.Native.Nat.{ℕ, zero, suc, _+_, _/_, _%_}
 use mathlib.Core.Bool.{Bool, not, _&&_}
 use mathlib.Core.List.{List, [], _∷_, _++_}
@@ -11,8 +11,12 @@ use Rattle.area.specs.Tables.{cell}
 use Rattle.sets.specs.Sets.{bit}
 use Rattle.plan.specs.declared.Record.{Record}
 use Rattle.machine.specs.Answers.{Reply, ok, ignored, refused}
-use Rattle.machine.specs.Machine.{dueOf, tellingOf}
-use Rattle.machine.specs.Run.{Call}
+use Rattle.machine.specs.declared.states.State.{State}
+use Rattle.machine.specs.declared.states.State.the-variants.{Idle, Holding, Ongoing, Done}
+use Rattle.machine.specs.Machine.{done, stateOf, waitingOf, dueOf, tellingOf}
+use Rattle.machine.specs.States.{named}
+use Rattle.machine.specs.Run.{Call, run, replies, callsOf}
+use Rattle.needs.specs.Needs.{needs, unwrittenOf, missing}
 use Rattle.sheet.specs.Sheet.{sheetOf}
 use Rattle.text.specs.Text.{word, field, line, refusedLine}
 use Rattle.hex.specs.Digits.{hexByte}
@@ -52,6 +56,14 @@ stepLine k answer = field (word "step ") k ++ answerText answer
 unfoldable pub stepLines : (k : ℕ) (answers : List Reply) → List ℕ
 stepLines k [] = []
 stepLines k (x ∷ l) = stepLine k x ++ stepLines (k + 1) l
+
+-- All of a rehearsal: the routers of a record, what the change needs, the steps that the bytes stand for, and an end.
+abbrev pub rehearsalLines : (r : Record) (bytes : List ℕ) → List ℕ
+rehearsalLines r bytes =
+    routerLines r (r .n) ++
+    (line (word "needs ") (needs r) ++
+    (stepLines 1 (replies r (callsOf bytes)) ++
+    word "end\n"))
 
 -- ---- the routes
 -- a distance and the next-hop set by which it is reached, or that there is no walk
@@ -134,6 +146,44 @@ turnLines r places (suc k) = turnLines r places k ++ turnLineOf r (k + 1) (getD 
 -- all turns of a record's sheet, and an end
 abbrev pub sheetLines : (r : Record) → List ℕ
 sheetLines r = turnLines r (sheetOf r) (r .n) ++ word "end\n"
+
+-- ---- what is left after the last step (02, No. 8)
+-- the name of a state
+unfoldable pub stateWord : (s : State) → List ℕ
+stateWord Idle = word " idle"
+stateWord Holding = word " holding"
+stateWord Ongoing = word " ongoing"
+stateWord Done = word " done"
+
+-- router i in a state, with the routers that it still waits for, and what is due there and unwritten
+unfoldable pub unfinishedLine : (i : ℕ) (s : State) (waits unwritten : ℕ) → List ℕ
+unfinishedLine i s waits unwritten =
+    field (word "router ") i ++
+    (stateWord s ++
+    (word " waits" ++
+    (setText waits ++
+    (word " unwritten" ++
+    (setText unwritten ++
+    word "\n")))))
+
+-- router i of a record; one that is done has no line
+unfoldable pub unfinishedText : (r : Record) (i : ℕ) → List ℕ
+unfinishedText r i =
+    pick (eqb (stateOf r i) done) []
+    (unfinishedLine i (named (stateOf r i)) (waitingOf r i) (unwrittenOf r i))
+
+-- the first k routers of a record
+unfoldable pub unfinishedLines : (r : Record) (k : ℕ) → List ℕ
+unfinishedLines r zero = []
+unfinishedLines r (suc k) = unfinishedLines r k ++ unfinishedText r k
+
+-- what is left of n routers in a record: a line for each that is not done, and how many answers "ok" are still to come
+abbrev pub unfinishedIn : (n : ℕ) (r : Record) → List ℕ
+unfinishedIn n r = unfinishedLines r n ++ line (word "missing ") (missing r)
+
+-- the same after the steps that the bytes stand for
+abbrev pub unfinishedAfter : (r : Record) (bytes : List ℕ) → List ℕ
+unfinishedAfter r bytes = unfinishedIn (r .n) (run r (callsOf bytes))
 
 -- ---- calls, as the step section of a bench file in hexadecimal (01, "The bench file")
 -- the count of steps, two bytes with the high byte first

@@ -2,21 +2,22 @@
 -- the steps are, and filled tables, each by an equation on the file. Where it refuses, that one line is the text. Where
 -- it does not, the record is Plan's, the steps are those of the file and the tables are filled by Plan, so their lines
 -- are the lines of the definition; and what the file was accepted for gives the bounds that the loops ask for.
---     rehearsal-refused, routes-refused, sheet-turns-refused, sheet-steps-refused
+--     rehearsal-refused, routes-refused, sheet-turns-refused, sheet-steps-refused, unfinished-refused
 --                                             the text where Read or Plan refuses
---     rehearsal-whole, routes-whole, sheet-turns-whole, sheet-steps-whole
+--     rehearsal-whole, routes-whole, sheet-turns-whole, sheet-steps-whole, unfinished-whole
 --                                             the text where neither refuses
 --     refused-printed, lines-printed          the refusal, or all lines
---     rehearsalLines, lines-appended          the lines of a record and of its steps
---     Bounded, bounded, bytes-few             what the rehearsal asks for
+--     rehearsal-appended                      the lines of a record and of its steps
+--     unfinished-joined, unfinished-after     what is unfinished in a record, and after the steps
+--     Bounded, bounded, bytes-few             what the rehearsal asks for, and what is left after it
 --     Full, full-tables                       what the routes ask for
---     few-printed                             what the running sheet asks for
---     rehearsal-printed, routes-printed, sheet-turns-printed, sheet-steps-printed
+--     few-printed, Followed, followed         what the running sheet asks for, and its steps
+--     rehearsal-printed, routes-printed, sheet-turns-printed, sheet-steps-printed, unfinished-printed
 --                                             the text by what `prepare` gives
 use Prim.Native.Nat.{ℕ, _+_, _*_, _≤_}
 use mathlib.Core.Path.{_≡_, refl, sym, ap, ap₂, subst, _∙_}
 use mathlib.Core.Logic.{_≢_}
-use mathlib.Core.List.{List, _++_}
+use mathlib.Core.List.{List}
 use native.Mathlib.Decide.{ℕ-discrete}
 use native.Mathlib.Omega.{arith}
 use borrow.Author.Tests.{eq-eqb, ne-eqb}
@@ -27,8 +28,10 @@ use Rattle.plan.specs.declared.Record.{Record}
 use Rattle.plan.specs.Plan.{Tables, asTables}
 use Rattle.plan.specs.PlanLaws.{filled-size}
 use Rattle.plan.specs.FreshLaws.{fresh-count}
-use Rattle.machine.specs.Run.{replies, callsOf}
+use Rattle.machine.specs.Run.{run, replies, callsOf}
+use Rattle.needs.specs.Needs.{needs, missing}
 use Rattle.sheet.specs.Follow.{sheetCalls}
+use Rattle.sheet.specs.LengthLaws.{fresh-length}
 use Rattle.bench_file.specs.Sections.{routers, changes, stepCount, stepsAt, steps}
 use Rattle.bench_file.specs.declared.Contents.{Contents}
 use Rattle.bench_file.specs.declared.Section.{Section}
@@ -38,17 +41,14 @@ use Rattle.bench_file.specs.FileLaws.{contents-steps}
 use Rattle.text.specs.Text.{Appended, word, line, refusedLine}
 use Rattle.text.specs.TextLaws.{appended-then, refused-is}
 use Rattle.prepare.specs.Bench.{metrics, refusal, planned, filledTables, recordAt, tablesAt}
-use Rattle.prepare.specs.BenchLaws.{read-passed, file-of, record-passed, tables-passed}
-use Rattle.report.specs.Lines.{routerLines, stepLines, routeLines, sheetLines, stepSection}
-use Rattle.report.specs.Report.{unlessRefused, rehearsal, routes, sheetTurns, sheetSteps}
+use Rattle.prepare.specs.BenchLaws.{read-passed, file-of, plan-passed, record-passed, tables-passed}
+use Rattle.report.specs.Lines.{routerLines, stepLines, rehearsalLines, routeLines, sheetLines, stepSection}
+use Rattle.report.specs.Lines.{unfinishedLines, unfinishedIn, unfinishedAfter}
+use Rattle.report.specs.Report.{unlessRefused, rehearsal, routes, sheetTurns, sheetSteps, unfinished}
 
 -- the steps of a file, by where they are
 abbrev pub stepBytes : (f : List ℕ) (s : Section) → List ℕ
 stepBytes f s = take (3 * s .count) (drop (s .at) f)
-
--- all lines of a record and of the steps that the bytes stand for, and the end
-abbrev pub rehearsalLines : (r : Record) (bytes : List ℕ) → List ℕ
-rehearsalLines r bytes = routerLines r (r .n) ++ (stepLines 1 (replies r (callsOf bytes)) ++ word "end\n")
 
 -- the routers are few enough, and the steps lie in the file and are few enough
 pub record Bounded (f : List ℕ) (r : Record) (s : Section) : Type 0 where
@@ -56,16 +56,42 @@ pub record Bounded (f : List ℕ) (r : Record) (s : Section) : Type 0 where
   pub within : s .at + 3 * s .count ≤ length f
   pub most : s .count ≤ mostSteps
 
-pub lines-appended :
-    (r : Record) (bytes : List ℕ) {o p q s : List ℕ} {a b c : ℕ}
+pub rehearsal-appended :
+    (r : Record) (bytes : List ℕ) (count : ℕ) {o p q s l : List ℕ} {a b c d : ℕ}
+    → count ≡ needs r
     → Appended o 0 (routerLines r (r .n)) p a
-    → Appended p a (stepLines 1 (replies r (callsOf bytes))) q b
-    → Appended q b (word "end\n") s c
-    → Appended o 0 (rehearsalLines r bytes) s c
-lines-appended r bytes u v w = appended-then u (appended-then v w)
+    → Appended p a (line (word "needs ") count) q b
+    → Appended q b (stepLines 1 (replies r (callsOf bytes))) s c
+    → Appended s c (word "end\n") l d
+    → Appended o 0 (rehearsalLines r bytes) l d
+rehearsal-appended r bytes count is u v w x = appended-then u (appended-then (rw is at v) (appended-then w x))
+
+pub unfinished-joined :
+    (n : ℕ) (r : Record) (count : ℕ) {o p q : List ℕ} {a b : ℕ}
+    → count ≡ missing r
+    → Appended o 0 (unfinishedLines r n) p a
+    → Appended p a (line (word "missing ") count) q b
+    → Appended o 0 (unfinishedIn n r) q b
+unfinished-joined n r count is u v = appended-then u (rw is at v)
+
+-- `last` is the record after the steps of these bytes
+pub unfinished-after :
+    (r : Record) (bytes found : List ℕ) (last : Record) {o p : List ℕ} {a : ℕ}
+    → last ≡ run r (callsOf found)
+    → found ≡ bytes
+    → Appended o 0 (unfinishedIn (r .n) last) p a
+    → Appended o 0 (unfinishedAfter r bytes) p a
+unfinished-after r bytes found last {o} {p} {a} is same u =
+    subst (λ (q : Record). Appended o 0 (unfinishedIn (r .n) q) p a)
+    (is ∙ ap (λ (l : List ℕ). run r (callsOf l)) same) u
 
 pub bytes-few : (f : List ℕ) (s : Section) → s .count ≤ mostSteps → length (stepBytes f s) ≤ 3 * mostSteps
 bytes-few f s most = omega (arith, length-take (3 * s .count) (drop (s .at) f))
+
+-- the routers are few enough, and the sheet is followed by as many calls as the change needs
+pub record Followed (r : Record) : Type 0 where
+  pub few : r .n ≤ width
+  pub counted : needs r ≡ length (sheetCalls r)
 
 -- the tables that are printed have all cells
 pub record Full (d h e g : List ℕ) : Type 0 where
@@ -100,13 +126,18 @@ module _ (f m : List ℕ) (t : Tables) where
   unfolding sheetSteps
   sheet-steps-refused g = rw (ne-eqb (refusal f m t) 0 g) (refused-is (refusal f m t))
 
+  pub unfinished-refused : refusal f m t ≢ 0 → unfinished f m t ≡ line (word "refused ") (refusal f m t)
+  unfolding unfinished
+  unfinished-refused g = rw (ne-eqb (refusal f m t) 0 g) (refused-is (refusal f m t))
+
   module _ (z : refusal f m t ≡ 0) where
-    pub rehearsal-whole :
-        rehearsal f m t
-        ≡ routerLines (planned f) (routers f)
-        ++ (stepLines 1 (replies (planned f) (callsOf (steps f))) ++ word "end\n")
+    pub rehearsal-whole : rehearsal f m t ≡ rehearsalLines (planned f) (steps f)
     unfolding rehearsal
     rehearsal-whole = rw (eq-eqb (refusal f m t) 0 z) refl
+
+    pub unfinished-whole : unfinished f m t ≡ unfinishedAfter (planned f) (steps f)
+    unfolding unfinished
+    unfinished-whole = rw (eq-eqb (refusal f m t) 0 z) refl
 
     pub routes-whole :
         let p = filledTables f in
@@ -138,17 +169,27 @@ module _ (f m : List ℕ) (t : Tables) where
     pub few-printed : k ≡ 0 → r .n ≤ width
     few-printed e = few-routers (sym told ∙ e)
 
-    -- a text that is made of the record alone
-    of-record :
-        (text : Record → List ℕ) {o p : List ℕ} {a : ℕ}
-        → Appended o 0 (unlessRefused k (text r)) p a
-        → Appended o 0 (unlessRefused (refusal f m t) (text (planned f))) p a
-    of-record text {o} {p} {a} x = go (ℕ-discrete (refusal f m t) 0)
+    pub followed : k ≡ 0 → Followed r
+    followed e =
+        let z = sym told ∙ e in
+        record {
+          few = few-routers z;
+          counted = rw (fresh z) (sym (fresh-length (routers f) (metrics f) (changes f) (plan-passed f m t z)));
+        }
+
+    -- two texts that are the same where nothing is refused: `mine` is made of what `prepare` gives, `text` of the file
+    same-printed :
+        (mine text : List ℕ)
+        → (refusal f m t ≡ 0 → mine ≡ text)
+        → {o p : List ℕ} {a : ℕ}
+        → Appended o 0 (unlessRefused k mine) p a
+        → Appended o 0 (unlessRefused (refusal f m t) text) p a
+    same-printed mine text same {o} {p} {a} x = go (ℕ-discrete (refusal f m t) 0)
       where
-        go : Dec (refusal f m t ≡ 0) → Appended o 0 (unlessRefused (refusal f m t) (text (planned f))) p a
+        go : Dec (refusal f m t ≡ 0) → Appended o 0 (unlessRefused (refusal f m t) text) p a
         go (yes z) =
             let lines = rw (eq-eqb k 0 (told ∙ z)) at x in
-            rw (eq-eqb (refusal f m t) 0 z) (subst (λ (q : Record). Appended o 0 (text q) p a) (fresh z) lines)
+            rw (eq-eqb (refusal f m t) 0 z) (subst (λ (l : List ℕ). Appended o 0 l p a) (same z) lines)
         go (no g) = rw (ne-eqb (refusal f m t) 0 g) (rw (told, ne-eqb (refusal f m t) 0 g) at x)
 
     module _ {o p : List ℕ} {a : ℕ} where
@@ -156,13 +197,16 @@ module _ (f m : List ℕ) (t : Tables) where
           Appended o 0 (unlessRefused k (sheetLines r)) p a
           → Appended o 0 (sheetTurns f m t) p a
       unfolding sheetTurns
-      sheet-turns-printed x = of-record sheetLines x
+      sheet-turns-printed =
+          same-printed (sheetLines r) (sheetLines (planned f)) (λ z. ap sheetLines (fresh z))
 
       pub sheet-steps-printed :
           Appended o 0 (unlessRefused k (stepSection (sheetCalls r))) p a
           → Appended o 0 (sheetSteps f m t) p a
       unfolding sheetSteps
-      sheet-steps-printed x = of-record (λ q. stepSection (sheetCalls q)) x
+      sheet-steps-printed =
+          same-printed (stepSection (sheetCalls r)) (stepSection (sheetCalls (planned f)))
+          (λ z. ap (λ (q : Record). stepSection (sheetCalls q)) (fresh z))
 
     -- s is where the steps are
     module _ (s : Section) (placed : s ≡ contentsOf f m .steps) where
@@ -179,13 +223,11 @@ module _ (f m : List ℕ) (t : Tables) where
         bytes-are : stepBytes f s ≡ steps f
         bytes-are = rw (starts, counted) refl
 
-        lines-are :
-            rehearsalLines r (stepBytes f s)
-            ≡ routerLines (planned f) (routers f)
-            ++ (stepLines 1 (replies (planned f) (callsOf (steps f))) ++ word "end\n")
-        lines-are =
-            ap₂ (λ (u v : List ℕ). u ++ (v ++ word "end\n")) (ap₂ routerLines (fresh z) (n-is z))
-            (ap₂ (λ (q : Record) (l : List ℕ). stepLines 1 (replies q (callsOf l))) (fresh z) bytes-are)
+        -- a text that is made of the record and of the steps
+        of-both :
+            (text : (q : Record) (bytes : List ℕ) → List ℕ)
+            → text r (stepBytes f s) ≡ text (planned f) (steps f)
+        of-both text = ap₂ text (fresh z) bytes-are
 
       pub bounded : k ≡ 0 → Bounded f r s
       bounded e =
@@ -197,17 +239,22 @@ module _ (f m : List ℕ) (t : Tables) where
             most = omega (arith, counted z, file .most-steps);
           }
 
-      pub rehearsal-printed :
-          {o p : List ℕ} {a : ℕ}
-          → Appended o 0 (unlessRefused k (rehearsalLines r (stepBytes f s))) p a
-          → Appended o 0 (rehearsal f m t) p a
-      rehearsal-printed {o} {p} {a} x = go (ℕ-discrete (refusal f m t) 0)
-        where
-          go : Dec (refusal f m t ≡ 0) → Appended o 0 (rehearsal f m t) p a
-          go (yes z) =
-              let lines = rw (eq-eqb k 0 (told ∙ z)) at x in
-              rw (rehearsal-whole z) (subst (λ (w : List ℕ). Appended o 0 w p a) (lines-are z) lines)
-          go (no g) = rw (rehearsal-refused g) (rw (told, ne-eqb (refusal f m t) 0 g, refused-is (refusal f m t)) at x)
+      module _ {o p : List ℕ} {a : ℕ} where
+        pub rehearsal-printed :
+            Appended o 0 (unlessRefused k (rehearsalLines r (stepBytes f s))) p a
+            → Appended o 0 (rehearsal f m t) p a
+        unfolding rehearsal
+        rehearsal-printed =
+            same-printed (rehearsalLines r (stepBytes f s)) (rehearsalLines (planned f) (steps f))
+            (λ z. of-both z rehearsalLines)
+
+        pub unfinished-printed :
+            Appended o 0 (unlessRefused k (unfinishedAfter r (stepBytes f s))) p a
+            → Appended o 0 (unfinished f m t) p a
+        unfolding unfinished
+        unfinished-printed =
+            same-printed (unfinishedAfter r (stepBytes f s)) (unfinishedAfter (planned f) (steps f))
+            (λ z. of-both z unfinishedAfter)
 
     -- and these are the tables
     module _ (new d e h g : List ℕ) (filled : asTables new d e h g ≡ tablesAt f m t) where
@@ -231,13 +278,16 @@ module _ (f m : List ℕ) (t : Tables) where
           {o p : List ℕ} {a : ℕ}
           → Appended o 0 (unlessRefused k (routeLines d h e g (r .n) (r .n))) p a
           → Appended o 0 (routes f m t) p a
-      routes-printed {o} {p} {a} x = go (ℕ-discrete (refusal f m t) 0)
+      unfolding routes
+      routes-printed = same-printed (routeLines d h e g (r .n) (r .n)) _ lines-are
         where
-          go : Dec (refusal f m t ≡ 0) → Appended o 0 (routes f m t) p a
-          go (yes z) =
+          lines-are : refusal f m t ≡ 0
+              → let p = filledTables f in
+              routeLines d h e g (r .n) (r .n)
+              ≡ routeLines (p .oldDistances) (p .oldHops) (p .newDistances) (p .newHops) (routers f) (routers f)
+          lines-are z =
               let d-is = ap (λ (u : Tables). u .oldDistances) (by-plan z) in
               let h-is = ap (λ (u : Tables). u .oldHops) (by-plan z) in
               let e-is = ap (λ (u : Tables). u .newDistances) (by-plan z) in
               let g-is = ap (λ (u : Tables). u .newHops) (by-plan z) in
-              rw (routes-whole z) (rw (eq-eqb k 0 (told ∙ z), d-is, h-is, e-is, g-is, n-is z) at x)
-          go (no q) = rw (routes-refused q) (rw (told, ne-eqb (refusal f m t) 0 q, refused-is (refusal f m t)) at x)
+              rw (d-is, h-is, e-is, g-is, n-is z) refl

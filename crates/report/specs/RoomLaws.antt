@@ -1,8 +1,8 @@
 -- How many bytes are printed for a file at most: a program whose buffer has as many prints the whole of it. A refusal
 -- is one short line. Otherwise a file has at most `width` routers and `mostSteps` steps, and LengthLaws bounds the
 -- lines of each; `end` is the last one of a rehearsal and of the turns.
---     rehearsalRoom, routesRoom, sheetTurnsRoom, sheetStepsRoom            so many bytes
---     rehearsal-room, routes-room, sheet-turns-room, sheet-steps-room      what each function prints
+--     rehearsalRoom, routesRoom, sheetTurnsRoom, sheetStepsRoom, unfinishedRoom            so many bytes
+--     rehearsal-room, routes-room, sheet-turns-room, sheet-steps-room, unfinished-room     what each function prints
 use Prim.Native.Nat.{ℕ, _+_, _*_, _≤_}
 use mathlib.Core.Path.{_≡_}
 use mathlib.Core.List.{List}
@@ -13,8 +13,9 @@ use Rattle.area.specs.Limits.{width, mostSteps}
 use Rattle.area.specs.SizeLaws.{router-count-most}
 use Rattle.plan.specs.Plan.{Tables}
 use Rattle.plan.specs.FreshLaws.{fresh-count}
-use Rattle.machine.specs.Run.{replies, callsOf}
+use Rattle.machine.specs.Run.{run, replies, callsOf}
 use Rattle.machine.specs.CallLaws.{replies-many}
+use Rattle.needs.specs.Needs.{needs, missing}
 use Rattle.sheet.specs.Sheet.{sheetOf}
 use Rattle.sheet.specs.Follow.{sheetCalls}
 use Rattle.bench_file.specs.Sections.{routers, changes, stepCount, stepsAt, steps}
@@ -23,13 +24,15 @@ use Rattle.text.specs.TextLaws.{line-most}
 use Rattle.prepare.specs.Bench.{metrics, refusal, planned, filledTables}
 use Rattle.prepare.specs.BenchLaws.{file-of}
 use Rattle.report.specs.LengthLaws.{routers-most, steps-most, routes-most, turns-most, section-most}
-use Rattle.report.specs.Report.{rehearsal, routes, sheetTurns, sheetSteps}
+use Rattle.report.specs.LengthLaws.{unfinished-lines-most}
+use Rattle.report.specs.Report.{rehearsal, routes, sheetTurns, sheetSteps, unfinished}
 use Rattle.report.specs.ReportLaws.{rehearsal-refused, routes-refused, rehearsal-whole, routes-whole}
 use Rattle.report.specs.ReportLaws.{sheet-turns-refused, sheet-steps-refused}
 use Rattle.report.specs.ReportLaws.{sheet-turns-whole, sheet-steps-whole}
+use Rattle.report.specs.ReportLaws.{unfinished-refused, unfinished-whole}
 
 abbrev pub rehearsalRoom : ℕ
-rehearsalRoom = 133 * width + 55 * mostSteps + 4
+rehearsalRoom = 133 * width + 27 + 55 * mostSteps + 4
 
 abbrev pub routesRoom : ℕ
 routesRoom = 148 * (width * width)
@@ -40,6 +43,9 @@ sheetTurnsRoom = (67 + 42 * width) * width + 4
 abbrev pub sheetStepsRoom : ℕ
 sheetStepsRoom = 5 + 9 * mostSteps
 
+abbrev pub unfinishedRoom : ℕ
+unfinishedRoom = (52 + 42 * width) * width + 29
+
 module _ (f m : List ℕ) (t : Tables) where
   pub rehearsal-room : length (rehearsal f m t) ≤ rehearsalRoom
   rehearsal-room = by-refusal (ℕ-discrete (refusal f m t) 0)
@@ -49,7 +55,9 @@ module _ (f m : List ℕ) (t : Tables) where
       by-refusal (yes z) =
           let file = file-of f m t z in
           let few = router-count-most (routers f) (file .routers-in) in
-          let of-routers = routers-most (planned f) (routers f) in
+          let same = fresh-count (routers f) (metrics f) (changes f) in
+          let of-routers = routers-most (planned f) (planned f .n) in
+          let of-needs = line-most (word "needs ") (needs (planned f)) in
           let of-steps = steps-most 1 (replies (planned f) (callsOf (steps f))) in
           let many = replies-many (planned f) (steps f) in
           let bytes = length-take (3 * stepCount f) (drop (stepsAt f) f) in
@@ -86,3 +94,16 @@ module _ (f m : List ℕ) (t : Tables) where
       by-refusal (no g) =
           rw (sheet-steps-refused f m t g) (omega (arith, line-most (word "refused ") (refusal f m t)))
       by-refusal (yes z) = rw (sheet-steps-whole f m t z) (omega (arith, section-most (sheetCalls (planned f))))
+
+  pub unfinished-room : length (unfinished f m t) ≤ unfinishedRoom
+  unfinished-room = by-refusal (ℕ-discrete (refusal f m t) 0)
+    where
+      by-refusal : Dec (refusal f m t ≡ 0) → length (unfinished f m t) ≤ unfinishedRoom
+      by-refusal (no g) = rw (unfinished-refused f m t g) (omega (arith, line-most (word "refused ") (refusal f m t)))
+      by-refusal (yes z) =
+          let few = router-count-most (routers f) (file-of f m t z .routers-in) in
+          let many = fresh-count (routers f) (metrics f) (changes f) in
+          let last = run (planned f) (callsOf (steps f)) in
+          let lines = unfinished-lines-most last (planned f .n) in
+          let of-missing = line-most (word "missing ") (missing last) in
+          rw (unfinished-whole f m t z) (simp length-append (omega arith))

@@ -30,13 +30,13 @@ use Rattle.machine.specs.CallLaws.{no-call, next-call}
 use Rattle.sheet.specs.Sheet.{couldCome, placed, sheetOf}
 use Rattle.sheet.specs.SheetLaws.{sheet-at}
 use Rattle.sheet.specs.Follow.{each, callEach, callMembers, turn, sheetCalls}
-use Rattle.sheet.specs.LengthLaws.{alwaysFit, record-fits}
+use Rattle.sheet.specs.LengthLaws.{alwaysFit, fresh-fits}
 use Rattle.sheet.specs.EachLaws.{each-none, each-more}
 use Rattle.bench_file.specs.Sections.{routers, changes}
 use Rattle.hex.specs.Hex.{most, unhexed}
 use Rattle.hex.specs.PairLaws.{Says, says-none, says-then, byte-says, says-blank, says-newline, says-whole}
 use Rattle.prepare.specs.Bench.{metrics, refusal, planned}
-use Rattle.prepare.specs.BenchLaws.{file-of}
+use Rattle.prepare.specs.BenchLaws.{file-of, plan-passed}
 use Rattle.report.specs.Lines.{countLine, callLine, callLines, stepSection}
 use Rattle.report.specs.LengthLaws.{section-most}
 use Rattle.report.specs.Report.{sheetSteps}
@@ -159,8 +159,7 @@ module _ (f m : List ℕ) (t : Tables) (z : refusal f m t ≡ 0) where
       omega (arith, fresh-count (routers f) (metrics f) (changes f))
 
   pub steps-fit : routers f ≤ alwaysFit → length (sheetCalls (planned f)) ≤ mostSteps
-  steps-fit few =
-      record-fits (planned f) (omega (arith, fresh-count (routers f) (metrics f) (changes f)))
+  steps-fit = fresh-fits (routers f) (metrics f) (changes f) (plan-passed f m t z)
 
   -- decoded, what is printed is a count of two bytes, and bytes that stand for the calls of the sheet
   pub steps-read :

@@ -4,6 +4,7 @@ use area::limits::Set;
 use area::limits::UNREACHED;
 use area::limits::WIDTH;
 use machine::Answer;
+use machine::states::State;
 use sets::member;
 use text::append;
 use text::field;
@@ -16,6 +17,7 @@ ghost use Rattle.machine.specs.Answers.{replyOf};
 ghost use Rattle.text.specs.Text.{Appended, word, field};
 ghost use Rattle.report.specs.Lines.{routerLine, answerText, stepLine, pathText, routeLine};
 ghost use Rattle.report.specs.Lines.{memberWord, memberText, setText, turnLine};
+ghost use Rattle.report.specs.Lines.{stateWord, unfinishedLine};
 
 // The distance between two routers, and the next-hop set by which it is reached.
 pub struct Path {
@@ -123,6 +125,37 @@ pub(crate) fn turn_line(
     let at = named_set(b" writes", writes, out, at);
     let at = named_set(b" tells", tells, out, at);
     append(out, at, b"\n")
+}
+
+// The line of router i, in a state: whom it still waits for, and what is due there and unwritten.
+pub(crate) fn unfinished_line(
+    i: u64,
+    state: State,
+    waits: Set,
+    unwritten: Set,
+    out: &mut [u8],
+    at: usize,
+) -> usize
+    ensures line { λ r. ⌜
+        Appended (now (out .entry)) at (unfinishedLine i state waits unwritten) (now (out .exit)) r ⌝ }
+{
+    let at = field(out, at, b"router ", i);
+    let at = state_word(state, out, at);
+    let at = named_set(b" waits", waits, out, at);
+    let at = named_set(b" unwritten", unwritten, out, at);
+    append(out, at, b"\n")
+}
+
+// The name of a state.
+fn state_word(state: State, out: &mut [u8], at: usize) -> usize
+    ensures text { λ r. ⌜ Appended (now (out .entry)) at (stateWord state) (now (out .exit)) r ⌝ }
+{
+    match state {
+        State::Idle => append(out, at, b" idle"),
+        State::Holding => append(out, at, b" holding"),
+        State::Ongoing => append(out, at, b" ongoing"),
+        State::Done => append(out, at, b" done"),
+    }
 }
 
 // A set after its name.

@@ -1,14 +1,16 @@
-// The rehearsal: a line for each router, one for each step, and an end.
+// The rehearsal: a line for each router, one for what the change needs, one for each step, and an end.
 use crate::lines::router_line;
 use crate::lines::step_line;
 use area::limits::STEP;
 use area::limits::Set;
 use bench_file::Section;
 use in_place::applied;
+use needs::needs;
 use plan::Record;
 use prepare::Start;
 use prepare::prepare;
 use text::append;
+use text::line;
 use text::refused_line;
 ghost use mathlib.Core.Path.{_≡_};
 ghost use Prim.Native.Nat.{_+_, _*_, _≤_};
@@ -19,9 +21,9 @@ ghost use Rattle.machine.specs.Run.{replies, callsOf};
 ghost use Rattle.bench_file.specs.Read.{metricsOf};
 ghost use Rattle.text.specs.Text.{Appended};
 ghost use Rattle.prepare.specs.Bench.{tablesAt};
-ghost use Rattle.report.specs.Lines.{routerLines, stepLines};
+ghost use Rattle.report.specs.Lines.{routerLines, stepLines, rehearsalLines};
 ghost use Rattle.report.specs.Report.{unlessRefused, rehearsal};
-ghost use Rattle.report.specs.ReportLaws.{Bounded, rehearsalLines, stepBytes};
+ghost use Rattle.report.specs.ReportLaws.{Bounded, stepBytes};
 
 // Puts all that the rehearsal of a file prints at the start of `out`, as far as that has room, and gives its length.
 // The tables are lent to be filled, whatever they hold, and are left as `prepare` leaves them.
@@ -72,7 +74,7 @@ fn printed(file: &[u8], start: Start, out: &mut [u8]) -> usize
 }
 
 // The bytes of a file's steps, by where they are.
-fn step_bytes(file: &[u8], section: Section) -> &[u8]
+pub(crate) fn step_bytes(file: &[u8], section: Section) -> &[u8]
     requires { ⌜ section .at + 3 * section .count ≤ length (now file) ⌝ }
     ensures bytes { λ r. ⌜ now r ≡ stepBytes (now (file .entry)) section ⌝ }
 {
@@ -81,13 +83,14 @@ fn step_bytes(file: &[u8], section: Section) -> &[u8]
     &file[from..to]
 }
 
-// The lines of the routers, those of the steps that the bytes stand for, and the end.
+// The lines of the routers, of what the change needs, of the steps that the bytes stand for, and the end.
 fn rehearsal_lines(fresh: Record, bytes: &[u8], out: &mut [u8]) -> usize
     requires { ⌜ (fresh .n ≤ width) × (length (now bytes) ≤ 3 * mostSteps) ⌝ }
     ensures lines { λ r. ⌜
         Appended (now (out .entry)) 0 (rehearsalLines fresh (now (bytes .entry))) (now (out .exit)) r ⌝ }
 {
     let at = router_lines(fresh, out);
+    let at = line(out, at, b"needs ", needs(fresh) as u64);
     let at = step_lines(fresh, bytes, out, at);
     append(out, at, b"end\n")
 }

@@ -1,8 +1,6 @@
 // The steps of the running sheet, as the step section of a bench file in hexadecimal.
 use crate::hex_lines::call_line;
 use crate::hex_lines::count_line;
-use crate::step_count::step_count;
-use crate::turns::entry;
 use area::limits::MOST_STEPS;
 use area::limits::Set;
 use area::limits::WIDTH;
@@ -11,8 +9,10 @@ use machine::FINISH;
 use machine::LEARN;
 use machine::RELEASE;
 use machine::WRITE;
+use needs::needs;
 use plan::Record;
 use prepare::prepare;
+use sets::entry;
 use sets::member;
 use sheet::in_turn;
 use text::line;
@@ -32,6 +32,7 @@ ghost use Rattle.text.specs.Text.{Appended};
 ghost use Rattle.prepare.specs.Bench.{tablesAt};
 ghost use Rattle.report.specs.Lines.{callLines, stepSection};
 ghost use Rattle.report.specs.Report.{unlessRefused, sheetSteps};
+ghost use Rattle.report.specs.ReportLaws.{Followed};
 
 // Puts all that is printed of the steps of a file's sheet at the start of `out`, as far as that has room, and gives its
 // length. The tables are lent to be filled, whatever they hold, and are left as `prepare` leaves them.
@@ -67,7 +68,7 @@ pub fn sheet_steps(
 
 // The refusal of this number, or the section.
 fn printed(number: u8, fresh: Record, out: &mut [u8]) -> usize
-    requires { ⌜ (number ≡ 0 → fresh .n ≤ width) ⌝ }
+    requires { ⌜ (number ≡ 0 → Followed fresh) ⌝ }
     ensures text { λ r. ⌜
         Appended (now (out .entry)) 0 (unlessRefused number (stepSection (sheetCalls fresh))) (now (out .exit)) r ⌝ }
 {
@@ -79,14 +80,14 @@ fn printed(number: u8, fresh: Record, out: &mut [u8]) -> usize
 
 // The section of a record's sheet, or that it has too many steps for a file.
 fn section(fresh: Record, out: &mut [u8]) -> usize
-    requires { ⌜ fresh .n ≤ width ⌝ }
+    requires { ⌜ Followed fresh ⌝ }
     ensures section { λ r. ⌜ Appended (now (out .entry)) 0 (stepSection (sheetCalls fresh)) (now (out .exit)) r ⌝ }
 {
-    let places = in_turn(fresh);
-    let count = step_count(fresh, places);
+    let count = needs(fresh);
     if MOST_STEPS < count {
         return line(out, 0, b"too many steps: ", count as u64);
     }
+    let places = in_turn(fresh);
     let at = count_line(count as u16, out, 0);
     sheet_lines(fresh, places, out, at)
 }
@@ -141,10 +142,17 @@ fn turn_calls(fresh: Record, router: u8, out: &mut [u8], at: usize) -> usize
 {
     let n = fresh.n as usize;
     let due = fresh.due;
-    let at = member_calls(WRITE, router, entry(&due, router), n, out, at);
+    let at = member_calls(WRITE, router, entry(&due, router as usize), n, out, at);
     let at = call_line(FINISH, router, 0, out, at);
     let telling = fresh.telling;
-    member_calls(DELIVER, router, entry(&telling, router), n, out, at)
+    member_calls(
+        DELIVER,
+        router,
+        entry(&telling, router as usize),
+        n,
+        out,
+        at,
+    )
 }
 
 // A call of router a for each member of a set.

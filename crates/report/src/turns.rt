@@ -4,12 +4,12 @@ use area::limits::Set;
 use area::limits::WIDTH;
 use plan::Record;
 use prepare::prepare;
+use sets::entry;
 use sheet::in_turn;
 use text::append;
 use text::refused_line;
 ghost use mathlib.Core.Path.{_≡_};
 ghost use Prim.Native.Nat.{_≤_};
-ghost use lib.ListN.{getD};
 ghost use Rattle.area.specs.Limits.{width};
 ghost use Rattle.plan.specs.Plan.{asTables};
 ghost use Rattle.bench_file.specs.Read.{metricsOf};
@@ -84,16 +84,8 @@ fn turn_of(fresh: Record, k: u64, router: u8, out: &mut [u8], at: usize) -> usiz
     ensures line { λ r. ⌜ Appended (now (out .entry)) at (turnLineOf fresh k router) (now (out .exit)) r ⌝ }
 {
     let due = fresh.due;
-    let writes = entry(&due, router);
+    let writes = entry(&due, router as usize);
     let telling = fresh.telling;
-    let tells = entry(&telling, router);
+    let tells = entry(&telling, router as usize);
     turn_line(k, router, writes, tells, out, at)
-}
-
-// A router's entry of a table per router; 0 for a number that is no router of any area.
-pub(crate) fn entry(table: &[Set], router: u8) -> Set
-    ensures entry { λ r. ⌜ r ≡ getD (now (table .entry)) router 0 ⌝ }
-{
-    let i = router as usize;
-    if i < table.len() { table[i] } else { 0 }
 }

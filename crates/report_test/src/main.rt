@@ -1,5 +1,5 @@
-// Prints the rehearsals of the files of the cases of standard input, and of some the routes or the running sheet. The
-// first lines of stdin say what a case is.
+// Prints the rehearsals of the files of the cases of standard input, and of some the routes, the running sheet or what
+// is unfinished. The first lines of stdin say what a case is.
 //     run         the lines of the input: of a case its name is printed, and under it what its file gives
 //     file        the file of a case, from its hexadecimal, from words, or the largest one
 //     by_words    a file from words

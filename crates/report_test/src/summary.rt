@@ -13,15 +13,15 @@ pub fn print(text: &[u8]) {
     }
 }
 
-// The rehearsal of most routers and most steps has a line for each, and one more: the lines of the routers and of two
-// steps, and the last three.
+// The rehearsal of most routers and most steps has a line for each, `needs` between them, and an end: the lines of the
+// routers, `needs`, two steps, and the last three lines.
 fn short(text: &[u8]) {
     print::form(
         b"length #\nchecksum #\n",
         &[text.len() as u64, checksum(text)],
     );
-    let first = lines::start(text, WIDTH + 2);
-    let last = lines::start(text, WIDTH + MOST_STEPS - 2);
+    let first = lines::start(text, WIDTH + 3);
+    let last = lines::start(text, WIDTH + MOST_STEPS - 1);
     print::text(&text[0..first]);
     print::text(&text[last..]);
 }

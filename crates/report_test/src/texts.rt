@@ -20,14 +20,18 @@ pub fn print(words: &[u8], file: &[u8]) {
     }
 }
 
-// No text has more bytes than the routes.
+// No text has more bytes than the routes. One that may be cut is printed with a line end after it.
 fn of_file(words: &[u8], file: &[u8]) {
     let mut out = [0u8; ROUTES_ROOM];
     let length = text(words, file, &mut out);
     summary::print(&out[..length]);
+    if has(words, b'o') {
+        print::byte(b'\n');
+    }
 }
 
-// Puts the text at the start of `out`, and gives its length. Of each table as many cells are lent as the words say.
+// Puts the text at the start of `out`, and gives its length. Of `out` as many bytes are lent as the words say, and of
+// each table as many cells.
 fn text(words: &[u8], file: &[u8], out: &mut [u8]) -> usize
     ensures { λ r. ⌜ (r ≤ length (now (out .exit))) × (r ≡ length (take r (now (out .exit)))) ⌝ }
 {
@@ -43,6 +47,7 @@ fn text(words: &[u8], file: &[u8], out: &mut [u8]) -> usize
     let d = read::size(words, 3, LONG_TABLE);
     let e = read::size(words, 4, LONG_TABLE);
     let f = read::size(words, 5, LONG_TABLE);
+    let bytes = room(words, out.len());
     by_letter(
         words,
         file,
@@ -52,11 +57,23 @@ fn text(words: &[u8], file: &[u8], out: &mut [u8]) -> usize
         &mut new_dist[..d],
         &mut old_hops[..e],
         &mut new_hops[..f],
-        out,
+        &mut out[..bytes],
     )
 }
 
-// The routes (r), the running sheet (t), its steps (s), or with no letter the rehearsal.
+// How many bytes a text has room for, of as many as there are.
+fn room(words: &[u8], most: usize) -> usize
+    ensures { λ r. ⌜ r ≤ most ⌝ }
+{
+    let bytes = read::value(words, b'o', most as u64);
+    if bytes < most as u64 {
+        bytes as usize
+    } else {
+        most
+    }
+}
+
+// The routes (r), the running sheet (t), its steps (s), what is unfinished (u), or with no letter the rehearsal.
 fn by_letter(
     words: &[u8],
     file: &[u8],
@@ -78,6 +95,9 @@ fn by_letter(
     }
     if has(words, b's') {
         return report::sheet_steps(file, old, new, old_dist, new_dist, old_hops, new_hops, out);
+    }
+    if has(words, b'u') {
+        return report::unfinished(file, old, new, old_dist, new_dist, old_hops, new_hops, out);
     }
     report::rehearse(file, old, new, old_dist, new_dist, old_hops, new_hops, out)
 }

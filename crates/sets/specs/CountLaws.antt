@@ -1,22 +1,27 @@
 -- Laws of sums and of the sizes of sets. Sums go by induction on n; a size is the sum of a set's digits.
 --     total-none, total-next                       a sum over no router, and over one more
+--     total-start, total-found                     the same for a loop that adds term after term
 --     total-same, total-le, total-more             sums of equal terms, of smaller ones, and where one term is more
 --     total-both                                   two sums are one
+--     total-term                                   no term is more than the sum
 --     total-tail                                   terms that are 0 make no difference
 --     total-most, total-full, total-short          sums of terms of at most c, of terms c, and with a 0 among them
 --     size-is                                      a size as a sum
+--     size-start, size-found                       a size that is found router by router
 --     size-added, size-removed, size-le            a member more, a member less, and a subset
 --     size-none, size-within, size-most            no member; members below n; at most one for each router
+--     size-without                                 the empty set is taken out
 --     size-full, size-short                        all routers, and not all
 use Prim.Native.Nat.{ℕ, zero, suc, _+_, _*_, _≤_, _<_}
 use mathlib.Core.Path.{_≡_, refl, sym, ap, ap₂, _∙_}
-use mathlib.Core.Bool.{Bool, true, false}
+use mathlib.Core.Bool.{Bool, true, false, not, _&&_}
 use mathlib.Core.Logic.{_≢_, ⊎-elim}
 use native.Mathlib.Nat.{eq-or-lt-of-le, le-of-suc-le-suc, not-suc-le-zero}
+use native.Mathlib.Numerals.{add-one}
 use native.Mathlib.Omega.{arith}
-use Rattle.area.specs.TestLaws.{look}
-use Rattle.sets.specs.Sets.{num, bit, added, removed}
-use Rattle.sets.specs.SetLaws.{bit-zero, added-other, added-self, removed-other, removed-self}
+use Rattle.area.specs.TestLaws.{look, and-one}
+use Rattle.sets.specs.Sets.{num, bit, added, removed, without}
+use Rattle.sets.specs.SetLaws.{bit-zero, bit-without, added-other, added-self, removed-other, removed-self}
 use Rattle.sets.specs.Counts.{total, size}
 
 -- ---- sums
@@ -27,6 +32,16 @@ total-none f = refl
 pub total-next : (n : ℕ) (f : ℕ → ℕ) → total (suc n) f ≡ total n f + f n
 unfolding total
 total-next n f = refl
+
+pub total-start : (f : ℕ → ℕ) → 0 ≡ total 0 f
+total-start f = sym (total-none f)
+
+pub total-found :
+    (k : ℕ) (f : ℕ → ℕ) (sum term : ℕ)
+    → sum ≡ total k f
+    → term ≡ f k
+    → sum + term ≡ total (k + 1) f
+total-found k f sum term e g = ap₂ _+_ e g ∙ sym (total-next k f) ∙ ap (λ (n : ℕ). total n f) (sym (add-one k))
 
 pub total-same : (n : ℕ) (f g : ℕ → ℕ) → ((k : ℕ) → k < n → f k ≡ g k) → total n f ≡ total n g
 unfolding total
@@ -64,6 +79,15 @@ pub total-both : (n : ℕ) (f g : ℕ → ℕ) → total n (λ k. f k + g k) ≡
 unfolding total
 total-both zero f g = refl
 total-both (suc n) f g = omega (arith, total-both n f g)
+
+pub total-term : (n : ℕ) (f : ℕ → ℕ) (k : ℕ) → k < n → f k ≤ total n f
+unfolding total
+total-term zero f k h = absurd (not-suc-le-zero h)
+total-term (suc n) f k h =
+    ⊎-elim
+    (λ (q : k ≡ n). rw q (omega arith))
+    (λ (l : k < n). omega (arith, total-term n f k l))
+    (eq-or-lt-of-le (le-of-suc-le-suc h))
 
 pub total-tail :
     (n w : ℕ) (f : ℕ → ℕ)
@@ -117,6 +141,14 @@ pub size-is : (w s : ℕ) → size w s ≡ total w (λ k. num (bit s k))
 unfolding size
 size-is w s = refl
 
+pub size-start : (s : ℕ) → 0 ≡ size 0 s
+unfolding size
+size-start s = total-start (λ k. num (bit s k))
+
+pub size-found : (k s count one : ℕ) → count ≡ size k s → one ≡ num (bit s k) → count + one ≡ size (k + 1) s
+unfolding size
+size-found k s = total-found k (λ i. num (bit s i))
+
 pub size-added : (w s k : ℕ) → k < w → bit s k ≡ false → size w (added w s k) ≡ suc (size w s)
 unfolding size
 size-added w s k h e =
@@ -146,6 +178,12 @@ size-le w s t f =
 pub size-none : (w : ℕ) → size w 0 ≡ 0
 unfolding size
 size-none w = omega (arith, total-full 0 (λ k. num (bit 0 k)) w (λ k h. ap num (bit-zero k)))
+
+pub size-without : (w s : ℕ) → size w (without w s 0) ≡ size w s
+unfolding size
+size-without w s =
+    total-same w (λ k. num (bit (without w s 0) k)) (λ k. num (bit s k))
+    (λ k h. ap num (bit-without w s 0 k h ∙ ap (λ (b : Bool). bit s k && not b) (bit-zero k) ∙ and-one (bit s k)))
 
 pub size-within : (n w s : ℕ) → n ≤ w → ((k : ℕ) → bit s k ≡ true → k < n) → size w s ≡ size n s
 unfolding size

@@ -4,10 +4,11 @@
 --     setOf-same, is-setOf, same-set, same-members
 --                                              when two sets are equal
 --     setOf-none, none-setOf, member-some      when a set is empty
---     bit-added, bit-removed, bit-union, subset-at, at-subset
+--     bit-added, bit-removed, bit-union, bit-without, subset-at, at-subset
 --                                              the members of each
 --     added-self, added-other, added-cases, added-still, removed-self, removed-other, removed-still
 --                                              the same, of the router that was added or removed and of the others
+--     without-none, without-added              s without t: where it is empty, and where t gets a member
 --     setOf-start, setOf-skip, setOf-more      a set that is found router by router
 --     bit-one, or-added, .. and-subset         what code computes, at a type of w bits
 --     added-below                              a set of routers below n and one more of them
@@ -26,7 +27,7 @@ use lib.Arith.{mod-mul}
 use lib.Bits.{bitAnd, bitOr, bitXor, or-shr, or-mod, or-lt, and-shr, and-mod, and-lt, xor-shr, xor-mod, xor-lt}
 use lib.Pow.{pow-pos, pow-add, pow-mono, pow-lt, shl-exact}
 use Rattle.area.specs.TestLaws.{both-true, and-false, and-one, or-cases, or-left, or-right, or-none, same-test}
-use Rattle.sets.specs.Sets.{num, bit, setOf, added, removed, union, subset}
+use Rattle.sets.specs.Sets.{num, bit, setOf, added, removed, union, without, subset}
 
 -- ---- what stands in a set
 num-le : (b : Bool) (c : ℕ) → num b * c ≤ c
@@ -172,6 +173,10 @@ unfolding union
 bit-union w s t k h = bit-setOf w (λ j. bit s j || bit t j) k h
 
 -- the router that was added or removed, and the others
+pub bit-without : (w s t k : ℕ) → k < w → bit (without w s t) k ≡ (bit s k && not (bit t k))
+unfolding without
+bit-without w s t k h = bit-setOf w (λ i. bit s i && not (bit t i)) k h
+
 pub added-self : (w s k : ℕ) → k < w → bit (added w s k) k ≡ true
 added-self w s k h = bit-added w s k k h ∙ or-right (bit s k) (eqb k k) (eq-eqb k k refl)
 
@@ -231,6 +236,33 @@ inside true true e f = refl
 inside true false e f = sym e
 inside false b e f = absurd (false≢true f)
 
+pub without-none :
+    (w s t : ℕ)
+    → ((k : ℕ) → k < w → bit s k ≡ true → bit t k ≡ true)
+    → without w s t ≡ 0
+unfolding without
+without-none w s t f =
+    setOf-none w (λ i. bit s i && not (bit t i)) (λ k h. outside (bit s k) (bit t k) (f k h))
+
+-- where t gets a member, s without t loses it
+pub without-added : (w s t k : ℕ) → without w s (added w t k) ≡ removed w (without w s t) k
+unfolding without removed
+without-added w s t k =
+    setOf-same w (λ i. bit s i && not (bit (added w t k) i))
+    (λ i. bit (setOf w (λ j. bit s j && not (bit t j))) i && not (eqb i k)) one
+  where
+    both : (a b c : Bool) → (a && not (b || c)) ≡ ((a && not b) && not c)
+    both true true c = refl
+    both true false c = refl
+    both false b c = refl
+
+    one : (i : ℕ)
+        → i < w
+        → (bit s i && not (bit (added w t k) i))
+        ≡ (bit (setOf w (λ j. bit s j && not (bit t j))) i && not (eqb i k))
+    one i h =
+        rw (bit-added w t k i h, bit-setOf w (λ j. bit s j && not (bit t j)) i h) (both (bit s i) (bit t i) (eqb i k))
+
 pub subset-at :
     (w s t : ℕ)
     → subset w s t ≡ true
@@ -238,7 +270,7 @@ pub subset-at :
     → k < w
     → bit s k ≡ true
     → bit t k ≡ true
-unfolding subset
+unfolding subset without
 subset-at w s t e k h =
     let p : ℕ → Bool = λ i. bit s i && not (bit t i) in
     inside (bit s k) (bit t k) (none-setOf w p (eqb-true (setOf w p) 0 e) k h)
@@ -248,9 +280,7 @@ pub at-subset :
     → ((k : ℕ) → k < w → bit s k ≡ true → bit t k ≡ true)
     → subset w s t ≡ true
 unfolding subset
-at-subset w s t f =
-    let p : ℕ → Bool = λ i. bit s i && not (bit t i) in
-    eq-eqb (setOf w p) 0 (setOf-none w p (λ k h. outside (bit s k) (bit t k) (f k h)))
+at-subset w s t f = eq-eqb (without w s t) 0 (without-none w s t f)
 
 -- ---- what code computes: a bit of an operation that goes digit by digit
 module _
@@ -349,6 +379,19 @@ module _ (w s : ℕ) (fits : s < 2 ^ w) where
     pub or-union : bitOr s t ≡ union w s t
     unfolding union
     or-union = is-setOf w (bitOr s t) (λ i. bit s i || bit t i) (or-lt w s t fits room) (λ i l. bit-or s t i)
+
+    -- s ^ (s & t)
+    pub xor-without : bitXor s (bitAnd s t) ≡ without w s t
+    unfolding without
+    xor-without =
+        is-setOf w (bitXor s (bitAnd s t)) (λ i. bit s i && not (bit t i))
+        (xor-lt w s (bitAnd s t) fits (and-lt w s t fits room))
+        (λ i l. bit-xor s (bitAnd s t) i ∙ ap (differs (bit s i)) (bit-and s t i) ∙ struck (bit s i) (bit t i))
+      where
+        struck : (a b : Bool) → differs a (a && b) ≡ (a && not b)
+        struck true true = refl
+        struck true false = refl
+        struck false b = refl
 
     -- s & t == s
     pub and-subset : eqb (bitAnd s t) s ≡ subset w s t

@@ -1,13 +1,19 @@
 // Router sets: a number of WIDTH bits, and its bit k stands for router k.
 //     member, is_empty, is_subset      questions about sets
-//     add, remove, join                a new set from one or two
-// What each promises is specs/Sets.antt; why bit operations do it is the last part of specs/SetLaws.antt.
+//     size                             how many members a set has
+//     entry                            a router's set in a table of sets
+//     add, remove, join, without       a new set from one or two
+// What each promises is specs/Sets.antt and Counts.antt; why bit operations do it is the last part of
+// specs/SetLaws.antt.
 use area::limits::Set;
 use area::limits::WIDTH;
 ghost use mathlib.Core.Path.{_≡_};
+ghost use Prim.Native.Nat.{_≤_};
 ghost use lib.Dec.{eqb};
+ghost use lib.ListN.{getD};
 ghost use Rattle.area.specs.Limits.{width};
-ghost use Rattle.sets.specs.Sets.{bit, added, removed, union, subset};
+ghost use Rattle.sets.specs.Sets.{num, bit, added, removed, union, without, subset};
+ghost use Rattle.sets.specs.Counts.{size};
 
 // Is router k a member of s?
 pub fn member(s: Set, k: usize) -> bool
@@ -37,6 +43,13 @@ pub fn join(s: Set, t: Set) -> Set
     s | t
 }
 
+// The members of s that are none of t.
+pub fn without(s: Set, t: Set) -> Set
+    ensures set { λ r. ⌜ r ≡ without width s t ⌝ }
+{
+    s ^ (s & t)
+}
+
 // Is every member of s a member of t?
 pub fn is_subset(s: Set, t: Set) -> bool
     ensures answer { λ r. ⌜ r ≡ subset width s t ⌝ }
@@ -49,4 +62,30 @@ pub fn is_empty(s: Set) -> bool
     ensures answer { λ r. ⌜ r ≡ eqb s 0 ⌝ }
 {
     s == 0
+}
+
+// The set of router k in a table per router; the empty one where the table has no entry k.
+pub fn entry(table: &[Set], k: usize) -> Set
+    ensures entry { λ r. ⌜ r ≡ getD (now (table .entry)) k 0 ⌝ }
+{
+    if k < table.len() { table[k] } else { 0 }
+}
+
+// How many members has s?
+pub fn size(s: Set) -> usize
+    ensures { λ r. ⌜ r ≤ width ⌝ }
+    ensures count { λ r. ⌜ r ≡ size width s ⌝ }
+{
+    let mut count = 0;
+    for k in 0..WIDTH {
+        count += one_if(member(s, k));
+    }
+    count
+}
+
+// 1 where a test holds.
+fn one_if(test: bool) -> usize
+    ensures { λ r. ⌜ (r ≤ 1) × (r ≡ num test) ⌝ }
+{
+    if test { 1 } else { 0 }
 }

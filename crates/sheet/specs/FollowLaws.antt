@@ -21,7 +21,6 @@ use Rattle.sets.specs.SetLaws.{bit-zero}
 use Rattle.plan.specs.declared.Record.{Record}
 use Rattle.plan.specs.Plan.{Tables, areTables, planRefusal, recordOf}
 use Rattle.plan.specs.PlanLaws.{plan-of, planned-true, record-planned}
-use Rattle.plan.specs.FreshLaws.{fresh-count}
 use Rattle.machine.specs.Answers.{ok, gives}
 use Rattle.machine.specs.Machine.{idle, holding, ongoing, done, learnKind, releaseKind}
 use Rattle.machine.specs.Machine.{stateOf, waitingOf, withState, isRecord, stepOf}
@@ -30,6 +29,7 @@ use Rattle.machine.specs.RunLaws.{Start, fresh-start}
 use Rattle.machine.specs.HeldLaws.{Held, state-held, fresh-held}
 use Rattle.machine.specs.OkLaws.{learns, releases}
 use Rattle.machine.specs.OrderedLaws.{Ordered, sound, fresh-ordered}
+use Rattle.needs.specs.Needs.{AllDone}
 use Rattle.sheet.specs.Sheet.{placed, placeAt, sheetOf}
 use Rattle.sheet.specs.SheetLaws.{is-placed, at-place, all-in, ordered-acyclic, sheet-at}
 use Rattle.sheet.specs.Follow.{each, callEach, turn, following, sheetCalls, AllOk}
@@ -138,14 +138,15 @@ module _ {first : Record} (o : Ordered first) where
         let order = ordered-acyclic o in
         one-turn o (is-placed order k (omega arith)) (at-place order k h) now p
 
-    abbrev AllDone : (now : Record) → Type 0
-    AllDone now = (x : ℕ) → x < n → stateOf now x ≡ done
-
     turns :
         (now : Record) → Passing first holding ongoing n now
         → Went AllDone now (each n (λ k. turn first (placeAt n w k)))
-    turns now p =
-        record { all-ok = went .all-ok; reached = λ x h. went .reached .gone x h (all-in (ordered-acyclic o) x h) }
+    turns now p = record {
+      all-ok = went .all-ok;
+      reached = λ x h.
+          let inside : x < n = omega (arith, went .reached .held .count) in
+          went .reached .gone x inside (all-in (ordered-acyclic o) x inside);
+    }
       where
         went : Went (Turned first (placed n w n)) now (each n (λ k. turn first (placeAt n w k)))
         went =
@@ -170,9 +171,9 @@ pub sheet-followed :
     (n : ℕ) (metrics changes : List ℕ) (lent : Tables)
     → planRefusal n metrics changes (areTables metrics lent) ≡ 0
     → let first = recordOf n metrics changes lent in
-    AllOk first (sheetCalls first) × ((x : ℕ) → x < n → stateOf (run first (sheetCalls first)) x ≡ done)
+    AllOk first (sheetCalls first) × AllDone (run first (sheetCalls first))
 sheet-followed n m l t z =
     let p = plan-of n m l t z in
     let went = ordered-followed (fresh-ordered n m l p) (fresh-start n m l) (fresh-held n m l) in
     rw (record-planned n m l t (planned-true n m l t z))
-    (went .all-ok, λ x h. went .reached x (omega (arith, fresh-count n m l)))
+    (went .all-ok, went .reached)

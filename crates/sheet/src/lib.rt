@@ -6,7 +6,7 @@
 //     next_after    the lowest router that could come after those that are placed
 //     could_come    whether a router could
 // What they promise is specs/Sheet.antt; what makes it a sheet is specs/SheetLaws.antt. The calls of following a sheet
-// are specs/Follow.antt, and that they finish every router is specs/FollowLaws.antt.
+// are specs/Follow.antt; that they finish every router is specs/FollowLaws.antt, and how many they are LengthLaws.antt.
 use area::limits::Set;
 use area::limits::WIDTH;
 use area::refusal::Verdict;

@@ -1,6 +1,6 @@
 -- What can be asked of a bench file f, and what the definitions answer: Read's on the file, then those of Paths, Plan,
--- Step and the running sheet on what Read gives; those of the old reader and of the rewriting, on the file as a stored
--- one; and those of the reader of IS-IS data, where the file is its lists.
+-- Step, the running sheet and the count of calls on what Read gives; those of the old reader and of the rewriting, on
+-- the file as a stored one; and those of the reader of IS-IS data, where the file is its lists.
 use Prim.Native.Nat.{ℕ, _*_}
 use mathlib.Core.List.{List, _∷_}
 use lib.ListN.{getD, take, replicate}
@@ -8,7 +8,8 @@ use Rattle.area.specs.Limits.{width}
 use Rattle.area.specs.Tests.{orThen, all, first, lowest}
 use Rattle.area.specs.Sizes.{isRouterCount, isTable}
 use Rattle.area.specs.Tables.{cell, build, tabulate, perRouter}
-use Rattle.sets.specs.Sets.{bit, setOf, added, removed, subset}
+use Rattle.sets.specs.Sets.{bit, setOf, added, removed, without, subset}
+use Rattle.sets.specs.Counts.{total, size}
 use Rattle.entries.specs.Entries.{entryCount, entryOf, isFree, entryRefusal, listedRefusal, listedMetric}
 use Rattle.topology.specs.Topology.{isLink, topology}
 use Rattle.topology.specs.Distance.{sums, least}
@@ -26,7 +27,8 @@ use Rattle.plan.specs.Plan.{tablesOf}
 use Rattle.machine.specs.Answers.{Reply, refused}
 use Rattle.machine.specs.Machine.{learn, release, ready, write, finish, listens, deliver, isSound, isKind, readsB}
 use Rattle.machine.specs.Machine.{areRouters, callOf, stepOf}
-use Rattle.machine.specs.Run.{callsOf, replies}
+use Rattle.machine.specs.Run.{callsOf, run, replies}
+use Rattle.needs.specs.Needs as counts
 use Rattle.sheet.specs.Sheet.{placed, sheetOf}
 use Rattle.bench_file.specs.Sections.{changes, steps}
 use Rattle.bench_file.specs.declared.Format.the-variants.{Old}
@@ -63,6 +65,9 @@ pub data Question : Type 0 where
   -- the reply to step k, counted from 1, and the replies to all steps
   step : (k : ℕ) → Question
   allSteps : Question
+  -- how many calls the change needs, and how many of them are missing after all steps
+  needs : Question
+  missing : Question
   -- all that the rehearsal prints
   printed : Question
   -- the number with which the old reader refuses the file, and what is written for it as a stored file
@@ -88,6 +93,8 @@ Value (oldSet i j) = ℕ
 Value (newSet i j) = ℕ
 Value (step k) = Reply
 Value allSteps = List Reply
+Value needs = ℕ
+Value missing = ℕ
 Value printed = List ℕ
 Value oldRefusal = ℕ
 Value rewrites = List ℕ
@@ -124,17 +131,22 @@ filledIn f = tablesOf (routers f) (metrics f) (changes f) lentFive
 abbrev replied : (f : List ℕ) → List Reply
 replied f = replies (planned f) (callsOf (steps f))
 
+-- and the record after the last of them
+abbrev reached : (f : List ℕ) → Record
+reached f = run (planned f) (callsOf (steps f))
+
 -- The answer to a question. A step that the file does not have is `refused 0`: no refusal has this number. The names
 -- under the signature are what has to be unfolded to compute it.
 unfoldable pub answer : (f : List ℕ) (q : Question) → Value q
 unfolding readRefusal fileRefusal mostLinks deadRefusal linkRefusal restRefusal contentsOf contents noContents
-    metricsBy linked all first bit setOf added removed subset isRouterCount isTable build tabulate perRouter
+    metricsBy linked all first bit setOf added removed without subset isRouterCount isTable build tabulate perRouter
     entryCount entryOf isFree entryRefusal listedRefusal listedMetric isLink topology sums least
     Rattle.topology.specs.Distance.distance isNext nextHops isMetric areMetrics pathsRefusal distanceCell hopCell
     distancesOf hopsOf areAtMost isSame isRise isFall isCommon Rattle.changes.specs.Root.root newCell newMetrics
     oldHops newHops waiting telling due greatest above longest rank areTables planRefusal isPlanned fresh blank
     filled recordOf tablesOf learn release ready write finish listens deliver isSound isKind readsB areRouters
-    callOf stepOf callsOf replies lowest placed sheetOf digits decimal field line
+    callOf stepOf callsOf run replies lowest placed sheetOf total size counts.needs counts.missing
+    digits decimal field line
     Rattle.prepare.specs.Bench.refusal refusedLine routerLine routerLines answerText stepLine stepLines rehearsal
     live liveCount rewritten written itemAt itemsFrom itemsAt rowsRefusal rowOf isOf neighbourRefusal
     itemsRefusal lowestTo lengthAt listRefusal listedTo listsRefusal areaRefusal isisRefusal listed noLinks isisMetrics
@@ -151,6 +163,8 @@ answer f (oldSet i j) = cell width (filledIn f .oldHops) i j
 answer f (newSet i j) = cell width (filledIn f .newHops) i j
 answer f (step k) = getD (refused 0 ∷ replied f) k (refused 0)
 answer f allSteps = replied f
+answer f needs = counts.needs (planned f)
+answer f missing = counts.missing (reached f)
 answer f printed = rehearsal f lent lentFive
 answer f oldRefusal = fileRefusal Old f
 answer f rewrites = written f

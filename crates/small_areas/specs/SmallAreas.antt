@@ -8,6 +8,7 @@
 --     isisAreas        lists of IS-IS entries (02, No. 6), and
 --     isisFaults       those that are refused
 --     largest          the largest areas, and those that are too large (02, No. 7)
+--     counted          how many calls a change needs, and how many are missing (02, No. 8)
 --     rehearsed        and all that the rehearsal replies and prints
 --     agreed           the theorem
 use Prim.Native.Nat.{ℕ, zero, suc, _/_, _%_}
@@ -17,7 +18,7 @@ use lib.ListN.{length, take, replicate}
 use Rattle.machine.specs.Answers.{ok, ignored, refused}
 use Rattle.text.specs.Text.{word}
 use Rattle.small_areas.specs.Questions.{Question, refusal, root, ranks, waits, distance, set, oldSet, newSet}
-use Rattle.small_areas.specs.Questions.{distanceBy, setBy, sheet, step, allSteps, printed}
+use Rattle.small_areas.specs.Questions.{distanceBy, setBy, sheet, step, allSteps, needs, missing, printed}
 use Rattle.small_areas.specs.Questions.{oldRefusal, rewrites, isis, isisMetric, Value, answer}
 
 -- ---- bench files as bytes (01, "The bench file")
@@ -484,12 +485,70 @@ lastTwo =
 abbrev largest : List Case
 largest = sixtyFour ∷ sixtyFive ∷ mostChanges ∷ moreChanges ∷ lastTwo ∷ []
 
--- ---- the rehearsal, with the lines that 01 has below its file, as they are since 02, No. 2
+-- ---- how many calls (02, No. 8)
+-- In C1 and in C4 three routers learn, are released and finish: 9 calls. Due are {2}, {2} and {0, 1}: 4 writes. Router
+-- 1 waits for 0 and 2: 2 messages. Together 15. Seven of C1's ten steps are answered ok, and 8 are missing: router 1
+-- hears from 2, writes 2 and finishes; router 2 learns, is released, writes 0 and 1 and finishes.
+abbrev countedC1 : Case
+countedC1 = case (C1 .file) (needs is 15 ∷ missing is 8 ∷ [])
+
+-- C4 has no steps, so nothing has been done.
+abbrev countedC4 : Case
+countedC4 = case (C4 .file) (needs is 15 ∷ missing is 15 ∷ [])
+
+-- In C2 due are {2}, {2} and {0, 1}, and 0 and 2 wait for 1: 9 + 4 + 2.
+abbrev countedC2 : Case
+countedC2 = case (C2 .file) (needs is 15 ∷ [])
+
+-- In C3 too, 9 + 4 + 2: 0 and 2 are as far from each other as before, and by other next hops, so both are due.
+abbrev countedC3 : Case
+countedC3 = case (C3 .file) (needs is 15 ∷ [])
+
+-- C1 and C2 with the other end as the root: 2→0 is listed too, at the metric that it has, so 2 is the only router in
+-- common. Others are waited for, and as many.
+abbrev otherRoot : (links changes waitingSets : List ℕ) → Case
+otherRoot links changes waitingSets =
+    case (bench 3 links (changes ++ link 2 0 3) []) (root is 2 ∷ waits is waitingSets ∷ needs is 15 ∷ [])
+
+-- C9 is refused: its record has no router.
+abbrev countedC9 : Case
+countedC9 = case (C9 .file) (needs is 0 ∷ missing is 0 ∷ [])
+
+-- The only link of two routers goes down. Due are 1 at router 0 and 0 at router 1, and 0, the root, waits for 1, which
+-- reaches it by this link: 3 * 2 + (1 + 1) + (1 + 0) = 9.
+--
+--        0 --1-- 1          0       1
+abbrev onlyLink : (steps : List ℕ) → List ℕ
+onlyLink steps = bench 2 (both 0 1 1) (both 0 1 down) steps
+
+abbrev countedLink : Case
+countedLink = case (onlyLink []) (waits is (2 ∷ 0 ∷ []) ∷ needs is 9 ∷ missing is 9 ∷ [])
+
+-- A list that ends with both routers done: nine steps are answered ok, and a repeated message is not counted.
+abbrev allDone : Case
+allDone =
+    case
+    (onlyLink
+    (learn 0 ++ learn 1 ++ release 1 ++ write 1 0 ++ finish 1 ++ deliver 1 0 ++ deliver 1 0
+    ++ release 0 ++ write 0 1 ++ finish 0))
+    (allSteps is (ok ∷ ok ∷ ok ∷ ok ∷ ok ∷ ok ∷ ignored ∷ ok ∷ ok ∷ ok ∷ []) ∷ needs is 9 ∷ missing is 0 ∷ [])
+
+abbrev counted : List Case
+counted =
+    countedC1 ∷ countedC4 ∷ countedC2 ∷ countedC3
+    ∷ otherRoot (triangle 3) (both 1 2 down) (0 ∷ 1 ∷ 2 ∷ [])
+    ∷ otherRoot (both 0 1 1 ++ both 0 2 3) (both 1 2 1) (2 ∷ 4 ∷ 0 ∷ [])
+    ∷ countedC9 ∷ countedLink ∷ allDone ∷ []
+
+-- ---- the rehearsal, with the lines that 01 has below its file, as they are since 02, No. 2, and the one of No. 8
 abbrev routerLines : List ℕ
 routerLines =
     word "router 0 rank 0 waits 0 tells 2 due 4\n"
     ++ word "router 1 rank 1 waits 5 tells 0 due 4\n"
     ++ word "router 2 rank 0 waits 0 tells 2 due 3\n"
+
+abbrev needsLine : List ℕ
+needsLine = word "needs 15\n"
 
 abbrev stepLines : List ℕ
 stepLines =
@@ -503,7 +562,7 @@ replied =
     (allSteps is (ok ∷ ok ∷ refused 24 ∷ ok ∷ ok ∷ ok ∷ ok ∷ ok ∷ ignored ∷ refused 24 ∷ []) ∷ [])
 
 abbrev wholeText : Case
-wholeText = case rehearsal (printed is (routerLines ++ stepLines) ∷ [])
+wholeText = case rehearsal (printed is (routerLines ++ needsLine ++ stepLines) ∷ [])
 
 abbrev rehearsed : List Case
 rehearsed = replied ∷ wholeText ∷ []
@@ -512,7 +571,7 @@ rehearsed = replied ∷ wholeText ∷ []
 cases : List Case
 cases =
     C1 ∷ C2 ∷ C3 ∷ C4 ∷ C5 ∷ C6 ∷ C7 ∷ C8 ∷ C9 ∷ C10 ∷ C11 ∷ C12 ∷ C13
-    ∷ sheets ++ orders ++ halfLinks ++ deadLinks ++ isisAreas ++ isisFaults ++ largest ++ rehearsed
+    ∷ sheets ++ orders ++ halfLinks ++ deadLinks ++ isisAreas ++ isisFaults ++ largest ++ counted ++ rehearsed
 
 -- the questions of a row, with the definitions' answers
 abbrev answered : (c : Case) → List Result
@@ -523,28 +582,34 @@ abbrev Agree : (cs : List Case) → Type 0
 Agree [] = Unit {0}
 Agree (c ∷ cs) = (answered c ≡ c .results) × Agree cs
 
--- The definitions agree with the list: both sides are computed, in each of its 64 rows.
+-- The definitions agree with the list: both sides are computed, in each of its 73 rows.
 last-rows : Agree rehearsed
 unfolding answer
 last-rows = (refl, (refl, tt))
 
-large-rows : Agree (largest ++ rehearsed)
-unfolding answer hub
-large-rows = (refl, (refl, (refl, (refl, (refl, last-rows)))))
+counted-rows : Agree (counted ++ rehearsed)
+unfolding answer
+counted-rows = (refl, (refl, (refl, (refl, (refl, (refl, (refl, (refl, (refl, last-rows)))))))))
 
-isis-rows : Agree (isisFaults ++ largest ++ rehearsed)
+large-rows : Agree (largest ++ counted ++ rehearsed)
+unfolding answer hub
+large-rows = (refl, (refl, (refl, (refl, (refl, counted-rows)))))
+
+isis-rows : Agree (isisFaults ++ largest ++ counted ++ rehearsed)
 unfolding answer
 isis-rows = (refl, (refl, (refl, (refl, (refl, (refl, (refl, (refl, (refl, (refl, (refl, (refl, large-rows))))))))))))
 
-dead-rows : Agree (deadLinks ++ isisAreas ++ isisFaults ++ largest ++ rehearsed)
+dead-rows : Agree (deadLinks ++ isisAreas ++ isisFaults ++ largest ++ counted ++ rehearsed)
 unfolding answer
 dead-rows = (refl, (refl, (refl, (refl, (refl, (refl, (refl, (refl, (refl, (refl, (refl, (refl, isis-rows))))))))))))
 
-half-rows : Agree (halfLinks ++ deadLinks ++ isisAreas ++ isisFaults ++ largest ++ rehearsed)
+half-rows : Agree (halfLinks ++ deadLinks ++ isisAreas ++ isisFaults ++ largest ++ counted ++ rehearsed)
 unfolding answer
 half-rows = (refl, (refl, (refl, (refl, (refl, (refl, (refl, (refl, (refl, (refl, (refl, dead-rows)))))))))))
 
-others : Agree (sheets ++ orders ++ halfLinks ++ deadLinks ++ isisAreas ++ isisFaults ++ largest ++ rehearsed)
+others :
+    Agree
+    (sheets ++ orders ++ halfLinks ++ deadLinks ++ isisAreas ++ isisFaults ++ largest ++ counted ++ rehearsed)
 unfolding answer
 others = (refl, (refl, (refl, (refl, (refl, (refl, (refl, (refl, (refl, half-rows)))))))))
 

@@ -1,11 +1,20 @@
 -- What is printed part by part is the whole.
 use borrow.Author.Needs.{needs}
-use Rattle.report.specs.ReportLaws.{lines-appended}
+use Rattle.report.specs.ReportLaws.{rehearsal-appended}
 use Rattle.report.proofs.rehearsal.rehearsal_lines.Statement.{statement}
 use Rattle.report.proofs.rehearsal.rehearsal_lines.Tie as tie
 
 router-lines-requires : tie.Need-router-lines-requires
 router-lines-requires c κs = search needs
+
+slice-aggregate-line : tie.Need-slice-aggregate-line
+slice-aggregate-line c = search needs
+
+needs-requires : tie.Need-needs-requires
+needs-requires c κs = search needs
+
+line-requires : tie.Need-line-requires
+line-requires c κs = search needs
 
 step-lines-requires : tie.Need-step-lines-requires
 step-lines-requires c κs = search needs
@@ -20,13 +29,16 @@ same-length : tie.Need-same-length
 same-length c = search needs
 
 returns : tie.Need-returns
-returns c = search lines-appended
+returns c = search rehearsal-appended
 
 pub rehearsal-lines-spec : {M : Type 1} → statement M
 rehearsal-lines-spec =
     tie.close
     (tie.spec
     router-lines-requires
+    slice-aggregate-line
+    needs-requires
+    line-requires
     step-lines-requires
     slice-aggregate-append
     append-requires

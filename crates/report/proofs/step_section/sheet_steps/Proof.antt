@@ -1,6 +1,6 @@
 -- What is printed is the refusal, or the section, and the tables are left as `prepare` leaves them.
 use borrow.Author.Needs.{needs}
-use Rattle.report.specs.ReportLaws.{few-printed, sheet-steps-printed}
+use Rattle.report.specs.ReportLaws.{followed, sheet-steps-printed}
 use Rattle.report.proofs.step_section.sheet_steps.Statement.{statement}
 use Rattle.report.proofs.step_section.sheet_steps.Tie as tie
 
@@ -11,7 +11,7 @@ printed-requires : tie.Need-printed-requires
 printed-requires c κs =
     let at = c .before .before .before .before .before .before .before in
     let is = at .before .before .before .before .before .before .prepare .ensures in
-    few-printed _ _ _ _ (is .0) _ (is .1 .0)
+    followed _ _ _ _ (is .0) _ (is .1 .0)
 
 same-length : tie.Need-same-length
 same-length c = search needs

@@ -1,0 +1,34 @@
+-- What is printed part by part is the whole.
+use borrow.Author.Needs.{needs}
+use Rattle.report.specs.ReportLaws.{unfinished-joined}
+use Rattle.report.proofs.unfinished_routers.unfinished_in.Statement.{statement}
+use Rattle.report.proofs.unfinished_routers.unfinished_in.Tie as tie
+
+unfinished-lines-requires : tie.Need-unfinished-lines-requires
+unfinished-lines-requires c κs = search needs
+
+slice-aggregate-line : tie.Need-slice-aggregate-line
+slice-aggregate-line c = search needs
+
+missing-requires : tie.Need-missing-requires
+missing-requires c κs = search needs
+
+line-requires : tie.Need-line-requires
+line-requires c κs = search needs
+
+same-length : tie.Need-same-length
+same-length c = search needs
+
+returns : tie.Need-returns
+returns c = search unfinished-joined
+
+pub unfinished-in-spec : {M : Type 1} → statement M
+unfinished-in-spec =
+    tie.close
+    (tie.spec
+    unfinished-lines-requires
+    slice-aggregate-line
+    missing-requires
+    line-requires
+    same-length
+    returns)

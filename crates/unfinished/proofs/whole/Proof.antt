@@ -1,0 +1,67 @@
+-- The output buffer has room for the whole text (unfinished-room), and what was read of the input decides it
+-- (unfinished-first).
+use native.Mathlib.Omega.{arith}
+use borrow.Author.Needs.{needs}
+use lib.ListN.{length}
+use denote.Ref.{now}
+use Rattle.plan.specs.Plan.{asTables}
+use Rattle.report.specs.Report.{unfinished}
+use Rattle.report.specs.RoomLaws.{unfinished-room}
+use Rattle.report.specs.FirstBytesLaws.{unfinished-first}
+use Rattle.streams.specs.StreamLaws.{whole-text}
+use Rattle.unfinished.proofs.whole.Statement.{statement}
+use Rattle.unfinished.proofs.whole.Tie as tie
+
+slice-aggregate-unfinished : tie.Need-slice-aggregate-unfinished
+slice-aggregate-unfinished c = search needs
+
+unfinished-requires : tie.Need-unfinished-requires
+unfinished-requires c κs = search needs
+
+same-length : tie.Need-same-length
+same-length c = search needs
+
+same-length-2 : tie.Need-same-length-2
+same-length-2 c = search needs
+
+same-length-3 : tie.Need-same-length-3
+same-length-3 c = search needs
+
+same-length-4 : tie.Need-same-length-4
+same-length-4 c = search needs
+
+same-length-5 : tie.Need-same-length-5
+same-length-5 c = search needs
+
+same-length-6 : tie.Need-same-length-6
+same-length-6 c = search needs
+
+returns : tie.Need-returns
+returns c =
+    let at-end = c .before .before .before .before .before .before in
+    let called = at-end .before .before .before .before .before .before in
+    let lent = called .before .before .before .before .before .before .before .before .before in
+    let start = lent .before .before .before .before .before .before .before in
+    let a = start .args in
+    let file = now (a .file) in
+    let m = now (a .old) in
+    let before = now (a .old-dist) in
+    let after = now (a .new-dist) in
+    let t = asTables (now (a .new)) before after (now (a .old-hops)) (now (a .new-hops)) in
+    whole-text (λ f. unfinished f m t) file (a .count) (called .unfinished .ensures .0)
+    (λ f. omega (arith, unfinished-room f m t))
+    (λ f. unfinished-first f m t (length file) (omega arith))
+
+pub whole-spec : {M : Type 1} → statement M
+whole-spec =
+    tie.close
+    (tie.spec
+    slice-aggregate-unfinished
+    unfinished-requires
+    same-length
+    same-length-2
+    same-length-3
+    same-length-4
+    same-length-5
+    same-length-6
+    returns)

@@ -1,0 +1,83 @@
+// Reads a bench file from standard input, and prints what is left after its last step: a line for each router that is
+// not done, with its state, the routers that it still waits for and what is due there and unwritten, and how many
+// answers "ok" are missing; or the refusal alone. What is printed is `unfinished` of crates/report/specs/Report.antt,
+// the whole of it, of the whole input; this program lends the tables, and buffers that have room for both.
+use area::limits::CELLS;
+use area::limits::LARGEST;
+use area::limits::Set;
+use area::limits::UNUSED;
+use report::UNFINISHED_ROOM;
+ghost use mathlib.Core.Path.{_≡_};
+ghost use mathlib.Core.List.{List};
+ghost use Prim.Native.Nat.{ℕ, _<_};
+ghost use lib.ListN.{length, take};
+ghost use Rattle.io.specs.Counts.{Counts};
+ghost use Rattle.plan.specs.Plan.{asTables};
+ghost use Rattle.bench_file.specs.Sections.{largest};
+ghost use Rattle.report.specs.Report.{unfinished};
+ghost use Rattle.streams.specs.Streams.{ReadOf};
+
+fn main() {
+    // One byte more than the largest file has, so that a longer one is seen to be too long.
+    let mut file = [0u8; LARGEST + 1];
+    let input = streams::read(b"unfinished", &mut file);
+    if input.is_failed {
+        return;
+    }
+    let mut old = [UNUSED; CELLS];
+    let mut new = [UNUSED; CELLS];
+    let mut old_dist = [0u32; CELLS];
+    let mut new_dist = [0u32; CELLS];
+    let mut old_hops: [Set; CELLS] = [0; CELLS];
+    let mut new_hops: [Set; CELLS] = [0; CELLS];
+    let mut out = [0u8; UNFINISHED_ROOM];
+    let printed = whole(
+        &file,
+        input.length,
+        &mut old,
+        &mut new,
+        &mut old_dist,
+        &mut new_dist,
+        &mut old_hops,
+        &mut new_hops,
+        &mut out,
+    );
+    streams::write(b"unfinished", &out[..printed]);
+}
+
+// Puts what is left after the input's last step at the start of `out`, and gives its length. The first `count` bytes of
+// `file` are the input, as much of it as has room there: more of it would change nothing, and nothing of the text is
+// left off.
+fn whole(
+    file: &[u8],
+    count: usize,
+    old: &mut [u32],
+    new: &mut [u32],
+    old_dist: &mut [u32],
+    new_dist: &mut [u32],
+    old_hops: &mut [Set],
+    new_hops: &mut [Set],
+    out: &mut [u8; UNFINISHED_ROOM],
+) -> usize
+    requires { ⌜ largest < length (now file) ⌝ }
+    requires { ⌜ Counts count (now file) ⌝ }
+    ensures counted { λ r. ⌜ Counts r (now (out .exit)) ⌝ }
+    ensures text { λ r.
+        let lent = asTables (now (new .entry))
+        (now («old_dist» .entry)) (now («new_dist» .entry))
+        (now («old_hops» .entry)) (now («new_hops» .entry)) in
+        ⌜ ((input : List ℕ)
+        → ReadOf input (now (file .entry)) count
+        → take r (now (out .exit)) ≡ unfinished input (now (old .entry)) lent) ⌝ }
+{
+    report::unfinished(
+        &file[..count],
+        old,
+        new,
+        old_dist,
+        new_dist,
+        old_hops,
+        new_hops,
+        out,
+    )
+}
