@@ -1,18 +1,33 @@
-//! Distances and next-hop sets of one topology: Dijkstra's search from each router, with all next hops of equal cost.
+//! Distances and next-hop sets of one topology: Dijkstra's search from each router, with all next hops of equal cost,
+//! and then the sets of four.
 
 use crate::limits::{CELLS, Set, UNREACHED, UNUSED, WIDTH};
 use crate::refusal::Refusal;
 
-/// Paths: fills both tables, or refuses and writes no cell.
-pub fn paths(n: usize, metric: &[u32], dist: &mut [u32], hops: &mut [Set]) -> Result<(), Refusal> {
-    check(n, metric, [metric.len(), dist.len(), hops.len()] == [CELLS; 3])?;
+/// Paths: fills the three tables, or refuses and writes no cell.
+pub fn paths(n: usize, metric: &[u32], dist: &mut [u32], hops: &mut [Set], fours: &mut [Set]) -> Result<(), Refusal> {
+    let sizes = [metric.len(), dist.len(), hops.len(), fours.len()];
+    check(n, metric, sizes == [CELLS; 4])?;
     dist.fill(UNREACHED);
     hops.fill(0);
     for source in 0..n {
         let row = WIDTH * source..WIDTH * source + n;
         search(metric, source, &mut dist[row.clone()], &mut hops[row]);
     }
+    for (set, &full) in fours.iter_mut().zip(hops.iter()) {
+        *set = four(full);
+    }
     Ok(())
+}
+
+/// The four lowest members, or all where there are fewer.
+fn four(full: Set) -> Set {
+    full ^ rest(rest(rest(rest(full))))
+}
+
+/// The set without its lowest member.
+fn rest(set: Set) -> Set {
+    set & set.wrapping_sub(1)
 }
 
 /// The refusals of n routers and their metric table. `sized` says whether every table has the right size.

@@ -25,9 +25,11 @@ pub struct Tables {
     pub old: Vec<u32>,
     pub new: Vec<u32>,
     pub old_dist: Vec<u32>,
-    pub new_dist: Vec<u32>,
     pub old_hops: Vec<Set>,
+    pub old_fours: Vec<Set>,
+    pub new_dist: Vec<u32>,
     pub new_hops: Vec<Set>,
+    pub new_fours: Vec<Set>,
 }
 
 impl Tables {
@@ -38,9 +40,11 @@ impl Tables {
             old: table.clone(),
             new: table.clone(),
             old_dist: table.clone(),
-            new_dist: table,
             old_hops: sets.clone(),
-            new_hops: sets,
+            old_fours: sets.clone(),
+            new_dist: table,
+            new_hops: sets.clone(),
+            new_fours: sets,
         }
     }
 
@@ -49,10 +53,12 @@ impl Tables {
             self.old.len(),
             self.new.len(),
             self.old_dist.len(),
-            self.new_dist.len(),
             self.old_hops.len(),
+            self.old_fours.len(),
+            self.new_dist.len(),
             self.new_hops.len(),
-        ] == [CELLS; 6]
+            self.new_fours.len(),
+        ] == [CELLS; 8]
     }
 }
 
@@ -61,8 +67,8 @@ pub fn plan(n: usize, list: &[u8], t: &mut Tables) -> Result<Record, Refusal> {
     paths::check(n, &t.old, t.are_sized())?;
     let change = judge::change(n, &t.old, list)?;
     apply(n, &t.old, list, &mut t.new);
-    paths(n, &t.old, &mut t.old_dist, &mut t.old_hops)?;
-    paths(n, &t.new, &mut t.new_dist, &mut t.new_hops)?;
+    paths(n, &t.old, &mut t.old_dist, &mut t.old_hops, &mut t.old_fours)?;
+    paths(n, &t.new, &mut t.new_dist, &mut t.new_hops, &mut t.new_fours)?;
     let waiting = if change.rising {
         converse(n, &toward(n, change.root, &t.old_hops))
     } else {
@@ -75,7 +81,7 @@ pub fn plan(n: usize, list: &[u8], t: &mut Tables) -> Result<Record, Refusal> {
         ranks: ranks(n, &waiting),
         telling: converse(n, &waiting),
         waiting,
-        due: due(n, &t.old_hops, &t.new_hops),
+        due: due(n, &t.old_fours, &t.new_fours),
         states: [0; WIDTH],
         written: [0; WIDTH],
     })
@@ -129,7 +135,7 @@ fn ranks(n: usize, waiting: &[Set; WIDTH]) -> [u8; WIDTH] {
     }
 }
 
-/// The destinations at each router whose next hops change.
+/// The destinations at each router whose sets of four change.
 fn due(n: usize, old: &[Set], new: &[Set]) -> [Set; WIDTH] {
     let mut out = [0; WIDTH];
     for r in 0..n {

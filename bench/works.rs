@@ -66,9 +66,11 @@ fn lent(t: &mut Tables) -> ofib::Tables<'_> {
         old: &mut t.old,
         new: &mut t.new,
         old_dist: &mut t.old_dist,
-        new_dist: &mut t.new_dist,
         old_hops: &mut t.old_hops,
+        old_fours: &mut t.old_fours,
+        new_dist: &mut t.new_dist,
         new_hops: &mut t.new_hops,
+        new_fours: &mut t.new_fours,
     }
 }
 
@@ -94,8 +96,9 @@ fn require(name: &str, is_same: bool) {
 }
 
 fn are_same(a: &Tables, b: &Tables) -> bool {
-    let new = a.new == b.new && a.new_dist == b.new_dist && a.new_hops == b.new_hops;
-    new && a.old == b.old && a.old_dist == b.old_dist && a.old_hops == b.old_hops
+    let old = a.old == b.old && a.old_dist == b.old_dist && a.old_hops == b.old_hops && a.old_fours == b.old_fours;
+    let new = a.new == b.new && a.new_dist == b.new_dist && a.new_hops == b.new_hops && a.new_fours == b.new_fours;
+    old && new
 }
 
 /// A full plan of an area.

@@ -61,7 +61,7 @@ typedef uint64_t ofib_set;
     (6 + OFIB_ENTRY * OFIB_WIDTH * (OFIB_WIDTH - 1) + OFIB_ENTRY * OFIB_MOST_CHANGES + OFIB_STEP * OFIB_MOST_STEPS)
 // As many bytes have room for the rehearsal of any file, and for its routes.
 #define OFIB_REHEARSAL_ROOM (133 * OFIB_WIDTH + 27 + 55 * OFIB_MOST_STEPS + 4)
-#define OFIB_ROUTES_ROOM (148 * OFIB_CELLS)
+#define OFIB_ROUTES_ROOM (19 + 148 * OFIB_CELLS)
 
 // The places of the six numbers that ofib_read gives.
 enum {
@@ -83,7 +83,7 @@ enum { OFIB_IDLE = 0, OFIB_HOLDING = 1, OFIB_ONGOING = 2, OFIB_DONE = 3 };
 enum {
     OFIB_LEARN = 1,   // router a learns of the change: idle, it holds from now on
     OFIB_RELEASE = 2, // the hold-down of router a is over: it is ongoing
-    OFIB_WRITE = 3,   // router a writes its next hops to destination b
+    OFIB_WRITE = 3,   // router a writes its set of four to destination b
     OFIB_FINISH = 4,  // router a has written all that is due, and is done
     OFIB_DELIVER = 5  // the message that router a is done arrives at router b
 };
@@ -150,21 +150,28 @@ uint8_t ofib_isis(
     const uint8_t *OFIB_ALONE lists, size_t lists_len,
     uint32_t *OFIB_ALONE table, size_t table_len);
 
-// Paths: of n routers and their metrics, every distance and every set of next hops. Cells with a row or a column from
-// n on become OFIB_UNREACHED and 0. Of the metrics, the diagonal and what lies beyond n is not looked at. A link is
-// used only if both directions have a metric below OFIB_UNUSED.
+// Next hops are in two tables. The full set of (i, j) has all next hops of router i to j: these are in `hops`. The set
+// of four has the four lowest numbers of the full set, or all of them where it has fewer: these are in `fours`, and are
+// what a line card holds, so what is written and compared. What is due comes from the sets of four; waiting, telling
+// and ranks come from the full sets.
+
+// Paths: of n routers and their metrics, every distance, every full set and every set of four. Cells with a row or a
+// column from n on become OFIB_UNREACHED, 0 and 0. Of the metrics, the diagonal and what lies beyond n is not looked
+// at. A link is used only if both directions have a metric below OFIB_UNUSED.
 // Gives OFIB_OK, or the first of 3, 8 and 6 that applies, and then writes no cell.
 uint8_t ofib_paths(
     size_t n,
     const uint32_t *OFIB_ALONE metric, size_t metric_len,
     uint32_t *OFIB_ALONE dist, size_t dist_len,
-    ofib_set *OFIB_ALONE hops, size_t hops_len);
+    ofib_set *OFIB_ALONE hops, size_t hops_len,
+    ofib_set *OFIB_ALONE fours, size_t fours_len);
 
 // Plan: judges a change of n routers with the metrics `old`. `list` is the changes, OFIB_ENTRY bytes each. The tables
-// get the metrics after the change, and the distances and next hops before and after it. The last nine places get the
-// record: `routers` is n, `root` the root, `direction` OFIB_RISE or OFIB_FALL. In the tables per router, entry r
-// belongs to router r, and is 0 from n on: its rank; the sets of those that it waits for and that it tells; its due
-// destinations; its state, OFIB_IDLE; and what it has written, which is nothing yet.
+// get the metrics after the change, and what ofib_paths gives for the metrics before it and after it. The last nine
+// places get the record: `routers` is n, `root` the root, `direction` OFIB_RISE or OFIB_FALL. In the tables per router,
+// entry r belongs to router r, and is 0 from n on: its rank; the sets of those that it waits for and that it tells; its
+// due destinations, to which it has another set of four after the change; its state, OFIB_IDLE; and what it has
+// written, which is nothing yet.
 // Gives OFIB_OK, or the first that applies of 3, 8, 6, 1, 9, 10, then of the first faulty change 4, 5, 6 or 7, then
 // of all changes together 11, 12, 13. With a refusal no table is written, and the record becomes all 0.
 uint8_t ofib_plan(
@@ -173,9 +180,11 @@ uint8_t ofib_plan(
     const uint8_t *OFIB_ALONE list, size_t list_len,
     uint32_t *OFIB_ALONE new_, size_t new_len,
     uint32_t *OFIB_ALONE old_dist, size_t old_dist_len,
-    uint32_t *OFIB_ALONE new_dist, size_t new_dist_len,
     ofib_set *OFIB_ALONE old_hops, size_t old_hops_len,
+    ofib_set *OFIB_ALONE old_fours, size_t old_fours_len,
+    uint32_t *OFIB_ALONE new_dist, size_t new_dist_len,
     ofib_set *OFIB_ALONE new_hops, size_t new_hops_len,
+    ofib_set *OFIB_ALONE new_fours, size_t new_fours_len,
     uint8_t *OFIB_ALONE routers,
     uint8_t *OFIB_ALONE root,
     uint8_t *OFIB_ALONE direction,
@@ -198,9 +207,11 @@ uint8_t ofib_sheet(
     const uint8_t *OFIB_ALONE list, size_t list_len,
     uint32_t *OFIB_ALONE new_, size_t new_len,
     uint32_t *OFIB_ALONE old_dist, size_t old_dist_len,
-    uint32_t *OFIB_ALONE new_dist, size_t new_dist_len,
     ofib_set *OFIB_ALONE old_hops, size_t old_hops_len,
+    ofib_set *OFIB_ALONE old_fours, size_t old_fours_len,
+    uint32_t *OFIB_ALONE new_dist, size_t new_dist_len,
     ofib_set *OFIB_ALONE new_hops, size_t new_hops_len,
+    ofib_set *OFIB_ALONE new_fours, size_t new_fours_len,
     uint8_t routers[OFIB_WHOLE OFIB_WIDTH]);
 
 // Step: one step of a record, of which it reads n and five tables, and changes three of them in place.
@@ -251,30 +262,35 @@ size_t ofib_missing(
 // The text of the rehearsal of a file, as the program `rehearse` prints it: put at the start of `out`, as far as that
 // has room, with no 0 after it. Where the file, its change or the size of a table is refused, the text is one line,
 // `refused k`. Gives the number of bytes put there: `out_len` where the text was cut off or just fits. What the rest
-// of `out` holds then is not promised. `old` is left as ofib_read leaves its table; the other five are filled as by
+// of `out` holds then is not promised. `old` is left as ofib_read leaves its table; the other seven are filled as by
 // ofib_plan, and are as they were where the line is a refusal.
 size_t ofib_rehearse(
     const uint8_t *OFIB_ALONE file, size_t file_len,
     uint32_t *OFIB_ALONE old, size_t old_len,
     uint32_t *OFIB_ALONE new_, size_t new_len,
     uint32_t *OFIB_ALONE old_dist, size_t old_dist_len,
-    uint32_t *OFIB_ALONE new_dist, size_t new_dist_len,
     ofib_set *OFIB_ALONE old_hops, size_t old_hops_len,
+    ofib_set *OFIB_ALONE old_fours, size_t old_fours_len,
+    uint32_t *OFIB_ALONE new_dist, size_t new_dist_len,
     ofib_set *OFIB_ALONE new_hops, size_t new_hops_len,
+    ofib_set *OFIB_ALONE new_fours, size_t new_fours_len,
     uint8_t *OFIB_ALONE out, size_t out_len);
 
-// The text of its routes, as the program `routes` prints it; the same in all else.
+// The text of its routes, as the program `routes` prints it: distances and full sets, after a line that says so; the
+// same in all else.
 size_t ofib_routes(
     const uint8_t *OFIB_ALONE file, size_t file_len,
     uint32_t *OFIB_ALONE old, size_t old_len,
     uint32_t *OFIB_ALONE new_, size_t new_len,
     uint32_t *OFIB_ALONE old_dist, size_t old_dist_len,
-    uint32_t *OFIB_ALONE new_dist, size_t new_dist_len,
     ofib_set *OFIB_ALONE old_hops, size_t old_hops_len,
+    ofib_set *OFIB_ALONE old_fours, size_t old_fours_len,
+    uint32_t *OFIB_ALONE new_dist, size_t new_dist_len,
     ofib_set *OFIB_ALONE new_hops, size_t new_hops_len,
+    ofib_set *OFIB_ALONE new_fours, size_t new_fours_len,
     uint8_t *OFIB_ALONE out, size_t out_len);
 
-// ---- The same with the record and the six tables as one place each. Their sizes are right, so 8 does not occur.
+// ---- The same with the record and the eight tables as one place each. Their sizes are right, so 8 does not occur.
 
 typedef struct ofib_record {
     uint8_t n;
@@ -292,25 +308,29 @@ typedef struct ofib_tables {
     uint32_t old[OFIB_CELLS];  // metrics before the change
     uint32_t new_[OFIB_CELLS]; // and after it; `new` is a word of C++
     uint32_t old_dist[OFIB_CELLS];
-    uint32_t new_dist[OFIB_CELLS];
     ofib_set old_hops[OFIB_CELLS];
+    ofib_set old_fours[OFIB_CELLS];
+    uint32_t new_dist[OFIB_CELLS];
     ofib_set new_hops[OFIB_CELLS];
+    ofib_set new_fours[OFIB_CELLS];
 } ofib_tables;
 
 // Plan over t->old: fills the other tables and the record.
 static inline uint8_t ofib_record_plan(ofib_record *r, size_t n, ofib_tables *t, const uint8_t *list, size_t list_len)
 {
-    return ofib_plan(n, t->old, OFIB_CELLS, list, list_len, t->new_, OFIB_CELLS, t->old_dist, OFIB_CELLS, t->new_dist,
-                     OFIB_CELLS, t->old_hops, OFIB_CELLS, t->new_hops, OFIB_CELLS, &r->n, &r->root, &r->direction,
-                     r->ranks, r->waiting, r->telling, r->due, r->states, r->written);
+    return ofib_plan(n, t->old, OFIB_CELLS, list, list_len, t->new_, OFIB_CELLS, t->old_dist, OFIB_CELLS, t->old_hops,
+                     OFIB_CELLS, t->old_fours, OFIB_CELLS, t->new_dist, OFIB_CELLS, t->new_hops, OFIB_CELLS,
+                     t->new_fours, OFIB_CELLS, &r->n, &r->root, &r->direction, r->ranks, r->waiting, r->telling, r->due,
+                     r->states, r->written);
 }
 
 // The running sheet over t->old: fills the other tables, and the routers in their order.
 static inline uint8_t ofib_tables_sheet(ofib_tables *t, size_t n, const uint8_t *list, size_t list_len,
                                         uint8_t routers[OFIB_WIDTH])
 {
-    return ofib_sheet(n, t->old, OFIB_CELLS, list, list_len, t->new_, OFIB_CELLS, t->old_dist, OFIB_CELLS, t->new_dist,
-                      OFIB_CELLS, t->old_hops, OFIB_CELLS, t->new_hops, OFIB_CELLS, routers);
+    return ofib_sheet(n, t->old, OFIB_CELLS, list, list_len, t->new_, OFIB_CELLS, t->old_dist, OFIB_CELLS, t->old_hops,
+                      OFIB_CELLS, t->old_fours, OFIB_CELLS, t->new_dist, OFIB_CELLS, t->new_hops, OFIB_CELLS,
+                      t->new_fours, OFIB_CELLS, routers);
 }
 
 static inline uint8_t ofib_record_step(ofib_record *r, uint8_t kind, uint8_t a, uint8_t b)
@@ -337,15 +357,17 @@ static inline size_t ofib_record_missing(const ofib_record *r)
 static inline size_t ofib_tables_rehearse(ofib_tables *t, const uint8_t *file, size_t file_len, uint8_t *out,
                                           size_t out_len)
 {
-    return ofib_rehearse(file, file_len, t->old, OFIB_CELLS, t->new_, OFIB_CELLS, t->old_dist, OFIB_CELLS,
-                         t->new_dist, OFIB_CELLS, t->old_hops, OFIB_CELLS, t->new_hops, OFIB_CELLS, out, out_len);
+    return ofib_rehearse(file, file_len, t->old, OFIB_CELLS, t->new_, OFIB_CELLS, t->old_dist, OFIB_CELLS, t->old_hops,
+                         OFIB_CELLS, t->old_fours, OFIB_CELLS, t->new_dist, OFIB_CELLS, t->new_hops, OFIB_CELLS,
+                         t->new_fours, OFIB_CELLS, out, out_len);
 }
 
 static inline size_t ofib_tables_routes(ofib_tables *t, const uint8_t *file, size_t file_len, uint8_t *out,
                                         size_t out_len)
 {
-    return ofib_routes(file, file_len, t->old, OFIB_CELLS, t->new_, OFIB_CELLS, t->old_dist, OFIB_CELLS, t->new_dist,
-                       OFIB_CELLS, t->old_hops, OFIB_CELLS, t->new_hops, OFIB_CELLS, out, out_len);
+    return ofib_routes(file, file_len, t->old, OFIB_CELLS, t->new_, OFIB_CELLS, t->old_dist, OFIB_CELLS, t->old_hops,
+                       OFIB_CELLS, t->old_fours, OFIB_CELLS, t->new_dist, OFIB_CELLS, t->new_hops, OFIB_CELLS,
+                       t->new_fours, OFIB_CELLS, out, out_len);
 }
 
 #ifdef __cplusplus

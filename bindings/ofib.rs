@@ -13,7 +13,7 @@ pub const LARGEST: usize = 6 + ENTRY * WIDTH * (WIDTH - 1) + ENTRY * MOST_CHANGE
 
 /// Room for the rehearsal of any file, and for its routes.
 pub const REHEARSAL_ROOM: usize = 133 * WIDTH + 27 + 55 * MOST_STEPS + 4;
-pub const ROUTES_ROOM: usize = 148 * CELLS;
+pub const ROUTES_ROOM: usize = 19 + 148 * CELLS;
 
 /// A set of routers: bit k stands for router k, so it has WIDTH bits.
 pub type Set = u64;
@@ -68,14 +68,17 @@ pub enum Answer {
     Refused(u8),
 }
 
-/// The six tables that Plan and the texts are lent.
+/// The eight tables that Plan and the texts are lent: the metrics of both topologies, and of each the distances, the
+/// full sets of next hops and the sets of four, which are their four lowest members.
 pub struct Tables<'a> {
     pub old: &'a mut [u32],
     pub new: &'a mut [u32],
     pub old_dist: &'a mut [u32],
-    pub new_dist: &'a mut [u32],
     pub old_hops: &'a mut [Set],
+    pub old_fours: &'a mut [Set],
+    pub new_dist: &'a mut [u32],
     pub new_hops: &'a mut [Set],
+    pub new_fours: &'a mut [Set],
 }
 
 mod c {
@@ -107,6 +110,8 @@ mod c {
             dist_len: usize,
             hops: *mut Set,
             hops_len: usize,
+            fours: *mut Set,
+            fours_len: usize,
         ) -> u8;
         pub fn ofib_plan(
             n: usize,
@@ -118,12 +123,16 @@ mod c {
             new_len: usize,
             old_dist: *mut u32,
             old_dist_len: usize,
-            new_dist: *mut u32,
-            new_dist_len: usize,
             old_hops: *mut Set,
             old_hops_len: usize,
+            old_fours: *mut Set,
+            old_fours_len: usize,
+            new_dist: *mut u32,
+            new_dist_len: usize,
             new_hops: *mut Set,
             new_hops_len: usize,
+            new_fours: *mut Set,
+            new_fours_len: usize,
             routers: *mut u8,
             root: *mut u8,
             direction: *mut u8,
@@ -144,12 +153,16 @@ mod c {
             new_len: usize,
             old_dist: *mut u32,
             old_dist_len: usize,
-            new_dist: *mut u32,
-            new_dist_len: usize,
             old_hops: *mut Set,
             old_hops_len: usize,
+            old_fours: *mut Set,
+            old_fours_len: usize,
+            new_dist: *mut u32,
+            new_dist_len: usize,
             new_hops: *mut Set,
             new_hops_len: usize,
+            new_fours: *mut Set,
+            new_fours_len: usize,
             routers: *mut [u8; WIDTH],
         ) -> u8;
         pub fn ofib_step(
@@ -193,12 +206,16 @@ mod c {
             new_len: usize,
             old_dist: *mut u32,
             old_dist_len: usize,
-            new_dist: *mut u32,
-            new_dist_len: usize,
             old_hops: *mut Set,
             old_hops_len: usize,
+            old_fours: *mut Set,
+            old_fours_len: usize,
+            new_dist: *mut u32,
+            new_dist_len: usize,
             new_hops: *mut Set,
             new_hops_len: usize,
+            new_fours: *mut Set,
+            new_fours_len: usize,
             out: *mut u8,
             out_len: usize,
         ) -> usize;
@@ -211,12 +228,16 @@ mod c {
             new_len: usize,
             old_dist: *mut u32,
             old_dist_len: usize,
-            new_dist: *mut u32,
-            new_dist_len: usize,
             old_hops: *mut Set,
             old_hops_len: usize,
+            old_fours: *mut Set,
+            old_fours_len: usize,
+            new_dist: *mut u32,
+            new_dist_len: usize,
             new_hops: *mut Set,
             new_hops_len: usize,
+            new_fours: *mut Set,
+            new_fours_len: usize,
             out: *mut u8,
             out_len: usize,
         ) -> usize;
@@ -255,8 +276,8 @@ pub fn isis(n: usize, identities: &[u8], lists: &[u8], table: &mut [u32]) -> u8 
     }
 }
 
-/// Paths: the number of its refusal, or 0.
-pub fn paths(n: usize, metric: &[u32], dist: &mut [u32], hops: &mut [Set]) -> u8 {
+/// Paths: the number of its refusal, or 0. `hops` gets the full sets of next hops, and `fours` the sets of four.
+pub fn paths(n: usize, metric: &[u32], dist: &mut [u32], hops: &mut [Set], fours: &mut [Set]) -> u8 {
     unsafe {
         c::ofib_paths(
             n,
@@ -266,6 +287,8 @@ pub fn paths(n: usize, metric: &[u32], dist: &mut [u32], hops: &mut [Set]) -> u8
             dist.len(),
             hops.as_mut_ptr(),
             hops.len(),
+            fours.as_mut_ptr(),
+            fours.len(),
         )
     }
 }
@@ -283,12 +306,16 @@ pub fn plan(n: usize, list: &[u8], t: &mut Tables, r: &mut Record) -> u8 {
             t.new.len(),
             t.old_dist.as_mut_ptr(),
             t.old_dist.len(),
-            t.new_dist.as_mut_ptr(),
-            t.new_dist.len(),
             t.old_hops.as_mut_ptr(),
             t.old_hops.len(),
+            t.old_fours.as_mut_ptr(),
+            t.old_fours.len(),
+            t.new_dist.as_mut_ptr(),
+            t.new_dist.len(),
             t.new_hops.as_mut_ptr(),
             t.new_hops.len(),
+            t.new_fours.as_mut_ptr(),
+            t.new_fours.len(),
             &mut r.n,
             &mut r.root,
             &mut r.direction,
@@ -316,12 +343,16 @@ pub fn sheet(n: usize, list: &[u8], t: &mut Tables, routers: &mut [u8; WIDTH]) -
             t.new.len(),
             t.old_dist.as_mut_ptr(),
             t.old_dist.len(),
-            t.new_dist.as_mut_ptr(),
-            t.new_dist.len(),
             t.old_hops.as_mut_ptr(),
             t.old_hops.len(),
+            t.old_fours.as_mut_ptr(),
+            t.old_fours.len(),
+            t.new_dist.as_mut_ptr(),
+            t.new_dist.len(),
             t.new_hops.as_mut_ptr(),
             t.new_hops.len(),
+            t.new_fours.as_mut_ptr(),
+            t.new_fours.len(),
             routers,
         )
     }
@@ -388,7 +419,7 @@ pub fn routes(file: &[u8], t: &mut Tables, out: &mut [u8]) -> usize {
     text(c::ofib_routes, file, t, out)
 }
 
-/// A call that takes a file, the six tables and room for a text.
+/// A call that takes a file, the eight tables and room for a text.
 type TextCall = unsafe extern "C" fn(
     *const u8,
     usize,
@@ -397,6 +428,10 @@ type TextCall = unsafe extern "C" fn(
     *mut u32,
     usize,
     *mut u32,
+    usize,
+    *mut Set,
+    usize,
+    *mut Set,
     usize,
     *mut u32,
     usize,
@@ -419,12 +454,16 @@ fn text(call: TextCall, file: &[u8], t: &mut Tables, out: &mut [u8]) -> usize {
             t.new.len(),
             t.old_dist.as_mut_ptr(),
             t.old_dist.len(),
-            t.new_dist.as_mut_ptr(),
-            t.new_dist.len(),
             t.old_hops.as_mut_ptr(),
             t.old_hops.len(),
+            t.old_fours.as_mut_ptr(),
+            t.old_fours.len(),
+            t.new_dist.as_mut_ptr(),
+            t.new_dist.len(),
             t.new_hops.as_mut_ptr(),
             t.new_hops.len(),
+            t.new_fours.as_mut_ptr(),
+            t.new_fours.len(),
             out.as_mut_ptr(),
             out.len(),
         )

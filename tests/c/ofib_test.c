@@ -1,5 +1,5 @@
 // Every function of bindings/ofib.h, called from C: on the file of paper 01, against what is stored of it and what 01
-// and 02 say of its plan (C1), and on what they refuse.
+// and 02 say of its plan (C1), on what they refuse, and on an area in which routers have five next hops.
 //     ofib_test FILE REHEARSAL ROUTES
 // FILE is the bench file, REHEARSAL and ROUTES what the programs print for it. What differs is printed, and the status
 // is 1 then.
@@ -90,32 +90,33 @@ static void load(const char *path, text *t)
     }
 }
 
-// The cell that number k of nine has, of the three routers from this one on.
-static size_t cell_of(size_t first, size_t k)
+// The cell that number k has in the rows of so many routers, of which this one is the first.
+static size_t cell_of(size_t first, size_t routers, size_t k)
 {
-    return OFIB_WIDTH * (first + k / 3) + first + k % 3;
+    return OFIB_WIDTH * (first + k / routers) + first + k % routers;
 }
 
-// A table with these nine cells for three routers, the lowest ones unless said otherwise, and `rest` everywhere else.
-static void triangle_from(size_t first, uint32_t *table, const uint32_t nine[9], uint32_t rest)
+// A table with these rows for so many routers from the first on, and `rest` everywhere else.
+static void square(uint32_t *table, size_t first, size_t routers, const uint32_t *rows, uint32_t rest)
 {
     for (size_t k = 0; k < OFIB_CELLS; k++)
         table[k] = rest;
-    for (size_t k = 0; k < 9; k++)
-        table[cell_of(first, k)] = nine[k];
+    for (size_t k = 0; k < routers * routers; k++)
+        table[cell_of(first, routers, k)] = rows[k];
 }
 
+// The same for the three lowest routers.
 static void triangle(uint32_t *table, const uint32_t nine[9], uint32_t rest)
 {
-    triangle_from(0, table, nine, rest);
+    square(table, 0, 3, nine, rest);
 }
 
-// The same of sets, which are empty elsewhere.
-static void triangle_of_sets(ofib_set *table, const ofib_set nine[9])
+// A table of sets for so many routers, the lowest ones; those elsewhere are empty.
+static void square_of_sets(ofib_set *table, size_t routers, const ofib_set *rows)
 {
     memset(table, 0, OFIB_CELLS * sizeof *table);
-    for (size_t k = 0; k < 9; k++)
-        table[cell_of(0, k)] = nine[k];
+    for (size_t k = 0; k < routers * routers; k++)
+        table[cell_of(0, routers, k)] = rows[k];
 }
 
 #define NO OFIB_UNUSED
@@ -147,8 +148,11 @@ static void fill_tables(void)
     triangle(planned.new_, new_metrics, OFIB_UNUSED);
     triangle(planned.old_dist, old_distances, OFIB_UNREACHED);
     triangle(planned.new_dist, new_distances, OFIB_UNREACHED);
-    triangle_of_sets(planned.old_hops, old_next_hops);
-    triangle_of_sets(planned.new_hops, new_next_hops);
+    // A router has at most two next hops here, so each set of four is the full set.
+    square_of_sets(planned.old_hops, 3, old_next_hops);
+    square_of_sets(planned.old_fours, 3, old_next_hops);
+    square_of_sets(planned.new_hops, 3, new_next_hops);
+    square_of_sets(planned.new_fours, 3, new_next_hops);
 }
 
 static void same_tables(const char *what, const ofib_tables *wanted)
@@ -156,9 +160,11 @@ static void same_tables(const char *what, const ofib_tables *wanted)
     cells(what, tables.old, wanted->old, OFIB_CELLS);
     cells(what, tables.new_, wanted->new_, OFIB_CELLS);
     cells(what, tables.old_dist, wanted->old_dist, OFIB_CELLS);
-    cells(what, tables.new_dist, wanted->new_dist, OFIB_CELLS);
     sets(what, tables.old_hops, wanted->old_hops, OFIB_CELLS);
+    sets(what, tables.old_fours, wanted->old_fours, OFIB_CELLS);
+    cells(what, tables.new_dist, wanted->new_dist, OFIB_CELLS);
     sets(what, tables.new_hops, wanted->new_hops, OFIB_CELLS);
+    sets(what, tables.new_fours, wanted->new_fours, OFIB_CELLS);
 }
 
 // ---- The tests.
@@ -260,23 +266,26 @@ static void test_isis(void)
     test_bad_entries();
 }
 
-// One call of ofib_paths, with the lengths of its three tables.
-static void one_paths(const char *what, size_t n, const size_t lens[3], uint8_t answer, const ofib_tables *wanted)
+// One call of ofib_paths, with the lengths of its four tables.
+static void one_paths(const char *what, size_t n, const size_t lens[4], uint8_t answer, const ofib_tables *wanted)
 {
     tables = untouched;
-    number(what, ofib_paths(n, tables.old, lens[0], tables.old_dist, lens[1], tables.old_hops, lens[2]), answer);
+    number(what, ofib_paths(n, tables.old, lens[0], tables.old_dist, lens[1], tables.old_hops, lens[2],
+                            tables.old_fours, lens[3]),
+           answer);
     cells(what, tables.old, untouched.old, OFIB_CELLS);
     cells(what, tables.old_dist, wanted->old_dist, OFIB_CELLS);
     sets(what, tables.old_hops, wanted->old_hops, OFIB_CELLS);
+    sets(what, tables.old_fours, wanted->old_fours, OFIB_CELLS);
 }
 
 static void test_paths(void)
 {
-    size_t lens[3] = {OFIB_CELLS, OFIB_CELLS, OFIB_CELLS};
+    size_t lens[4] = {OFIB_CELLS, OFIB_CELLS, OFIB_CELLS, OFIB_CELLS};
     one_paths("ofib_paths", 3, lens, OFIB_OK, &planned);
     one_paths("ofib_paths, n = 0", 0, lens, OFIB_ROUTER_COUNT, &untouched);
     one_paths("ofib_paths, a router too many", OFIB_WIDTH + 1, lens, OFIB_ROUTER_COUNT, &untouched);
-    for (size_t k = 0; k < 3; k++) {
+    for (size_t k = 0; k < 4; k++) {
         lens[k] = OFIB_CELLS - 1;
         one_paths("ofib_paths, a cell less", 3, lens, OFIB_TABLE_SIZE, &untouched);
         lens[k] = OFIB_CELLS;
@@ -309,41 +318,49 @@ static void one_plan(const char *what, const uint8_t *list, size_t list_len, uin
     one_sheet(what, list, list_len, answer);
 }
 
-// The same with another length for each of the six tables.
+// The lengths of the eight tables of one call, in their order.
+#define TABLES 8
+
+// All of them right but for that of table k, which is `len`.
+static void lengths(size_t lens[TABLES], size_t k, size_t len)
+{
+    for (size_t other = 0; other < TABLES; other++)
+        lens[other] = other == k ? len : OFIB_CELLS;
+}
+
+// The same with another length for each of the tables.
 static void test_sheet_sizes(void)
 {
-    size_t lens[6] = {OFIB_CELLS, OFIB_CELLS, OFIB_CELLS, OFIB_CELLS, OFIB_CELLS, OFIB_CELLS};
+    size_t lens[TABLES];
     const char *what = "ofib_sheet, a cell less";
-    for (size_t k = 0; k < 6; k++) {
+    for (size_t k = 0; k < TABLES; k++) {
         uint8_t routers[OFIB_WIDTH] = {2, 1};
         tables = untouched;
-        lens[k] = OFIB_CELLS - 1;
+        lengths(lens, k, OFIB_CELLS - 1);
         number(what, ofib_sheet(3, tables.old, lens[0], change, sizeof change, tables.new_, lens[1], tables.old_dist,
-                                lens[2], tables.new_dist, lens[3], tables.old_hops, lens[4], tables.new_hops, lens[5],
-                                routers),
+                                lens[2], tables.old_hops, lens[3], tables.old_fours, lens[4], tables.new_dist, lens[5],
+                                tables.new_hops, lens[6], tables.new_fours, lens[7], routers),
                OFIB_TABLE_SIZE);
         bytes(what, routers, no_order, OFIB_WIDTH);
         same_tables(what, &untouched);
-        lens[k] = OFIB_CELLS;
     }
 }
 
 static void test_plan_sizes(void)
 {
-    size_t lens[6] = {OFIB_CELLS, OFIB_CELLS, OFIB_CELLS, OFIB_CELLS, OFIB_CELLS, OFIB_CELLS};
+    size_t lens[TABLES];
     const char *what = "ofib_plan, a cell less";
-    for (size_t k = 0; k < 6; k++) {
+    for (size_t k = 0; k < TABLES; k++) {
         ofib_record r = fresh;
         tables = untouched;
-        lens[k] = OFIB_CELLS - 1;
+        lengths(lens, k, OFIB_CELLS - 1);
         number(what, ofib_plan(3, tables.old, lens[0], change, sizeof change, tables.new_, lens[1], tables.old_dist,
-                               lens[2], tables.new_dist, lens[3], tables.old_hops, lens[4], tables.new_hops, lens[5],
-                               &r.n, &r.root, &r.direction, r.ranks, r.waiting, r.telling, r.due, r.states,
-                               r.written),
+                               lens[2], tables.old_hops, lens[3], tables.old_fours, lens[4], tables.new_dist, lens[5],
+                               tables.new_hops, lens[6], tables.new_fours, lens[7], &r.n, &r.root, &r.direction,
+                               r.ranks, r.waiting, r.telling, r.due, r.states, r.written),
                OFIB_TABLE_SIZE);
         records(what, &r, &blank);
         same_tables(what, &untouched);
-        lens[k] = OFIB_CELLS;
     }
 }
 
@@ -366,6 +383,8 @@ static void test_fall(void)
     cells("ofib_plan, C2, new distances", tables.new_dist, planned.old_dist, OFIB_CELLS);
     sets("ofib_plan, C2, old next hops", tables.old_hops, planned.new_hops, OFIB_CELLS);
     sets("ofib_plan, C2, new next hops", tables.new_hops, planned.old_hops, OFIB_CELLS);
+    sets("ofib_plan, C2, old sets of four", tables.old_fours, planned.new_fours, OFIB_CELLS);
+    sets("ofib_plan, C2, new sets of four", tables.new_fours, planned.old_fours, OFIB_CELLS);
 }
 
 // The link of 1 and 2 goes down at one end only. All is as where both directions go down, but for the new metrics.
@@ -507,13 +526,15 @@ static void test_last_plan(void)
     const char *what = "plan of routers 61 to 63";
     ofib_record r = blank;
     tables = untouched;
-    triangle_from(61, tables.old, old_metrics, OFIB_UNUSED);
+    square(tables.old, 61, 3, old_metrics, OFIB_UNUSED);
     number(what, ofib_record_plan(&r, 64, &tables, last_change, sizeof last_change), OFIB_OK);
     records(what, &r, &last_fresh);
     number("ofib_needs, routers 61 to 63", ofib_record_needs(&r), 3 * 64 + 4 + 2);
     for (size_t k = 0; k < 9; k++) {
-        number(what, tables.old_hops[cell_of(61, k)], old_next_hops[k] << 61);
-        number(what, tables.new_hops[cell_of(61, k)], new_next_hops[k] << 61);
+        number(what, tables.old_hops[cell_of(61, 3, k)], old_next_hops[k] << 61);
+        number(what, tables.old_fours[cell_of(61, 3, k)], old_next_hops[k] << 61);
+        number(what, tables.new_hops[cell_of(61, 3, k)], new_next_hops[k] << 61);
+        number(what, tables.new_fours[cell_of(61, 3, k)], new_next_hops[k] << 61);
     }
 }
 
@@ -523,7 +544,7 @@ static void test_last_sheet(void)
     const char *what = "sheet of routers 61 to 63";
     uint8_t routers[OFIB_WIDTH] = {0};
     tables = untouched;
-    triangle_from(61, tables.old, old_metrics, OFIB_UNUSED);
+    square(tables.old, 61, 3, old_metrics, OFIB_UNUSED);
     number(what, ofib_tables_sheet(&tables, 64, last_change, sizeof last_change, routers), OFIB_OK);
     for (size_t k = 0; k < 62; k++)
         number(what, routers[k], k);
@@ -549,6 +570,136 @@ static void test_last_steps(void)
     one_refused(r, OFIB_WRITE, 63, 64, OFIB_UNKNOWN_ROUTER);
 }
 
+// Seven routers: 1 to 5 have a link at 1 to router 0 and one to router 6, and there are no others. So 0 and 6 have the
+// five next hops 1 to 5 to each other, as a set 62; of these the set of four has 1 to 4, as a set 30. Any two of 1 to 5
+// have the next hops 0 and 6 to each other, as a set 65.
+//
+// The link of 0 and 5 goes down: a rise, with the root 0, the lower of its ends. Router 5 is left with the next hop 6
+// (64) to all, and 1 to 4 with the next hop 6 to it; 0 gets to 5 by 1 to 4 (30). From 0 to 6 and from 6 to 0, the full
+// set loses 5 and becomes 30, and the set of four stays.
+#define SEVEN 7
+static const uint32_t seven_metrics[2][SEVEN * SEVEN] = {{
+    NO, 1, 1, 1, 1, 1, NO,
+    1, NO, NO, NO, NO, NO, 1,
+    1, NO, NO, NO, NO, NO, 1,
+    1, NO, NO, NO, NO, NO, 1,
+    1, NO, NO, NO, NO, NO, 1,
+    1, NO, NO, NO, NO, NO, 1,
+    NO, 1, 1, 1, 1, 1, NO,
+}, {
+    NO, 1, 1, 1, 1, NO, NO,
+    1, NO, NO, NO, NO, NO, 1,
+    1, NO, NO, NO, NO, NO, 1,
+    1, NO, NO, NO, NO, NO, 1,
+    1, NO, NO, NO, NO, NO, 1,
+    NO, NO, NO, NO, NO, NO, 1,
+    NO, 1, 1, 1, 1, 1, NO,
+}};
+static const uint32_t seven_distances[2][SEVEN * SEVEN] = {{
+    0, 1, 1, 1, 1, 1, 2,
+    1, 0, 2, 2, 2, 2, 1,
+    1, 2, 0, 2, 2, 2, 1,
+    1, 2, 2, 0, 2, 2, 1,
+    1, 2, 2, 2, 0, 2, 1,
+    1, 2, 2, 2, 2, 0, 1,
+    2, 1, 1, 1, 1, 1, 0,
+}, {
+    0, 1, 1, 1, 1, 3, 2,
+    1, 0, 2, 2, 2, 2, 1,
+    1, 2, 0, 2, 2, 2, 1,
+    1, 2, 2, 0, 2, 2, 1,
+    1, 2, 2, 2, 0, 2, 1,
+    3, 2, 2, 2, 2, 0, 1,
+    2, 1, 1, 1, 1, 1, 0,
+}};
+static const ofib_set seven_full_sets[2][SEVEN * SEVEN] = {{
+    0, 2, 4, 8, 16, 32, 62,
+    1, 0, 65, 65, 65, 65, 64,
+    1, 65, 0, 65, 65, 65, 64,
+    1, 65, 65, 0, 65, 65, 64,
+    1, 65, 65, 65, 0, 65, 64,
+    1, 65, 65, 65, 65, 0, 64,
+    62, 2, 4, 8, 16, 32, 0,
+}, {
+    0, 2, 4, 8, 16, 30, 30,
+    1, 0, 65, 65, 65, 64, 64,
+    1, 65, 0, 65, 65, 64, 64,
+    1, 65, 65, 0, 65, 64, 64,
+    1, 65, 65, 65, 0, 64, 64,
+    64, 64, 64, 64, 64, 0, 64,
+    30, 2, 4, 8, 16, 32, 0,
+}};
+
+static const uint8_t seven_change[] = {0, 5, 255, 255, 255, 5, 0, 255, 255, 255};
+
+// Due are the destinations with another set of four: 5 at routers 0 to 4 (32), 0 to 4 at router 5 (31), and nothing at
+// router 6. The full set of 6 to the root has all of 1 to 5, so that all of them wait for 6 (64), also 5, which is not
+// in the set of four. The root waits for 1 to 5 (62), which have it as their next hop.
+static const ofib_record seven_fresh = {
+    .n = SEVEN,
+    .root = 0,
+    .direction = OFIB_RISE,
+    .ranks = {2, 1, 1, 1, 1, 1, 0},
+    .waiting = {62, 64, 64, 64, 64, 64, 0},
+    .telling = {0, 1, 1, 1, 1, 1, 62},
+    .due = {32, 32, 32, 32, 32, 31, 0},
+};
+// Router 6 comes first, for it waits for none. Then each of 1 to 5 could come next, and in the end the root.
+static const uint8_t seven_in_order[OFIB_WIDTH] = {6, 1, 2, 3, 4, 5, 0};
+
+static ofib_tables seven;
+
+static void fill_seven(void)
+{
+    square(seven.old, 0, SEVEN, seven_metrics[0], OFIB_UNUSED);
+    square(seven.new_, 0, SEVEN, seven_metrics[1], OFIB_UNUSED);
+    square(seven.old_dist, 0, SEVEN, seven_distances[0], OFIB_UNREACHED);
+    square(seven.new_dist, 0, SEVEN, seven_distances[1], OFIB_UNREACHED);
+    square_of_sets(seven.old_hops, SEVEN, seven_full_sets[0]);
+    square_of_sets(seven.old_fours, SEVEN, seven_full_sets[0]);
+    square_of_sets(seven.new_hops, SEVEN, seven_full_sets[1]);
+    square_of_sets(seven.new_fours, SEVEN, seven_full_sets[1]);
+    // From 0 to 6 and from 6 to 0 before the change: the two full sets that have more than four members.
+    seven.old_fours[6] = 30;
+    seven.old_fours[OFIB_WIDTH * 6] = 30;
+}
+
+static void test_seven_plan(void)
+{
+    const char *what = "plan with five next hops";
+    ofib_record r = blank;
+    uint8_t routers[OFIB_WIDTH] = {0};
+    tables = untouched;
+    memcpy(tables.old, seven.old, sizeof tables.old);
+    number(what, ofib_record_plan(&r, SEVEN, &tables, seven_change, sizeof seven_change), OFIB_OK);
+    records(what, &r, &seven_fresh);
+    same_tables(what, &seven);
+    // Three of each router, ten messages and ten writes.
+    number("ofib_needs, five next hops", ofib_record_needs(&r), 3 * SEVEN + 10 + 10);
+    tables = untouched;
+    memcpy(tables.old, seven.old, sizeof tables.old);
+    what = "sheet with five next hops";
+    number(what, ofib_tables_sheet(&tables, SEVEN, seven_change, sizeof seven_change, routers), OFIB_OK);
+    bytes(what, routers, seven_in_order, OFIB_WIDTH);
+    same_tables(what, &seven);
+}
+
+// Router 6 may not write what is not due, and yet router 5 waits until 6 has finished and told it.
+static void test_seven_steps(void)
+{
+    const char *what = "steps with five next hops";
+    ofib_record r = seven_fresh;
+    r.states[5] = OFIB_ONGOING;
+    r.states[6] = OFIB_ONGOING;
+    one_refused(r, OFIB_WRITE, 6, 0, OFIB_NOT_DUE);
+    one_refused(r, OFIB_WRITE, 5, 0, OFIB_STILL_WAITING);
+    number(what, ofib_record_step(&r, OFIB_FINISH, 6, 0), OFIB_OK);
+    one_refused(r, OFIB_WRITE, 5, 0, OFIB_STILL_WAITING);
+    number(what, ofib_record_step(&r, OFIB_DELIVER, 6, 5), OFIB_OK);
+    number(what, ofib_record_step(&r, OFIB_WRITE, 5, 0), OFIB_OK);
+    number(what, r.written[5], 1);
+}
+
 // A text, in a buffer of each length up to one byte more than it has. The bytes beyond the length are not touched.
 static void one_text(const char *what, size_t (*call)(ofib_tables *, const uint8_t *, size_t, uint8_t *, size_t),
                      size_t file_len, const uint8_t *wanted, size_t wanted_len)
@@ -565,29 +716,54 @@ static void one_text(const char *what, size_t (*call)(ofib_tables *, const uint8
     }
 }
 
+// One of the two functions that give texts.
+typedef size_t text_call(const uint8_t *, size_t, uint32_t *, size_t, uint32_t *, size_t, uint32_t *, size_t,
+                         ofib_set *, size_t, ofib_set *, size_t, uint32_t *, size_t, ofib_set *, size_t, ofib_set *,
+                         size_t, uint8_t *, size_t);
+
+// Its text where each of the eight tables is too short. Read fills the old metrics, unless they are the short ones.
+static void test_text_sizes(const char *what, text_call *call)
+{
+    static const char refused[] = "refused 8\n";
+    static ofib_tables wanted;
+    size_t lens[TABLES];
+    for (size_t k = 0; k < TABLES; k++) {
+        uint8_t out[sizeof refused] = {0};
+        wanted = untouched;
+        tables = untouched;
+        memset(wanted.old, UNTOUCHED, sizeof wanted.old);
+        memset(tables.old, UNTOUCHED, sizeof tables.old);
+        if (k > 0)
+            triangle(wanted.old, old_metrics, OFIB_UNUSED);
+        lengths(lens, k, OFIB_CELLS - 1);
+        number(what, call(file.bytes, file.len, tables.old, lens[0], tables.new_, lens[1], tables.old_dist, lens[2],
+                          tables.old_hops, lens[3], tables.old_fours, lens[4], tables.new_dist, lens[5],
+                          tables.new_hops, lens[6], tables.new_fours, lens[7], out, sizeof out),
+               10);
+        bytes(what, out, (const uint8_t *)refused, 10);
+        same_tables(what, &wanted);
+    }
+}
+
 static void test_texts(void)
 {
-    static const char too_early[] = "refused 1\n", a_table[] = "refused 8\n";
+    static const char too_early[] = "refused 1\n", a_table[] = "refused 8\n", heading[] = "full next-hop sets\n";
     static uint32_t longer[OFIB_CELLS + 1];
     uint8_t out[sizeof a_table];
     one_text("ofib_rehearse", ofib_tables_rehearse, file.len, rehearsal.bytes, rehearsal.len);
     number("ofib_rehearse, the line between routers and steps",
            strstr((const char *)rehearsal.bytes, " due 3\nneeds 15\nstep 1 ok\n") != NULL, 1);
     one_text("ofib_routes", ofib_tables_routes, file.len, routes.bytes, routes.len);
+    bytes("ofib_routes, the first line", routes.bytes, (const uint8_t *)heading, sizeof heading - 1);
     one_text("ofib_rehearse, an empty file", ofib_tables_rehearse, 0, (const uint8_t *)too_early, 10);
     one_text("ofib_routes, an empty file", ofib_tables_routes, 0, (const uint8_t *)too_early, 10);
-    memset(out, 0, sizeof out);
-    number("ofib_rehearse, a cell less",
-           ofib_rehearse(file.bytes, file.len, tables.old, OFIB_CELLS, tables.new_, OFIB_CELLS, tables.old_dist,
-                         OFIB_CELLS, tables.new_dist, OFIB_CELLS, tables.old_hops, OFIB_CELLS, tables.new_hops,
-                         OFIB_CELLS - 1, out, sizeof out),
-           10);
-    bytes("ofib_rehearse, a cell less", out, (const uint8_t *)a_table, 10);
+    test_text_sizes("ofib_rehearse, a cell less", ofib_rehearse);
+    test_text_sizes("ofib_routes, a cell less", ofib_routes);
     memset(out, 0, sizeof out);
     number("ofib_routes, a cell more",
            ofib_routes(file.bytes, file.len, longer, OFIB_CELLS + 1, tables.new_, OFIB_CELLS, tables.old_dist,
-                       OFIB_CELLS, tables.new_dist, OFIB_CELLS, tables.old_hops, OFIB_CELLS, tables.new_hops,
-                       OFIB_CELLS, out, sizeof out),
+                       OFIB_CELLS, tables.old_hops, OFIB_CELLS, tables.old_fours, OFIB_CELLS, tables.new_dist,
+                       OFIB_CELLS, tables.new_hops, OFIB_CELLS, tables.new_fours, OFIB_CELLS, out, sizeof out),
            10);
     bytes("ofib_routes, a cell more", out, (const uint8_t *)a_table, 10);
 }
@@ -602,6 +778,7 @@ int main(int argc, char **argv)
     load(argv[2], &rehearsal);
     load(argv[3], &routes);
     fill_tables();
+    fill_seven();
     test_read();
     test_isis();
     test_paths();
@@ -612,6 +789,8 @@ int main(int argc, char **argv)
     test_last_plan();
     test_last_sheet();
     test_last_steps();
+    test_seven_plan();
+    test_seven_steps();
     test_texts();
     number("OFIB_WIDTH", OFIB_WIDTH, 64);
     number("OFIB_LARGEST", OFIB_LARGEST, 33084);

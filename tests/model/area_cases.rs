@@ -47,11 +47,11 @@ fn compare_calls(
 ) -> Result<(), String> {
     comparison.counts.areas += 1;
     comparison.counts.sizes[area.n] += 1;
-    comparison.paths(random, area.n, &area.metric, [CELLS; 2])?;
-    let planned = comparison.plan(random, area.n, &area.metric, [CELLS; 5], list)?;
+    comparison.paths(random, area.n, &area.metric, [CELLS; 3])?;
+    let planned = comparison.plan(random, area.n, &area.metric, [CELLS; 7], list)?;
     if planned.answer == 0 {
         let new = planned.tables.new.cells();
-        comparison.paths(random, area.n, new, [CELLS; 2])?;
+        comparison.paths(random, area.n, new, [CELLS; 3])?;
         let last = compare_steps(comparison, random, &planned.record, calls)?;
         compare_run(comparison, random, &planned.record, calls, &last)?;
     }

@@ -23,7 +23,7 @@ pub fn area(random: &mut Random) -> Area {
 }
 
 pub fn area_of_size(random: &mut Random, n: usize) -> Area {
-    let links = match random.below(10) {
+    let links = match random.below(11) {
         0 => random_links(random, n),
         1 => ring(random, n),
         2 => tree(random, n),
@@ -33,6 +33,7 @@ pub fn area_of_size(random: &mut Random, n: usize) -> Area {
         6 => half_ring(random, n),
         7 => pairs(n).collect(),
         8 => hypercube(n),
+        9 => between(random, n),
         _ => sparse(random, n),
     };
     let mut area = Area {
@@ -181,8 +182,16 @@ fn hypercube(n: usize) -> Vec<(usize, usize)> {
 
 /// Every router of a layer is linked with every router of the next: many walks of equal cost.
 fn layers(random: &mut Random, n: usize) -> Vec<(usize, usize)> {
-    let width = random.between(1, 4);
+    let width = random.between(1, 8);
     both_ways(pairs(n).filter(|(i, j)| i / width + 1 == j / width))
+}
+
+/// A few routers, any of them, are linked with each of the others, which all are between any two of the few.
+fn between(random: &mut Random, n: usize) -> Vec<(usize, usize)> {
+    let mut routers: Vec<usize> = (0..n).collect();
+    random.shuffle(&mut routers);
+    let (few, others) = routers.split_at(random.between(1, n.min(4)));
+    both_ways(few.iter().flat_map(|&i| others.iter().map(move |&j| (i, j))))
 }
 
 /// Groups of routers with no link between them.

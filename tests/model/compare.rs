@@ -6,7 +6,7 @@ use std::path::Path;
 use crate::counts::{Counts, Numbers};
 use crate::course::Course;
 use crate::flaw::Flaw;
-use crate::lent::{Lent, RIGHT_SIZES, SixTables};
+use crate::lent::{Lent, PathTables, PlanTables, RIGHT_SIZES, Sizes};
 use crate::link_state::Input;
 use crate::ofib::{self, Answer, CELLS, Contents, REHEARSAL_ROOM, ROUTES_ROOM, Record, Tables, WIDTH};
 use crate::paths::{self, UNUSED};
@@ -29,7 +29,7 @@ pub struct Comparison {
 pub struct Planned {
     pub answer: u8,
     pub record: Record,
-    pub tables: SixTables,
+    pub tables: PlanTables,
 }
 
 /// A text as the library gives it and as the model does.
@@ -63,36 +63,40 @@ impl Comparison {
         }
     }
 
-    pub fn paths(&mut self, random: &mut Random, n: usize, metric: &[u32], sizes: [usize; 2]) -> Result<u8, String> {
-        let (mut dist, mut hops) = (Lent::filled(random, sizes[0]), Lent::filled(random, sizes[1]));
-        let (mut model_dist, mut model_hops) = (dist.clone(), hops.clone());
-        let answer = ofib::paths(n, metric, dist.cells_mut(), hops.cells_mut());
-        let model = paths::paths(n, metric, model_dist.cells_mut(), model_hops.cells_mut(), self.flaw);
+    pub fn paths(&mut self, random: &mut Random, n: usize, metric: &[u32], sizes: [usize; 3]) -> Result<u8, String> {
+        let mut tables = PathTables::filled(random, sizes);
+        let mut model_tables = tables.clone();
+        let PathTables { dist, hops, fours } = &mut tables;
+        let answer = ofib::paths(n, metric, dist.cells_mut(), hops.cells_mut(), fours.cells_mut());
+        let PathTables { dist, hops, fours } = &mut model_tables;
+        let (dist, hops, fours) = (dist.cells_mut(), hops.cells_mut(), fours.cells_mut());
+        let model = paths::paths(n, metric, dist, hops, fours, self.flaw);
         same("Paths' answer", answer, model)?;
-        dist.compare(&model_dist, "of Paths' distances")?;
-        hops.compare(&model_hops, "of Paths' next hops")?;
+        tables.compare(&model_tables, "of Paths'")?;
         self.counts.paths[usize::from(answer)] += 1;
         Ok(answer)
     }
 
     /// Plan, Plan of the same changes in another order, and the running sheet of the same input. The sizes are those of
-    /// the five tables that all of them fill.
+    /// the seven tables that all of them fill.
     pub fn plan(
         &mut self,
         random: &mut Random,
         n: usize,
         old: &[u32],
-        sizes: [usize; 5],
+        sizes: [usize; 7],
         list: &[u8],
     ) -> Result<Planned, String> {
-        let [new, old_dist, new_dist, old_hops, new_hops] = sizes;
-        let mut tables = SixTables::filled(random, [0, new, old_dist, new_dist, old_hops, new_hops]);
+        let mut all = [0; 8];
+        all[1..].copy_from_slice(&sizes);
+        let mut tables = PlanTables::filled(random, all);
         tables.old = Lent::holding(random, old);
         let planned = self.plan_alone(random, n, tables.clone(), list)?;
         self.other_order(random, n, tables.clone(), list, &planned)?;
         let routers = self.sheet(random, n, tables, list, &planned)?;
         if planned.answer == 0 {
             self.counts.accepted(planned.record.n, planned.record.direction);
+            self.counts.fours.count(&planned);
             self.follow(&planned.record, &routers)?;
         }
         Ok(planned)
@@ -102,7 +106,7 @@ impl Comparison {
         &mut self,
         random: &mut Random,
         n: usize,
-        mut tables: SixTables,
+        mut tables: PlanTables,
         list: &[u8],
     ) -> Result<Planned, String> {
         let mut model_tables = tables.clone();
@@ -124,7 +128,7 @@ impl Comparison {
         &mut self,
         random: &mut Random,
         n: usize,
-        tables: SixTables,
+        tables: PlanTables,
         list: &[u8],
         planned: &Planned,
     ) -> Result<(), String> {
@@ -148,7 +152,7 @@ impl Comparison {
         &mut self,
         random: &mut Random,
         n: usize,
-        mut tables: SixTables,
+        mut tables: PlanTables,
         list: &[u8],
         planned: &Planned,
     ) -> Result<[u8; WIDTH], String> {
@@ -298,7 +302,7 @@ impl Comparison {
         &mut self,
         random: &mut Random,
         file: &[u8],
-        sizes: [usize; 6],
+        sizes: Sizes,
         room: Option<usize>,
     ) -> Result<String, String> {
         let text = self.text(random, &REHEARSAL, file, sizes, room)?;
@@ -310,7 +314,7 @@ impl Comparison {
         &mut self,
         random: &mut Random,
         file: &[u8],
-        sizes: [usize; 6],
+        sizes: Sizes,
         room: Option<usize>,
     ) -> Result<String, String> {
         let text = self.text(random, &ROUTES, file, sizes, room)?;
@@ -318,18 +322,18 @@ impl Comparison {
         Ok(text)
     }
 
-    /// Compares the text as far as it has room, and the six tables; gives the whole text. Where no room is given, the
+    /// Compares the text as far as it has room, and the eight tables; gives the whole text. Where no room is given, the
     /// text gets as much as it needs or a little more.
     fn text(
         &mut self,
         random: &mut Random,
         call: &TextCall,
         file: &[u8],
-        sizes: [usize; 6],
+        sizes: Sizes,
         room: Option<usize>,
     ) -> Result<String, String> {
         let name = call.name;
-        let mut tables = SixTables::filled(random, sizes);
+        let mut tables = PlanTables::filled(random, sizes);
         let mut model_tables = tables.clone();
         let text = (call.model)(file, &mut model_tables.lend(), self.flaw);
         let room = room.unwrap_or(text.len() + random.pick(&[0, 1, 100]));

@@ -1,5 +1,6 @@
 //! What has been compared, and which answers of 01 have come up.
 
+use crate::fours::Fours;
 use crate::isis::{self, Part};
 use crate::ofib::{Answer, WIDTH};
 use crate::plan::{MOST_CHANGES, RISE};
@@ -85,6 +86,7 @@ pub struct Counts {
     other_numbers: u64,
     /// What usable metrics and entries without effect have led to, each as often as it came up.
     usable: [u64; USABLE.len()],
+    pub fours: Fours,
     /// Running sheets that were followed to their end.
     pub followed: u64,
     pub files: u64,
@@ -98,7 +100,8 @@ pub struct Counts {
     pub rewrites: u64,
     pub records: u64,
     pub walks: u64,
-    pub small_plans: [u64; 5],
+    /// Plans of which every record was visited, by the number of routers.
+    pub small_plans: [u64; 8],
     pub paths: Numbers,
     pub plan: Numbers,
     pub sheet: Numbers,
@@ -191,6 +194,7 @@ impl Counts {
             orders: 0,
             other_numbers: 0,
             usable: [0; USABLE.len()],
+            fours: Fours::default(),
             followed: 0,
             files: 0,
             short_texts: 0,
@@ -201,7 +205,7 @@ impl Counts {
             rewrites: 0,
             records: 0,
             walks: 0,
-            small_plans: [0; 5],
+            small_plans: [0; 8],
             paths: [0; 256],
             plan: [0; 256],
             sheet: [0; 256],
@@ -275,6 +279,7 @@ impl Counts {
         self.missing_isis(&mut missing);
         self.missing_sheet_steps(&mut missing);
         self.progress.not_seen(&mut missing);
+        self.fours.not_seen(&mut missing);
         for n in 1..=WIDTH {
             require(&mut missing, self.sizes[n], || format!("area of {n} routers"));
         }
@@ -442,6 +447,7 @@ impl Counts {
         for (seen, (_, what)) in self.usable.iter().zip(USABLE) {
             println!("{what}: {seen}");
         }
+        self.fours.print();
         println!("sheets: {}; followed {}", answers(&self.sheet), self.followed);
         println!("Read: {}", answers(&self.read));
         println!("rehearsal: {}", answers(&self.rehearsal));
@@ -454,9 +460,11 @@ impl Counts {
             self.files, self.short_texts, self.processes
         );
         self.print_programs();
-        let [_, _, two, three, four] = self.small_plans;
+        let [_, _, two, three, four, _, six, seven] = self.small_plans;
         println!("reachable records: {}, walks {}", self.records, self.walks);
-        println!("plans searched for them: {two} with 2 routers, {three} with 3, {four} with 4");
+        println!(
+            "plans searched for them: {two} with 2 routers, {three} with 3, {four} with 4, {six} with 6, {seven} with 7"
+        );
     }
 
     /// Lists from IS-IS, stored files, and what the programs made of them and of sheets.
@@ -480,7 +488,7 @@ impl Counts {
     }
 }
 
-fn require(missing: &mut Vec<String>, seen: u64, what: impl Fn() -> String) {
+pub fn require(missing: &mut Vec<String>, seen: u64, what: impl Fn() -> String) {
     if seen == 0 {
         missing.push(what());
     }

@@ -140,19 +140,19 @@ fn wrong_n(comparison: &mut Comparison, random: &mut Random) -> Result<(), Diffe
             let (mut area, list) = area_and_list(random);
             area.n = n;
             area.metric.resize(size, 0);
-            compare_both(comparison, random, &area, [CELLS; 5], &list)?;
-            compare_both(comparison, random, &area, [size; 5], &list)?;
+            compare_both(comparison, random, &area, [CELLS; 7], &list)?;
+            compare_both(comparison, random, &area, [size; 7], &list)?;
         }
     }
     Ok(())
 }
 
-/// Each table by itself with each wrong size; the metric table is the sixth.
+/// Each table by itself with each wrong size; the metric table is the eighth.
 fn wrong_sizes(comparison: &mut Comparison, random: &mut Random) -> Result<(), Difference> {
     for size in WRONG_SIZES {
-        for table in 0..6 {
+        for table in 0..RIGHT_SIZES.len() {
             let (mut area, list) = area_and_list(random);
-            let mut sizes = [CELLS; 5];
+            let mut sizes = [CELLS; 7];
             match sizes.get_mut(table) {
                 Some(other) => *other = size,
                 None => area.metric.resize(size, 1),
@@ -166,7 +166,7 @@ fn wrong_sizes(comparison: &mut Comparison, random: &mut Random) -> Result<(), D
 /// Read, rehearsal and routes with each of their tables of a wrong size, on files with and without a fault.
 fn wrong_sizes_with_a_file(comparison: &mut Comparison, random: &mut Random) -> Result<(), Difference> {
     for size in WRONG_SIZES {
-        for table in 0..6 {
+        for table in 0..RIGHT_SIZES.len() {
             let mut parts = files::faultless(random, 6);
             if random.chance(30) {
                 files::spoil(random, &mut parts);
@@ -174,7 +174,7 @@ fn wrong_sizes_with_a_file(comparison: &mut Comparison, random: &mut Random) -> 
             let file = parts.bytes();
             let mut sizes = RIGHT_SIZES;
             sizes[table] = size;
-            sizes[random.below(6)] = random.pick(&[CELLS, CELLS, size]);
+            sizes[random.below(RIGHT_SIZES.len())] = random.pick(&[CELLS, CELLS, size]);
             let mut compare = || {
                 comparison.read(random, &file, size)?;
                 comparison.rehearsal(random, &file, sizes, None)?;
@@ -193,7 +193,7 @@ fn wrong_metric_at_each_place(comparison: &mut Comparison, random: &mut Random) 
         for place in 0..CELLS {
             let metric = random.pick(&WRONG_METRICS);
             let right = std::mem::replace(&mut area.metric[place], metric);
-            let outcome = comparison.paths(random, n, &area.metric, [CELLS; 2]);
+            let outcome = comparison.paths(random, n, &area.metric, [CELLS; 3]);
             outcome.map_err(|what| Difference::in_calls(what, describe_area("wrong metric", &area, &[], &[])))?;
             area.metric[place] = right;
         }
@@ -204,7 +204,7 @@ fn wrong_metric_at_each_place(comparison: &mut Comparison, random: &mut Random) 
 /// Some of n, sizes and metrics wrong at once.
 fn wrong_at_random(comparison: &mut Comparison, random: &mut Random) -> Result<(), Difference> {
     let (mut area, list) = area_and_list(random);
-    let mut sizes = [CELLS; 5];
+    let mut sizes = [CELLS; 7];
     if random.chance(50) {
         for _ in 0..random.between(1, 3) {
             let place = if random.chance(70) {
@@ -234,16 +234,16 @@ fn area_and_list(random: &mut Random) -> (Area, Vec<u8>) {
     (area, list)
 }
 
-/// Paths and Plan; the sizes are those of the tables that Plan fills, and Paths gets the second and the last of them.
+/// Paths and Plan; the sizes are those of the tables that Plan fills, and Paths gets those of the old topology.
 fn compare_both(
     comparison: &mut Comparison,
     random: &mut Random,
     area: &Area,
-    sizes: [usize; 5],
+    sizes: [usize; 7],
     list: &[u8],
 ) -> Result<(), Difference> {
     let mut compare = || {
-        comparison.paths(random, area.n, &area.metric, [sizes[1], sizes[4]])?;
+        comparison.paths(random, area.n, &area.metric, [sizes[1], sizes[2], sizes[3]])?;
         comparison.plan(random, area.n, &area.metric, sizes, list)
     };
     let title = format!("direct calls with table sizes {sizes:?}");

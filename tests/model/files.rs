@@ -3,7 +3,7 @@
 use crate::areas::{self, Area};
 use crate::changes;
 use crate::flaw::Flaw;
-use crate::lent::{RIGHT_SIZES, SixTables};
+use crate::lent::{PlanTables, RIGHT_SIZES};
 use crate::needs::needs;
 use crate::ofib::{CELLS, Record, WIDTH};
 use crate::paths::{UNUSED, at, pairs};
@@ -176,7 +176,7 @@ fn calls(random: &mut Random, area: &Area, list: &[u8], count: usize) -> Vec<u8>
 
 /// The fresh record of the area's plan, where there is one.
 fn fresh(random: &mut Random, area: &Area, list: &[u8]) -> Option<Record> {
-    let mut tables = SixTables::filled(random, RIGHT_SIZES);
+    let mut tables = PlanTables::filled(random, RIGHT_SIZES);
     tables.old.cells_mut().copy_from_slice(&area.metric);
     let mut record = Record::default();
     let answer = plan(area.n, list, &mut tables.lend(), &mut record, Flaw::None);

@@ -194,6 +194,26 @@ pub enum Flaw {
     DonePrinted,
     /// Sets are printed as numbers.
     SetsAsNumbers,
+    /// The set of four has five members where the full set has.
+    FiveTaken,
+    /// The four highest members are taken.
+    HighestTaken,
+    /// No member is taken of a full set that has more than four.
+    LargeDropped,
+    /// The four lowest members below 32 are taken.
+    FourOf32Bits,
+    /// The sets of four beyond n are left as they were.
+    FoursKeptBeyondN,
+    /// Waiting comes from the sets of four.
+    WaitingByFours,
+    /// Due are the destinations whose full sets differ.
+    DueByFullSets,
+    /// The routes have the sets of four.
+    RoutesOfFours,
+    /// The routes do not say that their sets are the full ones.
+    HeadingLeftOut,
+    /// They do so also where the file is refused.
+    HeadingThoughRefused,
 }
 
 impl Flaw {
@@ -220,7 +240,7 @@ impl Flaw {
 }
 
 /// Those that areas, files and arbitrary records show.
-pub const FLAWS: [Flaw; 59] = [
+pub const FLAWS: [Flaw; 69] = [
     Flaw::ReadTwoForOne,
     Flaw::ReadKeepsLinks,
     Flaw::DeadAfterRepeated,
@@ -280,6 +300,16 @@ pub const FLAWS: [Flaw; 59] = [
     Flaw::MissingWithoutWaiting,
     Flaw::StatesBackToDone,
     Flaw::WrittenTakenOff,
+    Flaw::FiveTaken,
+    Flaw::HighestTaken,
+    Flaw::LargeDropped,
+    Flaw::FourOf32Bits,
+    Flaw::FoursKeptBeyondN,
+    Flaw::WaitingByFours,
+    Flaw::DueByFullSets,
+    Flaw::RoutesOfFours,
+    Flaw::HeadingLeftOut,
+    Flaw::HeadingThoughRefused,
 ];
 
 /// Those that link-state data shows.

@@ -15,13 +15,13 @@ use crate::file_cases::{self, file_case};
 use crate::files::{self, LONG_SHEETS};
 use crate::flaw::{COURSE_FLAWS, FLAWS, Flaw, ISIS_FLAWS, PRINTED_FLAWS, REWRITING_FLAWS, UNFINISHED_FLAWS};
 use crate::isis_cases::{isis_case, printed_case, printed_on_purpose};
-use crate::lent::{RIGHT_SIZES, SixTables};
+use crate::lent::{PlanTables, RIGHT_SIZES};
 use crate::needs::{missing, needs};
 use crate::ofib::Record;
 use crate::plan::plan;
 use crate::process;
 use crate::random::Random;
-use crate::reachable::{Visit, judge_pointers, judge_progress, search, small_area, unchanged_between};
+use crate::reachable::{Visit, five_next_hops, judge_pointers, judge_progress, search, small_area, unchanged_between};
 use crate::step::step;
 
 const PART: u64 = 5;
@@ -69,6 +69,12 @@ fn record_flaws(seed: u64) -> Result<(), String> {
         let (plans, what) = first_bad_record(flaw, seed, walks).ok_or(format!("flaw {flaw:?}: no walk showed it"))?;
         let what = what.split(" with ").next().unwrap_or_default();
         println!("flaw {flaw:?}: caught by a walk at plan {plans} ({what})");
+    }
+    // In the plans before, no router has more than three next hops, so that sets of four and full sets are the same.
+    for flaw in [Flaw::FallAsRise, Flaw::LargeDropped] {
+        let (plans, what) = first_bad_walk(flaw, seed).ok_or(format!("flaw {flaw:?}: no walk by five showed it"))?;
+        let what = what.split(" with ").next().unwrap_or_default();
+        println!("flaw {flaw:?}: caught by a walk at plan {plans} with five next hops ({what})");
     }
     for flaw in COURSE_FLAWS {
         let (plans, what) =
@@ -220,17 +226,32 @@ fn first_bad_record(flaw: Flaw, seed: u64, judge: Judge) -> Option<(u64, String)
         } else {
             small_area(&mut random, n)
         };
-        let planned = model_plan(&area, &list, SixTables::filled(&mut random, RIGHT_SIZES), flaw);
-        if planned.answer != 0 {
-            continue;
-        }
-        let step = |record: &mut Record, call| Ok(step(record, call, flaw));
-        let outcome = search(&planned.record, step, |visit| judge(&planned, visit));
-        if let Err(what) = outcome {
+        if let Err(what) = judge_all(&mut random, &area, &list, flaw, judge) {
             return Some((number, what));
         }
     }
     None
+}
+
+/// The same of the walks on the plans with five next hops.
+fn first_bad_walk(flaw: Flaw, seed: u64) -> Option<(u64, String)> {
+    let mut random = Random::for_case(seed, PART, 0);
+    for (number, (area, list)) in (1..).zip(five_next_hops()) {
+        if let Err(what) = judge_all(&mut random, &area, &list, flaw, walks) {
+            return Some((number, what));
+        }
+    }
+    None
+}
+
+/// Every record that the flawed model gets to from its plan, if that is accepted.
+fn judge_all(random: &mut Random, area: &Area, list: &[u8], flaw: Flaw, judge: Judge) -> Result<(), String> {
+    let planned = model_plan(area, list, PlanTables::filled(random, RIGHT_SIZES), flaw);
+    if planned.answer != 0 {
+        return Ok(());
+    }
+    let step = |record: &mut Record, call| Ok(step(record, call, flaw));
+    search(&planned.record, step, |visit| judge(&planned, visit)).map(|_| ())
 }
 
 /// The flawed model by itself on the same changes in two orders: after how many plans these differ, and in what.
@@ -240,7 +261,7 @@ fn first_other_plan(flaw: Flaw, seed: u64) -> Option<(u64, String)> {
         let n = random.between(2, 4);
         let (area, list) = small_area(&mut random, n);
         let reordered = in_another_order(&mut random, &list);
-        let tables = SixTables::filled(&mut random, RIGHT_SIZES);
+        let tables = PlanTables::filled(&mut random, RIGHT_SIZES);
         let first = model_plan(&area, &list, tables.clone(), flaw);
         let other = model_plan(&area, &reordered, tables, flaw);
         if let Err(what) = same_plan(&other, &first) {
@@ -250,7 +271,7 @@ fn first_other_plan(flaw: Flaw, seed: u64) -> Option<(u64, String)> {
     None
 }
 
-fn model_plan(area: &Area, list: &[u8], mut tables: SixTables, flaw: Flaw) -> Planned {
+fn model_plan(area: &Area, list: &[u8], mut tables: PlanTables, flaw: Flaw) -> Planned {
     tables.old.cells_mut().copy_from_slice(&area.metric);
     let mut record = Record::default();
     let answer = plan(area.n, list, &mut tables.lend(), &mut record, flaw);

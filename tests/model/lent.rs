@@ -76,29 +76,54 @@ impl<T: Cell> Lent<T> {
     }
 }
 
-pub const RIGHT_SIZES: [usize; 6] = [CELLS; 6];
-
-/// The six tables that Plan and the texts are lent.
+/// The three tables that Paths fills.
 #[derive(Clone, PartialEq)]
-pub struct SixTables {
-    pub old: Lent<u32>,
-    pub new: Lent<u32>,
-    pub old_dist: Lent<u32>,
-    pub new_dist: Lent<u32>,
-    pub old_hops: Lent<Set>,
-    pub new_hops: Lent<Set>,
+pub struct PathTables {
+    pub dist: Lent<u32>,
+    pub hops: Lent<Set>,
+    pub fours: Lent<Set>,
 }
 
-impl SixTables {
+impl PathTables {
     /// The sizes are in the order of the fields.
-    pub fn filled(random: &mut Random, sizes: [usize; 6]) -> SixTables {
-        SixTables {
-            old: Lent::filled(random, sizes[0]),
-            new: Lent::filled(random, sizes[1]),
-            old_dist: Lent::filled(random, sizes[2]),
-            new_dist: Lent::filled(random, sizes[3]),
-            old_hops: Lent::filled(random, sizes[4]),
-            new_hops: Lent::filled(random, sizes[5]),
+    pub fn filled(random: &mut Random, sizes: [usize; 3]) -> PathTables {
+        PathTables {
+            dist: Lent::filled(random, sizes[0]),
+            hops: Lent::filled(random, sizes[1]),
+            fours: Lent::filled(random, sizes[2]),
+        }
+    }
+
+    pub fn compare(&self, model: &PathTables, call: &str) -> Result<(), String> {
+        self.dist.compare(&model.dist, &format!("{call} distances"))?;
+        self.hops.compare(&model.hops, &format!("{call} full sets"))?;
+        self.fours.compare(&model.fours, &format!("{call} sets of four"))
+    }
+}
+
+/// The sizes of the tables that Plan and the texts are lent, in this order: the old metrics and the new ones, and what
+/// Paths fills, of the old topology and then of the new one.
+pub type Sizes = [usize; 8];
+
+pub const RIGHT_SIZES: Sizes = [CELLS; 8];
+
+/// These eight tables.
+#[derive(Clone, PartialEq)]
+pub struct PlanTables {
+    pub old: Lent<u32>,
+    pub new: Lent<u32>,
+    pub old_paths: PathTables,
+    pub new_paths: PathTables,
+}
+
+impl PlanTables {
+    pub fn filled(random: &mut Random, sizes: Sizes) -> PlanTables {
+        let [old, new, old_dist, old_hops, old_fours, new_dist, new_hops, new_fours] = sizes;
+        PlanTables {
+            old: Lent::filled(random, old),
+            new: Lent::filled(random, new),
+            old_paths: PathTables::filled(random, [old_dist, old_hops, old_fours]),
+            new_paths: PathTables::filled(random, [new_dist, new_hops, new_fours]),
         }
     }
 
@@ -106,20 +131,19 @@ impl SixTables {
         Tables {
             old: self.old.cells_mut(),
             new: self.new.cells_mut(),
-            old_dist: self.old_dist.cells_mut(),
-            new_dist: self.new_dist.cells_mut(),
-            old_hops: self.old_hops.cells_mut(),
-            new_hops: self.new_hops.cells_mut(),
+            old_dist: self.old_paths.dist.cells_mut(),
+            old_hops: self.old_paths.hops.cells_mut(),
+            old_fours: self.old_paths.fours.cells_mut(),
+            new_dist: self.new_paths.dist.cells_mut(),
+            new_hops: self.new_paths.hops.cells_mut(),
+            new_fours: self.new_paths.fours.cells_mut(),
         }
     }
 
-    pub fn compare(&self, model: &SixTables, call: &str) -> Result<(), String> {
-        let name = |table: &str| format!("{table} of {call}");
-        self.old.compare(&model.old, &name("old"))?;
-        self.new.compare(&model.new, &name("new"))?;
-        self.old_dist.compare(&model.old_dist, &name("old_dist"))?;
-        self.new_dist.compare(&model.new_dist, &name("new_dist"))?;
-        self.old_hops.compare(&model.old_hops, &name("old_hops"))?;
-        self.new_hops.compare(&model.new_hops, &name("new_hops"))
+    pub fn compare(&self, model: &PlanTables, call: &str) -> Result<(), String> {
+        self.old.compare(&model.old, &format!("of {call}, old metrics"))?;
+        self.new.compare(&model.new, &format!("of {call}, new metrics"))?;
+        self.old_paths.compare(&model.old_paths, &format!("of {call}, old"))?;
+        self.new_paths.compare(&model.new_paths, &format!("of {call}, new"))
     }
 }

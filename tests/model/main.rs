@@ -12,6 +12,8 @@ mod file_cases;
 mod files;
 mod flaw;
 mod flaw_cases;
+mod fours;
+mod fours_worked;
 mod from_isis;
 mod isis;
 mod isis_cases;
@@ -31,6 +33,7 @@ mod random;
 mod reachable;
 mod read;
 mod rewriting;
+mod sets;
 mod sheet;
 mod step;
 mod steps;
@@ -75,7 +78,9 @@ fn main() -> ExitCode {
 fn compare_all(options: &Options) -> Result<String, String> {
     let seed = options.seed;
     println!("model: seed {seed}");
-    let worked = worked::check_model().and_then(|()| isis_worked::check_model());
+    let worked = worked::check_model()
+        .and_then(|()| fours_worked::check_model())
+        .and_then(|()| isis_worked::check_model());
     worked.map_err(|what| format!("the model contradicts the papers: {what}"))?;
     flaw_cases::flaw_cases(seed, &options.files, options.isis.program.as_deref())?;
     let mut comparison = Comparison::new(Flaw::None);

@@ -47,6 +47,7 @@ impl Options {
             small: reachable::Amount {
                 stride: 1,
                 records: 8_000_000,
+                has_seven: true,
             },
         }
     }
@@ -60,6 +61,7 @@ impl Options {
         self.small = reachable::Amount {
             stride: 5,
             records: 1_000_000,
+            has_seven: false,
         };
     }
 }

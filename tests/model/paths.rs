@@ -1,7 +1,9 @@
-//! Paths: distances and next-hop sets of an area (01, "The area and its paths"; 02, No. 4, for the links).
+//! Paths: distances, full next-hop sets and sets of four of an area (01, "The area and its paths"; 02, No. 4, for the
+//! links, and No. 9 for the sets of four).
 
 use crate::flaw::Flaw;
 use crate::ofib::{CELLS, Set, WIDTH};
+use crate::sets::four;
 
 /// The metric of a link that is not used.
 pub const UNUSED: u32 = 16_777_215;
@@ -38,16 +40,16 @@ pub fn refusal(n: usize, metric: &[u32], other_sizes: &[usize], flaw: Flaw) -> u
     }
 }
 
-pub fn paths(n: usize, metric: &[u32], dist: &mut [u32], hops: &mut [Set], flaw: Flaw) -> u8 {
-    let refused = refusal(n, metric, &[dist.len(), hops.len()], flaw);
+pub fn paths(n: usize, metric: &[u32], dist: &mut [u32], hops: &mut [Set], fours: &mut [Set], flaw: Flaw) -> u8 {
+    let refused = refusal(n, metric, &[dist.len(), hops.len(), fours.len()], flaw);
     if refused == 0 {
-        fill(n, metric, dist, hops, flaw);
+        fill(n, metric, dist, hops, fours, flaw);
     }
     refused
 }
 
-/// Writes all cells of both tables; the input has no fault.
-pub fn fill(n: usize, metric: &[u32], dist: &mut [u32], hops: &mut [Set], flaw: Flaw) {
+/// Writes all cells of the three tables; the input has no fault.
+pub fn fill(n: usize, metric: &[u32], dist: &mut [u32], hops: &mut [Set], fours: &mut [Set], flaw: Flaw) {
     let links = usable(n, metric, flaw);
     let least = least_sums(n, &links);
     dist.fill(UNREACHED);
@@ -59,6 +61,12 @@ pub fn fill(n: usize, metric: &[u32], dist: &mut [u32], hops: &mut [Set], flaw: 
     for (i, j) in pairs(n).filter(|&(i, j)| is_filled(i) && least[at(i, j)] < FAR) {
         dist[at(i, j)] = least[at(i, j)] as u32;
         hops[at(i, j)] = next_hops(n, &links, &least, i, j, flaw);
+    }
+    if flaw != Flaw::FoursKeptBeyondN {
+        fours.fill(0);
+    }
+    for cell in (0..n).flat_map(|i| at(i, 0)..at(i, n)) {
+        fours[cell] = four(hops[cell], flaw);
     }
 }
 

@@ -1,9 +1,10 @@
-//! Plan: the new metrics, both topologies' paths and the fresh record (01, "The plan"; 02, No. 2, for the root,
-//! and No. 4 for rise, fall and refusal 11).
+//! Plan: the new metrics, both topologies' paths and the fresh record (01, "The plan"; 02, No. 2, for the root, No. 4
+//! for rise, fall and refusal 11, and No. 9 for what is due).
 
 use crate::flaw::Flaw;
 use crate::ofib::{CELLS, Record, Set, Tables, WIDTH};
 use crate::paths::{self, UNUSED, at, pairs, usable};
+use crate::sets::{has, members, set_of};
 
 pub const MOST_CHANGES: usize = 126;
 pub const RISE: u8 = 1;
@@ -60,8 +61,8 @@ pub fn plan(n: usize, list: &[u8], t: &mut Tables, record: &mut Record, flaw: Fl
     if flaw == Flaw::NewMetricsUsable {
         cut_half_links(n, t.new);
     }
-    paths::fill(n, t.old, t.old_dist, t.old_hops, flaw);
-    paths::fill(n, t.new, t.new_dist, t.new_hops, flaw);
+    paths::fill(n, t.old, t.old_dist, t.old_hops, t.old_fours, flaw);
+    paths::fill(n, t.new, t.new_dist, t.new_hops, t.new_fours, flaw);
     *record = fresh_record(n, &changes, t, flaw);
     0
 }
@@ -71,9 +72,11 @@ fn refusal(n: usize, list: &[u8], t: &Tables, flaw: Flaw) -> u8 {
     let sizes = [
         t.new.len(),
         t.old_dist.len(),
-        t.new_dist.len(),
         t.old_hops.len(),
+        t.old_fours.len(),
+        t.new_dist.len(),
         t.new_hops.len(),
+        t.new_fours.len(),
     ];
     let common = paths::refusal(n, t.old, &sizes, flaw);
     if common != 0 {
@@ -245,8 +248,7 @@ fn fresh_record(n: usize, changes: &[Change], t: &Tables, flaw: Flaw) -> Record 
     };
     for r in 0..n {
         record.waiting[r] = waiting_set(n, r, root.into(), direction, t, flaw);
-        let due = set_of(n, |d| t.old_hops[at(r, d)] != t.new_hops[at(r, d)]);
-        record.due[r] = flaw.cut_by(Flaw::DueOf32Bits, due);
+        record.due[r] = due(n, r, t, flaw);
     }
     let mut known = [None; WIDTH];
     for r in 0..n {
@@ -257,13 +259,27 @@ fn fresh_record(n: usize, changes: &[Change], t: &Tables, flaw: Flaw) -> Record 
 }
 
 /// In a rise, r waits for the routers that used r towards the root in the old topology; in a fall, for the routers that
-/// r will use towards the root in the new one.
+/// r will use towards the root in the new one. Both are by the full sets.
 fn waiting_set(n: usize, r: usize, root: usize, direction: u8, t: &Tables, flaw: Flaw) -> Set {
+    let (old, new) = match flaw {
+        Flaw::WaitingByFours => (&t.old_fours, &t.new_fours),
+        _ => (&t.old_hops, &t.new_hops),
+    };
     if direction == RISE || flaw == Flaw::FallAsRise {
-        set_of(n, |other| has(t.old_hops[at(other, root)], r))
+        set_of(n, |other| has(old[at(other, root)], r))
     } else {
-        t.new_hops[at(r, root)]
+        new[at(r, root)]
     }
+}
+
+/// The destinations to which r has another set of four in the new topology (02, No. 9).
+fn due(n: usize, r: usize, t: &Tables, flaw: Flaw) -> Set {
+    let (old, new) = match flaw {
+        Flaw::DueByFullSets => (&t.old_hops, &t.new_hops),
+        _ => (&t.old_fours, &t.new_fours),
+    };
+    let differing = set_of(n, |d| old[at(r, d)] != new[at(r, d)]);
+    flaw.cut_by(Flaw::DueOf32Bits, differing)
 }
 
 /// The links of the longest chain from r in which each router waits for the next. There is no cycle: along a chain the
@@ -286,18 +302,4 @@ fn rank(r: usize, waiting: &[Set; WIDTH], known: &mut [Option<u8>; WIDTH], flaw:
     };
     known[r] = Some(rank);
     rank
-}
-
-pub fn has(set: Set, router: usize) -> bool {
-    set >> router & 1 == 1
-}
-
-pub fn members(set: Set) -> impl Iterator<Item = usize> {
-    (0..WIDTH).filter(move |&router| has(set, router))
-}
-
-pub fn set_of(n: usize, belongs: impl Fn(usize) -> bool) -> Set {
-    (0..n)
-        .filter(|&router| belongs(router))
-        .fold(0, |set, router| set | 1 << router)
 }

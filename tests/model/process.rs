@@ -9,7 +9,7 @@ use std::time::Duration;
 use crate::compare::{files, texts};
 use crate::flaw::Flaw;
 use crate::from_isis;
-use crate::lent::{RIGHT_SIZES, SixTables};
+use crate::lent::{PlanTables, RIGHT_SIZES};
 use crate::random::Random;
 use crate::read::LARGEST;
 use crate::rewriting::rewritten;
@@ -22,7 +22,7 @@ const READ: usize = LARGEST + 1;
 pub fn compare(random: &mut Random, program: &Path, file: &[u8]) -> Result<(), String> {
     let in_pieces = random.chance(20);
     let output = output(program, file, in_pieces).map_err(|error| format!("{}: {error}", program.display()))?;
-    let mut tables = SixTables::filled(random, RIGHT_SIZES);
+    let mut tables = PlanTables::filled(random, RIGHT_SIZES);
     let text = rehearsal(&file[..file.len().min(READ)], &mut tables.lend(), Flaw::None);
     texts("output of the program", &output, text.as_bytes())
 }
@@ -31,7 +31,7 @@ pub fn compare(random: &mut Random, program: &Path, file: &[u8]) -> Result<(), S
 pub fn compare_sheet_steps(random: &mut Random, program: &Path, file: &[u8], flaw: Flaw) -> Result<String, String> {
     let in_pieces = random.chance(20);
     let output = output(program, file, in_pieces).map_err(|error| format!("{}: {error}", program.display()))?;
-    let mut tables = SixTables::filled(random, RIGHT_SIZES);
+    let mut tables = PlanTables::filled(random, RIGHT_SIZES);
     let text = sheet_steps(&file[..file.len().min(READ)], &mut tables.lend(), flaw);
     texts("output of the program that prints steps", &output, text.as_bytes())?;
     Ok(text)
@@ -41,7 +41,7 @@ pub fn compare_sheet_steps(random: &mut Random, program: &Path, file: &[u8], fla
 pub fn compare_unfinished(random: &mut Random, program: &Path, file: &[u8], flaw: Flaw) -> Result<String, String> {
     let in_pieces = random.chance(20);
     let output = output(program, file, in_pieces).map_err(|error| format!("{}: {error}", program.display()))?;
-    let mut tables = SixTables::filled(random, RIGHT_SIZES);
+    let mut tables = PlanTables::filled(random, RIGHT_SIZES);
     let text = unfinished(&file[..file.len().min(READ)], &mut tables.lend(), flaw);
     texts(
         "output of the program that prints what is unfinished",

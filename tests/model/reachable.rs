@@ -1,5 +1,6 @@
 //! Small areas: every record that a plan can get to. On each of them all walks along the pointers (01, "The steps",
-//! what demand 3 is about), whether some call is answered ok, and how many were (02, No. 8).
+//! what demand 3 is about), which are sets of four (02, No. 9), whether some call is answered ok, and how many were
+//! (No. 8).
 
 use std::collections::HashMap;
 use std::hash::{BuildHasherDefault, Hasher};
@@ -9,11 +10,13 @@ use crate::changes::{self, bytes_of};
 use crate::compare::Comparison;
 use crate::course::Course;
 use crate::difference::{Difference, describe_area};
-use crate::lent::SixTables;
+use crate::fours_worked;
+use crate::lent::{PathTables, PlanTables};
 use crate::ofib::{self, Answer, CELLS, Record, Set};
 use crate::paths::{UNREACHED, UNUSED, at, pairs};
-use crate::plan::{Change, has, members};
+use crate::plan::Change;
 use crate::random::Random;
+use crate::sets::{has, members};
 use crate::step::{DELIVER, FINISH, LEARN, RELEASE, WRITE};
 use crate::steps::all_done;
 
@@ -26,6 +29,8 @@ pub struct Amount {
     pub stride: u64,
     /// Areas with four routers are searched until there are this many records.
     pub records: u64,
+    /// Whether the plans with seven routers are searched, of which some have 400,000 records.
+    pub has_seven: bool,
 }
 
 /// A record that a search has come to.
@@ -42,6 +47,10 @@ pub fn small_areas(comparison: &mut Comparison, seed: u64, amount: &Amount) -> R
     listed_areas(comparison, 3, amount.stride)?;
     let (area, list) = unchanged_between();
     search_area(comparison, &mut Random::for_case(seed, PART, 0), &area, &list)?;
+    search_all(comparison, seed, five_next_hops())?;
+    if amount.has_seven {
+        search_all(comparison, seed, fours_worked::plans())?;
+    }
     let mut number = 1;
     let before = comparison.counts.records;
     while comparison.counts.records - before < amount.records {
@@ -49,6 +58,13 @@ pub fn small_areas(comparison: &mut Comparison, seed: u64, amount: &Amount) -> R
         let (area, list) = small_area(&mut random, 4);
         search_area(comparison, &mut random, &area, &list)?;
         number += 1;
+    }
+    Ok(())
+}
+
+fn search_all(comparison: &mut Comparison, seed: u64, plans: Vec<(Area, Vec<u8>)>) -> Result<(), Difference> {
+    for (area, list) in plans {
+        search_area(comparison, &mut Random::for_case(seed, PART, 0), &area, &list)?;
     }
     Ok(())
 }
@@ -70,6 +86,53 @@ pub fn unchanged_between() -> (Area, Vec<u8>) {
             metric: UNUSED,
         }]),
     )
+}
+
+/// One link of the six routers below goes down, or comes up: that of 0 and 5, or at either of them that of the first
+/// router between them or of the last.
+pub fn five_next_hops() -> Vec<(Area, Vec<u8>)> {
+    let mut plans = Vec::new();
+    for (i, j) in [(0, 5), (0, 1), (0, 4), (1, 5), (4, 5)] {
+        let (whole, mut without) = (six_routers(), six_routers());
+        put_link(&mut without, i, j, UNUSED);
+        let metric = whole.metric[at(i, j)];
+        plans.push((whole, both_ends(i, j, UNUSED)));
+        plans.push((without, both_ends(i, j, metric)));
+    }
+    plans
+}
+
+/// Routers 1 to 4 are between routers 0 and 5, whose own link costs as much as the walks over them, so that 0 and 5
+/// have five next hops to each other.
+fn six_routers() -> Area {
+    let mut area = Area {
+        n: 6,
+        metric: vec![UNUSED; CELLS],
+    };
+    put_link(&mut area, 0, 5, 2);
+    for between in 1..5 {
+        put_link(&mut area, 0, between, 1);
+        put_link(&mut area, between, 5, 1);
+    }
+    area
+}
+
+fn put_link(area: &mut Area, i: usize, j: usize, metric: u32) {
+    area.metric[at(i, j)] = metric;
+    area.metric[at(j, i)] = metric;
+}
+
+/// The changes that give a link this metric in both directions.
+fn both_ends(i: usize, j: usize, metric: u32) -> Vec<u8> {
+    let (from, to) = (i as u8, j as u8);
+    bytes_of(&[
+        Change { from, to, metric },
+        Change {
+            from: to,
+            to: from,
+            metric,
+        },
+    ])
 }
 
 /// An area with few different metrics, so that walks often cost the same, and a change of it.
@@ -148,7 +211,7 @@ fn changes_by_code(area: &Area, links: &[(usize, usize)], code: usize) -> Vec<Ch
 /// Plans the change with the library and searches all records from there, if the plan is accepted.
 fn search_area(comparison: &mut Comparison, random: &mut Random, area: &Area, list: &[u8]) -> Result<(), Difference> {
     let mut compare = || {
-        let planned = comparison.plan(random, area.n, &area.metric, [CELLS; 5], list)?;
+        let planned = comparison.plan(random, area.n, &area.metric, [CELLS; 7], list)?;
         if planned.answer != 0 {
             return Ok(());
         }
@@ -207,7 +270,7 @@ pub fn search(
 
 /// The records that a search has come to, each with how many calls were answered ok on the way.
 #[derive(Default)]
-struct Seen(HashMap<u64, usize, BuildHasherDefault<KeyHasher>>);
+struct Seen(HashMap<u128, usize, BuildHasherDefault<KeyHasher>>);
 
 impl Seen {
     fn is_new(&mut self, record: &Record, oks: usize) -> Result<bool, String> {
@@ -238,12 +301,13 @@ fn all_calls(n: u8, any: u8) -> impl Iterator<Item = [u8; 3]> {
     of_one.chain(of_two)
 }
 
-/// States, waiting and written sets of up to four routers. A step changes nothing else of a record, as the comparison
+/// States, waiting and written sets of up to seven routers. A step changes nothing else of a record, as the comparison
 /// of every field has shown before.
-fn key(record: &Record) -> u64 {
-    let routers = 0..usize::from(record.n).min(4);
+fn key(record: &Record) -> u128 {
+    let routers = 0..usize::from(record.n).min(7);
     routers.fold(0, |key, r| {
-        key << 10 | u64::from(record.states[r]) << 8 | record.waiting[r] << 4 | record.written[r]
+        let of_router = u64::from(record.states[r]) << 14 | record.waiting[r] << 7 | record.written[r];
+        key << 16 | u128::from(of_router)
     })
 }
 
@@ -266,11 +330,16 @@ impl Hasher for KeyHasher {
         let mixed = key.wrapping_mul(0x9E37_79B9_7F4A_7C15);
         self.0 = mixed ^ (mixed >> 32);
     }
+
+    fn write_u128(&mut self, key: u128) {
+        self.write_u64((key >> 64) as u64);
+        self.write_u64(self.0 ^ key as u64);
+    }
 }
 
 /// For every destination and every start: no walk goes round in a cycle, and where the start reaches the destination
 /// in both topologies no walk ends elsewhere. The number of walks.
-pub fn judge_pointers(tables: &SixTables, record: &Record) -> Result<u64, String> {
+pub fn judge_pointers(tables: &PlanTables, record: &Record) -> Result<u64, String> {
     let n = usize::from(record.n);
     let mut walks = 0;
     for destination in 0..n {
@@ -289,29 +358,30 @@ pub fn judge_pointers(tables: &SixTables, record: &Record) -> Result<u64, String
     Ok(walks)
 }
 
-fn reaches(tables: &SixTables, start: usize, destination: usize) -> bool {
+fn reaches(tables: &PlanTables, start: usize, destination: usize) -> bool {
     let cell = at(start, destination);
-    tables.old_dist.cells()[cell] != UNREACHED && tables.new_dist.cells()[cell] != UNREACHED
+    let reached = |paths: &PathTables| paths.dist.cells()[cell] != UNREACHED;
+    reached(&tables.old_paths) && reached(&tables.new_paths)
 }
 
 /// The pointers of all routers for one destination.
 struct Pointers<'a> {
-    tables: &'a SixTables,
+    tables: &'a PlanTables,
     record: &'a Record,
     destination: usize,
     must_arrive: bool,
 }
 
 impl Pointers<'_> {
-    /// The new next hops where the router has written the destination, else the old ones.
+    /// The new set of four where the router has written the destination, else the old one.
     fn of(&self, router: usize) -> Set {
         let written = has(self.record.written[router], self.destination);
-        let hops = if written {
-            &self.tables.new_hops
+        let paths = if written {
+            &self.tables.new_paths
         } else {
-            &self.tables.old_hops
+            &self.tables.old_paths
         };
-        hops.cells()[at(router, self.destination)]
+        paths.fours.cells()[at(router, self.destination)]
     }
 
     /// Prolongs a walk of so many links in every way; a walk of n links visits a router twice. The number of walks.

@@ -2,7 +2,7 @@
 
 use crate::flaw::Flaw;
 use crate::ofib::{Record, WIDTH};
-use crate::plan::members;
+use crate::sets::members;
 use crate::step::{DELIVER, FINISH, LEARN, RELEASE, WRITE};
 
 /// Each router of the plan's record stands after all that it waits for, and of those that could come next the one with

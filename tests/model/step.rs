@@ -2,7 +2,7 @@
 
 use crate::flaw::Flaw;
 use crate::ofib::{Answer, Record};
-use crate::plan::has;
+use crate::sets::has;
 
 pub const LEARN: u8 = 1;
 pub const RELEASE: u8 = 2;

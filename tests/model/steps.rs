@@ -3,8 +3,8 @@
 use crate::flaw::Flaw;
 use crate::needs::needs;
 use crate::ofib::{Record, Set, WIDTH};
-use crate::plan::{has, members};
 use crate::random::Random;
+use crate::sets::{has, members};
 use crate::step::{DELIVER, DONE, FINISH, HOLDING, IDLE, LEARN, ONGOING, RELEASE, WRITE};
 
 /// Chooses calls one after the other, each from the record as it then is.

@@ -7,8 +7,9 @@ use crate::flaw::Flaw;
 use crate::needs::needs;
 use crate::ofib::{Answer, Contents, Record, Set, Tables, WIDTH};
 use crate::paths::{UNREACHED, at, pairs};
-use crate::plan::{members, plan, set_of};
+use crate::plan::plan;
 use crate::read::{MOST_STEPS, read};
+use crate::sets::{members, set_of};
 use crate::sheet;
 use crate::step::{DONE, run, step};
 
@@ -111,25 +112,39 @@ fn members_or_none(set: Set, flaw: Flaw) -> String {
     }
 }
 
-/// One line for each ordered pair of different routers with a walk before or after the change: distance and next-hop
-/// set in the old topology and in the new one, or `none` where that topology has no walk.
+/// What the routes of a file begin with: the sets in them are the full ones.
+const HEADING: &str = "full next-hop sets";
+
+/// Behind the heading, one line for each ordered pair of different routers with a walk before or after the change:
+/// distance and full next-hop set in the old topology and in the new one, or `none` where that topology has no walk.
 pub fn routes(file: &[u8], t: &mut Tables, flaw: Flaw) -> String {
     let contents = match prepare(file, t, flaw) {
         Err(number) => {
             if flaw == Flaw::RoutesTouchRefused {
                 t.new[0] ^= 1;
             }
-            return format!("refused {number}\n");
+            let heading = match flaw {
+                Flaw::HeadingThoughRefused => format!("{HEADING}\n"),
+                _ => String::new(),
+            };
+            return format!("{heading}refused {number}\n");
         }
         Ok((contents, _)) => contents,
     };
+    let (old_sets, new_sets) = match flaw {
+        Flaw::RoutesOfFours => (&t.old_fours, &t.new_fours),
+        _ => (&t.old_hops, &t.new_hops),
+    };
     let mut text = String::new();
+    if flaw != Flaw::HeadingLeftOut {
+        line(&mut text, format_args!("{HEADING}"));
+    }
     for (i, j) in pairs(contents.n) {
         let cell = at(i, j);
         let (before, after) = (t.old_dist[cell] != UNREACHED, t.new_dist[cell] != UNREACHED);
         if (before || after) && (flaw != Flaw::RouteNeedsBoth || before == after) {
-            let old = route(t.old_dist[cell], t.old_hops[cell]);
-            let new = route(t.new_dist[cell], t.new_hops[cell]);
+            let old = route(t.old_dist[cell], old_sets[cell]);
+            let new = route(t.new_dist[cell], new_sets[cell]);
             line(&mut text, format_args!("route {i} {j} old {old} new {new}"));
         }
     }

@@ -9,7 +9,8 @@ use crate::difference::Difference;
 use crate::file_cases::{Amount, compare_file};
 use crate::files::{Parts, bytes};
 use crate::flaw::Flaw;
-use crate::lent::{RIGHT_SIZES, SixTables};
+use crate::fours_worked;
+use crate::lent::{PathTables, PlanTables, RIGHT_SIZES};
 use crate::needs::needs;
 use crate::ofib::{Answer, CELLS, Record, Set, WIDTH};
 use crate::paths::{UNUSED, at, paths};
@@ -21,7 +22,8 @@ use crate::sheet::sheet;
 use crate::step::step;
 use crate::text::{rehearsal, unfinished};
 
-type Link = (u8, u8, u32);
+/// From, to and metric.
+pub type Link = (u8, u8, u32);
 
 const INPUT: &str = "03 0006 0001000001 0100000001 0102000001 0201000001 0002000003 0200000003 \
     02 0102FFFFFF 0201FFFFFF 000A 010100 020100 030102 010000 020000 030002 040000 050001 050001 030102";
@@ -104,7 +106,7 @@ const LAST_LINKS: [Link; 4] = [(0, 1, 1), (1, 0, 1), (1, 2, UNUSED - 1), (2, 1, 
 /// The examples on the model alone.
 pub fn check_model() -> Result<(), String> {
     let mut random = Random::for_case(0, 0, 0);
-    let mut tables = SixTables::filled(&mut random, RIGHT_SIZES);
+    let mut tables = PlanTables::filled(&mut random, RIGHT_SIZES);
     same(
         "printed rehearsal",
         OUTPUT,
@@ -168,7 +170,7 @@ fn star(n: u8, metric: u32) -> Vec<Link> {
 
 fn unfinished_texts() -> Result<(), String> {
     let text = |file: &[u8]| {
-        let mut tables = SixTables::filled(&mut Random::for_case(0, 0, 3), RIGHT_SIZES);
+        let mut tables = PlanTables::filled(&mut Random::for_case(0, 0, 3), RIGHT_SIZES);
         unfinished(file, &mut tables.lend(), Flaw::None)
     };
     for (steps, wanted) in UNFINISHED {
@@ -200,10 +202,11 @@ fn finished() -> Vec<u8> {
 /// The examples on the library and its programs beside the model.
 pub fn compare_library(comparison: &mut Comparison, amount: &Amount) -> Result<(), Difference> {
     let mut random = Random::for_case(0, 0, 4);
-    for file in files() {
+    for file in files().into_iter().chain(fours_worked::files()) {
         compare_rooms(comparison, &file).map_err(|what| Difference::in_file(what, &file))?;
     }
-    for file in files().into_iter().chain(large_files()) {
+    let of_fours = [fours_worked::files(), fours_worked::large_files()].concat();
+    for file in files().into_iter().chain(large_files()).chain(of_fours) {
         compare_file(comparison, &mut random, &file, &amount.with_each_file())?;
     }
     Ok(())
@@ -223,20 +226,20 @@ fn input() -> Vec<u8> {
     bytes(INPUT)
 }
 
-fn planned(n: usize, links: &[Link], changes: &[Link]) -> (u8, Record, SixTables) {
+pub fn planned(n: usize, links: &[Link], changes: &[Link]) -> (u8, Record, PlanTables) {
     planned_with(n, links, changes, Flaw::None)
 }
 
-fn planned_with(n: usize, links: &[Link], changes: &[Link], flaw: Flaw) -> (u8, Record, SixTables) {
+fn planned_with(n: usize, links: &[Link], changes: &[Link], flaw: Flaw) -> (u8, Record, PlanTables) {
     let mut random = Random::for_case(0, 0, 2);
-    let mut tables = SixTables::filled(&mut random, RIGHT_SIZES);
+    let mut tables = PlanTables::filled(&mut random, RIGHT_SIZES);
     tables.old.cells_mut().copy_from_slice(&area(n, links).metric);
     let mut record = Record::default();
     let answer = plan(n, &bytes_of(&entries(changes)), &mut tables.lend(), &mut record, flaw);
     (answer, record, tables)
 }
 
-fn area(n: usize, links: &[Link]) -> Area {
+pub fn area(n: usize, links: &[Link]) -> Area {
     let mut metric = vec![UNUSED; CELLS];
     for link in entries(links) {
         metric[link.cell()] = link.metric;
@@ -244,7 +247,7 @@ fn area(n: usize, links: &[Link]) -> Area {
     Area { n, metric }
 }
 
-fn entries(links: &[Link]) -> Vec<Change> {
+pub fn entries(links: &[Link]) -> Vec<Change> {
     links
         .iter()
         .map(|&(from, to, metric)| Change { from, to, metric })
@@ -268,8 +271,12 @@ fn orders() -> Result<(), String> {
 fn path_examples() -> Result<(), String> {
     let links = [(0, 1, 1), (1, 0, 1), (1, 2, 1), (2, 1, 1), (0, 2, 2), (2, 0, 2)];
     let (_, _, tables) = planned(3, &links, &FIRST_CHANGES);
-    let sets = (tables.old_hops.cells()[at(0, 2)], tables.new_hops.cells()[at(0, 2)]);
-    same("C3", sets, (6, 4))?;
+    let sets = |paths: &PathTables| (paths.hops.cells()[at(0, 2)], paths.fours.cells()[at(0, 2)]);
+    same(
+        "C3",
+        (sets(&tables.old_paths), sets(&tables.new_paths)),
+        ((6, 6), (4, 4)),
+    )?;
     same("C5", path(2, &[(0, 1, UNUSED)], 0, 1), (u32::MAX, 0))?;
     same("C6", path(2, &SIXTH_LINKS, 0, 1), (16_777_214, 2))?;
     same(
@@ -344,20 +351,32 @@ fn ring() -> Vec<Link> {
 }
 
 /// Routers whose numbers differ in one bit are neighbours.
-fn hypercube() -> Vec<Link> {
+pub fn hypercube() -> Vec<Link> {
     let is_link = |&(i, j): &(u8, u8)| i < j && (i ^ j).is_power_of_two();
     let pairs = (0..64).flat_map(|i| (0..64).map(move |j| (i, j)));
     pairs.filter(is_link).flat_map(|(i, j)| both_ways(i, j, 1)).collect()
 }
 
-fn both_ways(i: u8, j: u8, metric: u32) -> [Link; 2] {
+pub fn both_ways(i: u8, j: u8, metric: u32) -> [Link; 2] {
     [(i, j, metric), (j, i, metric)]
 }
 
+/// Distance and full set.
 fn path(n: usize, links: &[Link], i: usize, j: usize) -> (u32, Set) {
-    let (mut dist, mut hops) = (vec![0; CELLS], vec![0; CELLS]);
-    paths(n, &area(n, links).metric, &mut dist, &mut hops, Flaw::None);
-    (dist[at(i, j)], hops[at(i, j)])
+    let (dist, full, _) = found(n, links, i, j);
+    (dist, full)
+}
+
+/// Full set and set of four.
+pub fn path_sets(n: usize, links: &[Link], i: usize, j: usize) -> (Set, Set) {
+    let (_, full, four) = found(n, links, i, j);
+    (full, four)
+}
+
+fn found(n: usize, links: &[Link], i: usize, j: usize) -> (u32, Set, Set) {
+    let (mut dist, mut hops, mut fours) = (vec![0; CELLS], vec![0; CELLS], vec![0; CELLS]);
+    paths(n, &area(n, links).metric, &mut dist, &mut hops, &mut fours, Flaw::None);
+    (dist[at(i, j)], hops[at(i, j)], fours[at(i, j)])
 }
 
 /// C7 to C10: refusals of Plan. Then two faulty changes in both orders, of which the first decides.
@@ -396,7 +415,8 @@ fn half_links() -> Result<(), String> {
     let (number, _, direction, tables) = of(2, &link, &[(0, 1, UNUSED)]);
     same("one end goes down", (number, direction), (0, RISE))?;
     same("one end down, the table", tables.new.cells()[at(1, 0)], 5)?;
-    let reverse = (tables.old_dist.cells()[at(1, 0)], tables.new_dist.cells()[at(1, 0)]);
+    let distance = |paths: &PathTables| paths.dist.cells()[at(1, 0)];
+    let reverse = (distance(&tables.old_paths), distance(&tables.new_paths));
     same("one end down, the reverse", reverse, (5, u32::MAX))?;
     let root = answer(3, &FIRST_LINKS, &[(1, 2, 5), (2, 0, 3)]);
     same("root by an entry without effect", root, (0, 2, RISE))?;
@@ -486,9 +506,9 @@ fn sheets() -> Result<(), String> {
 }
 
 /// Routers, links and changes.
-type Example<'a> = (usize, &'a [Link], &'a [Link]);
+pub type Example<'a> = (usize, &'a [Link], &'a [Link]);
 
-fn file_of((n, links, changes): Example) -> Vec<u8> {
+pub fn file_of((n, links, changes): Example) -> Vec<u8> {
     Parts::new(n, entries(links), bytes_of(&entries(changes)), Vec::new()).bytes()
 }
 

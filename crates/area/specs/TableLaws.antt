@@ -5,6 +5,7 @@
 --     rows-le, cell-in, row-of, column-of  the places of cells
 --     length-tabulate, cell-tabulate, is-tabulate, places-tabulate
 --                                          a table by its cells, and by its places
+--     tabulate-mapped                      a table made place by place from another
 use Prim.Native.Nat.{ℕ, zero, suc, _+_, _*_, _/_, _%_, _≤_, _<_}
 use mathlib.Core.Path.{_≡_, refl, sym, ap, ap₂, _∙_}
 use mathlib.Core.Logic.{⊎-elim}
@@ -111,3 +112,19 @@ is-tabulate w f t pos e g =
   where
     place : (k : ℕ) → k ≡ w * (k / w) + k % w
     place k = omega (arith, div-add-mod' k w, mul-comm w (k / w))
+
+-- a table that has at each place what g makes of another table's is the table of what g makes of its cells
+pub tabulate-mapped :
+    (w : ℕ) (f : ℕ → ℕ → ℕ) (g : ℕ → ℕ) (h : ℕ → ℕ → ℕ) (t : List ℕ)
+    → t ≡ tabulate w f
+    → ((i j : ℕ) → h i j ≡ g (f i j))
+    → build (w * w) (λ k. g (getD t k 0)) ≡ tabulate w h
+unfolding tabulate
+tabulate-mapped w f g h t e same =
+    is-build (w * w) (λ k. h (k / w) (k % w)) (build (w * w) (λ k. g (getD t k 0)))
+    (length-build (w * w) (λ k. g (getD t k 0)))
+    (λ k l.
+    build-at (w * w) (λ k. g (getD t k 0)) k l
+    ∙ ap (λ (u : List ℕ). g (getD u k 0)) e
+    ∙ ap g (build-at (w * w) (λ k. f (k / w) (k % w)) k l)
+    ∙ sym (same (k / w) (k % w)))

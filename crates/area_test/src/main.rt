@@ -1,6 +1,7 @@
 // Runs the functions on router sets, entries and refusals, and prints what they give.
 //     one_router    what a set says of a router, with it and without it
 //     two_sets      subsets and joined sets
+//     of_four       the four lowest members of a set
 //     listed        the entries of a list
 //     refusals      the number of each refusal
 use area::limits::Set;
@@ -11,6 +12,7 @@ use cases::print;
 fn main() {
     one_router();
     two_sets();
+    of_four();
     listed();
     refusals();
 }
@@ -73,6 +75,50 @@ fn pair(s: Set, t: Set) {
     print::form(b"sets # # subset ", &[s, t]);
     truth(sets::is_subset(s, t));
     print::form(b" joined #\n", &[sets::join(s, t)]);
+}
+
+// Sets with fewer members than four, with four and with more, at both ends and in the middle.
+fn of_four() {
+    few();
+    exactly_four();
+    more();
+}
+
+fn few() {
+    four(0); // no member
+    four(1); // 0
+    four(9223372036854775808); // 63
+    four(9223372036854775809); // 0, 63
+    four(4294967296); // 32
+    four(13835058055282163713); // 0, 62, 63
+    four(16140901064495857664); // 61, 62, 63
+    four(7); // 0, 1, 2
+}
+
+fn exactly_four() {
+    four(15); // 0, 1, 2, 3
+    four(13835058055282163715); // 0, 1, 62, 63
+    four(16140901064495857665); // 0, 61, 62, 63
+    four(17293822569102704640); // 60, 61, 62, 63
+    four(9223372043297226753); // 0, 31, 32, 63
+    four(9223372043297226754); // 1, 31, 32, 63
+}
+
+fn more() {
+    four(62); // 1 to 5, without 5
+    four(9223372036854775823); // 0, 1, 2, 3, 63, without 63
+    four(16140901064495857667); // 0, 1, 61, 62, 63, without 63
+    four(17293822569102704641); // 0, 60, 61, 62, 63, without 63
+    four(17870283321406128128); // 59 to 63, without 63
+    four(18374686479671623680); // 56 to 63, the first four
+    four(16140901070938308611); // 0, 1, 31, 32, 61, 62, 63, the first four
+    four(9223372036854775806); // 1 to 62, the first four
+    four(18446744073709551614); // all but 0, the first four
+    four(18446744073709551615); // all, the first four
+}
+
+fn four(s: Set) {
+    print::form(b"set # four #\n", &[s, sets::four(s)]);
 }
 
 // Three entries, and two bytes of a fourth.

@@ -69,17 +69,21 @@ fn rehearsal(file: &[u8], out: &mut [u8]) -> usize
     let mut old = [0u32; CELLS];
     let mut new = [0u32; CELLS];
     let mut old_dist = [0u32; CELLS];
-    let mut new_dist = [0u32; CELLS];
     let mut old_hops: [Set; CELLS] = [0; CELLS];
+    let mut old_fours: [Set; CELLS] = [0; CELLS];
+    let mut new_dist = [0u32; CELLS];
     let mut new_hops: [Set; CELLS] = [0; CELLS];
+    let mut new_fours: [Set; CELLS] = [0; CELLS];
     report::rehearse(
         file,
         &mut old,
         &mut new,
         &mut old_dist,
-        &mut new_dist,
         &mut old_hops,
+        &mut old_fours,
+        &mut new_dist,
         &mut new_hops,
+        &mut new_fours,
         out,
     )
 }

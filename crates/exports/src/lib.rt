@@ -18,9 +18,9 @@ use fields::hand_back;
 use fields::record_from;
 use fields::reply_number;
 ghost use mathlib.Core.Path.{_≡_};
-ghost use Rattle.paths.specs.Paths.{pathsRefusal, distancesOf, hopsOf};
+ghost use Rattle.paths.specs.Paths.{pathsIn, pathsRefusal, pathsOf};
 ghost use Rattle.plan.specs.declared.Record.{Record};
-ghost use Rattle.plan.specs.Plan.{asTables, areTables, planRefusal, recordOf, tablesOf};
+ghost use Rattle.plan.specs.Plan.{tablesIn, areTables, planRefusal, recordOf, tablesOf};
 ghost use Rattle.sheet.specs.Sheet.{sheetOf};
 ghost use Rattle.machine.specs.Machine.{over, stepOf};
 ghost use Rattle.machine.specs.Run.{run, callsOf};
@@ -73,17 +73,21 @@ pub extern "C" fn ofib_isis(n: usize, identities: &[u8], lists: &[u8], table: &m
 
 // Paths.
 #[no_mangle]
-pub extern "C" fn ofib_paths(n: usize, metric: &[u32], dist: &mut [u32], hops: &mut [Set]) -> u8
-    ensures answer { λ r. ⌜
-        r ≡ pathsRefusal n (now (metric .entry)) (now (dist .entry)) (now (hops .entry)) ⌝ }
-    ensures distances { λ _. ⌜
-        now (dist .exit)
-        ≡ distancesOf n (now (metric .entry)) (now (dist .entry)) (now (hops .entry)) ⌝ }
-    ensures hops { λ _. ⌜
-        now (hops .exit)
-        ≡ hopsOf n (now (metric .entry)) (now (dist .entry)) (now (hops .entry)) ⌝ }
+pub extern "C" fn ofib_paths(
+    n: usize,
+    metric: &[u32],
+    dist: &mut [u32],
+    hops: &mut [Set],
+    fours: &mut [Set],
+) -> u8
+    ensures answer { λ r.
+        let lent = pathsIn (dist .entry) (hops .entry) (fours .entry) in
+        ⌜ r ≡ pathsRefusal n (now (metric .entry)) lent ⌝ }
+    ensures tables { λ _.
+        let lent = pathsIn (dist .entry) (hops .entry) (fours .entry) in
+        ⌜ pathsIn (dist .exit) (hops .exit) (fours .exit) ≡ pathsOf n (now (metric .entry)) lent ⌝ }
 {
-    let answer = paths::paths(n, metric, dist, hops);
+    let answer = paths::paths(n, metric, dist, hops, fours);
     answer.number()
 }
 
@@ -95,9 +99,11 @@ pub extern "C" fn ofib_plan(
     list: &[u8],
     new: &mut [u32],
     old_dist: &mut [u32],
-    new_dist: &mut [u32],
     old_hops: &mut [Set],
+    old_fours: &mut [Set],
+    new_dist: &mut [u32],
     new_hops: &mut [Set],
+    new_fours: &mut [Set],
     routers: &mut u8,
     root: &mut u8,
     direction: &mut u8,
@@ -109,27 +115,39 @@ pub extern "C" fn ofib_plan(
     written: &mut [Set; WIDTH],
 ) -> u8
     ensures answer { λ r.
-        let lent = asTables (now (new .entry))
-        (now («old_dist» .entry)) (now («new_dist» .entry))
-        (now («old_hops» .entry)) (now («new_hops» .entry)) in
+        let lent = tablesIn (new .entry)
+        («old_dist» .entry) («old_hops» .entry) («old_fours» .entry)
+        («new_dist» .entry) («new_hops» .entry) («new_fours» .entry) in
         ⌜ r ≡ planRefusal n (now (old .entry)) (now (list .entry)) (areTables (now (old .entry)) lent) ⌝ }
     ensures record { λ _.
-        let lent = asTables (now (new .entry))
-        (now («old_dist» .entry)) (now («new_dist» .entry))
-        (now («old_hops» .entry)) (now («new_hops» .entry)) in
+        let lent = tablesIn (new .entry)
+        («old_dist» .entry) («old_hops» .entry) («old_fours» .entry)
+        («new_dist» .entry) («new_hops» .entry) («new_fours» .entry) in
         ⌜ recordFrom (now (routers .exit)) (now (root .exit)) (now (direction .exit))
         (now (ranks .exit)) (now (waiting .exit)) (now (telling .exit)) (now (due .exit))
         (now (states .exit)) (now (written .exit))
         ≡ recordOf n (now (old .entry)) (now (list .entry)) lent ⌝ }
     ensures tables { λ _.
-        let lent = asTables (now (new .entry))
-        (now («old_dist» .entry)) (now («new_dist» .entry))
-        (now («old_hops» .entry)) (now («new_hops» .entry)) in
-        ⌜ asTables (now (new .exit)) (now («old_dist» .exit)) (now («new_dist» .exit))
-        (now («old_hops» .exit)) (now («new_hops» .exit))
+        let lent = tablesIn (new .entry)
+        («old_dist» .entry) («old_hops» .entry) («old_fours» .entry)
+        («new_dist» .entry) («new_hops» .entry) («new_fours» .entry) in
+        ⌜ tablesIn (new .exit)
+        («old_dist» .exit) («old_hops» .exit) («old_fours» .exit)
+        («new_dist» .exit) («new_hops» .exit) («new_fours» .exit)
         ≡ tablesOf n (now (old .entry)) (now (list .entry)) lent ⌝ }
 {
-    let planned = plan::plan(n, old, list, new, old_dist, new_dist, old_hops, new_hops);
+    let planned = plan::plan(
+        n,
+        old,
+        list,
+        new,
+        old_dist,
+        old_hops,
+        old_fours,
+        new_dist,
+        new_hops,
+        new_fours,
+    );
     hand_back(
         planned.record,
         routers,
@@ -154,30 +172,44 @@ pub extern "C" fn ofib_sheet(
     list: &[u8],
     new: &mut [u32],
     old_dist: &mut [u32],
-    new_dist: &mut [u32],
     old_hops: &mut [Set],
+    old_fours: &mut [Set],
+    new_dist: &mut [u32],
     new_hops: &mut [Set],
+    new_fours: &mut [Set],
     routers: &mut [u8; WIDTH],
 ) -> u8
     ensures answer { λ r.
-        let lent = asTables (now (new .entry))
-        (now («old_dist» .entry)) (now («new_dist» .entry))
-        (now («old_hops» .entry)) (now («new_hops» .entry)) in
+        let lent = tablesIn (new .entry)
+        («old_dist» .entry) («old_hops» .entry) («old_fours» .entry)
+        («new_dist» .entry) («new_hops» .entry) («new_fours» .entry) in
         ⌜ r ≡ planRefusal n (now (old .entry)) (now (list .entry)) (areTables (now (old .entry)) lent) ⌝ }
     ensures routers { λ _.
-        let lent = asTables (now (new .entry))
-        (now («old_dist» .entry)) (now («new_dist» .entry))
-        (now («old_hops» .entry)) (now («new_hops» .entry)) in
+        let lent = tablesIn (new .entry)
+        («old_dist» .entry) («old_hops» .entry) («old_fours» .entry)
+        («new_dist» .entry) («new_hops» .entry) («new_fours» .entry) in
         ⌜ now (routers .exit) ≡ sheetOf (recordOf n (now (old .entry)) (now (list .entry)) lent) ⌝ }
     ensures tables { λ _.
-        let lent = asTables (now (new .entry))
-        (now («old_dist» .entry)) (now («new_dist» .entry))
-        (now («old_hops» .entry)) (now («new_hops» .entry)) in
-        ⌜ asTables (now (new .exit)) (now («old_dist» .exit)) (now («new_dist» .exit))
-        (now («old_hops» .exit)) (now («new_hops» .exit))
+        let lent = tablesIn (new .entry)
+        («old_dist» .entry) («old_hops» .entry) («old_fours» .entry)
+        («new_dist» .entry) («new_hops» .entry) («new_fours» .entry) in
+        ⌜ tablesIn (new .exit)
+        («old_dist» .exit) («old_hops» .exit) («old_fours» .exit)
+        («new_dist» .exit) («new_hops» .exit) («new_fours» .exit)
         ≡ tablesOf n (now (old .entry)) (now (list .entry)) lent ⌝ }
 {
-    let made = sheet::sheet(n, old, list, new, old_dist, new_dist, old_hops, new_hops);
+    let made = sheet::sheet(
+        n,
+        old,
+        list,
+        new,
+        old_dist,
+        old_hops,
+        old_fours,
+        new_dist,
+        new_hops,
+        new_fours,
+    );
     let of_routers = made.routers;
     *routers = of_routers;
     let answer = made.answer;
@@ -296,28 +328,41 @@ pub extern "C" fn ofib_rehearse(
     old: &mut [u32],
     new: &mut [u32],
     old_dist: &mut [u32],
-    new_dist: &mut [u32],
     old_hops: &mut [Set],
+    old_fours: &mut [Set],
+    new_dist: &mut [u32],
     new_hops: &mut [Set],
+    new_fours: &mut [Set],
     out: &mut [u8],
 ) -> usize
     ensures text { λ r.
-        let lent = asTables (now (new .entry))
-        (now («old_dist» .entry)) (now («new_dist» .entry))
-        (now («old_hops» .entry)) (now («new_hops» .entry)) in
+        let lent = tablesIn (new .entry)
+        («old_dist» .entry) («old_hops» .entry) («old_fours» .entry)
+        («new_dist» .entry) («new_hops» .entry) («new_fours» .entry) in
         ⌜ Appended (now (out .entry)) 0
         (rehearsal (now (file .entry)) (now (old .entry)) lent) (now (out .exit)) r ⌝ }
     ensures metrics { λ _. ⌜ now (old .exit) ≡ metricsOf (now (file .entry)) (now (old .entry)) ⌝ }
     ensures tables { λ _.
-        let lent = asTables (now (new .entry))
-        (now («old_dist» .entry)) (now («new_dist» .entry))
-        (now («old_hops» .entry)) (now («new_hops» .entry)) in
-        let left = asTables (now (new .exit))
-        (now («old_dist» .exit)) (now («new_dist» .exit))
-        (now («old_hops» .exit)) (now («new_hops» .exit)) in
+        let lent = tablesIn (new .entry)
+        («old_dist» .entry) («old_hops» .entry) («old_fours» .entry)
+        («new_dist» .entry) («new_hops» .entry) («new_fours» .entry) in
+        let left = tablesIn (new .exit)
+        («old_dist» .exit) («old_hops» .exit) («old_fours» .exit)
+        («new_dist» .exit) («new_hops» .exit) («new_fours» .exit) in
         ⌜ left ≡ tablesAt (now (file .entry)) (now (old .entry)) lent ⌝ }
 {
-    report::rehearse(file, old, new, old_dist, new_dist, old_hops, new_hops, out)
+    report::rehearse(
+        file,
+        old,
+        new,
+        old_dist,
+        old_hops,
+        old_fours,
+        new_dist,
+        new_hops,
+        new_fours,
+        out,
+    )
 }
 
 // The text of the routes of a file.
@@ -327,25 +372,38 @@ pub extern "C" fn ofib_routes(
     old: &mut [u32],
     new: &mut [u32],
     old_dist: &mut [u32],
-    new_dist: &mut [u32],
     old_hops: &mut [Set],
+    old_fours: &mut [Set],
+    new_dist: &mut [u32],
     new_hops: &mut [Set],
+    new_fours: &mut [Set],
     out: &mut [u8],
 ) -> usize
     ensures text { λ r.
-        let lent = asTables (now (new .entry))
-        (now («old_dist» .entry)) (now («new_dist» .entry))
-        (now («old_hops» .entry)) (now («new_hops» .entry)) in
+        let lent = tablesIn (new .entry)
+        («old_dist» .entry) («old_hops» .entry) («old_fours» .entry)
+        («new_dist» .entry) («new_hops» .entry) («new_fours» .entry) in
         ⌜ Appended (now (out .entry)) 0 (routes (now (file .entry)) (now (old .entry)) lent) (now (out .exit)) r ⌝ }
     ensures metrics { λ _. ⌜ now (old .exit) ≡ metricsOf (now (file .entry)) (now (old .entry)) ⌝ }
     ensures tables { λ _.
-        let lent = asTables (now (new .entry))
-        (now («old_dist» .entry)) (now («new_dist» .entry))
-        (now («old_hops» .entry)) (now («new_hops» .entry)) in
-        let left = asTables (now (new .exit))
-        (now («old_dist» .exit)) (now («new_dist» .exit))
-        (now («old_hops» .exit)) (now («new_hops» .exit)) in
+        let lent = tablesIn (new .entry)
+        («old_dist» .entry) («old_hops» .entry) («old_fours» .entry)
+        («new_dist» .entry) («new_hops» .entry) («new_fours» .entry) in
+        let left = tablesIn (new .exit)
+        («old_dist» .exit) («old_hops» .exit) («old_fours» .exit)
+        («new_dist» .exit) («new_hops» .exit) («new_fours» .exit) in
         ⌜ left ≡ tablesAt (now (file .entry)) (now (old .entry)) lent ⌝ }
 {
-    report::routes(file, old, new, old_dist, new_dist, old_hops, new_hops, out)
+    report::routes(
+        file,
+        old,
+        new,
+        old_dist,
+        old_hops,
+        old_fours,
+        new_dist,
+        new_hops,
+        new_fours,
+        out,
+    )
 }

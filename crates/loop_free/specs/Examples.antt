@@ -20,19 +20,21 @@ use Rattle.area.specs.Tests.{all, first}
 use Rattle.area.specs.Tables.{build, tabulate, perRouter}
 use Rattle.area.specs.Sizes.{isRouterCount, isTable}
 use Rattle.sets.specs.Sets.{bit, setOf, added, removed, without, subset}
+use Rattle.sets.specs.Counts.{total, size}
+use Rattle.sets.specs.Four.{four}
 use Rattle.entries.specs.Entries.{entryCount, entryOf, isFree, entryRefusal, listedRefusal, listedMetric}
 use Rattle.topology.specs.Topology.{isLink, topology}
 use Rattle.topology.specs.Distance.{sums, least, distance}
 use Rattle.topology.specs.NextHops.{isNext, nextHops}
 use Rattle.area.specs.Lists.{Distinct}
-use Rattle.paths.specs.Paths.{isMetric, areMetrics}
+use Rattle.paths.specs.Paths.{PathTables, isMetric, areMetrics, arePaths}
 use Rattle.ranks.specs.Rank.{greatest, above, longest, rank}
 use Rattle.changes.specs.Root.{isCommon, root}
 use Rattle.plan.specs.declared.Record.{Record}
 use Rattle.plan.specs.NewMetrics.{newCell, newMetrics}
 use Rattle.plan.specs.Direction.{areAtMost, isSame, isRise, isFall}
-use Rattle.plan.specs.Waiting.{oldHops, newHops, waiting, telling, due}
-use Rattle.plan.specs.Plan.{Tables, asTables, areTables, planRefusal, isPlanned, fresh, recordOf, tablesOf}
+use Rattle.plan.specs.Waiting.{oldHops, newHops, oldFours, newFours, waiting, telling, due}
+use Rattle.plan.specs.Plan.{Tables, areTables, planRefusal, isPlanned, fresh, recordOf, tablesOf}
 use Rattle.convergence.specs.Pointers.{pointers, Along}
 use Rattle.machine.specs.Answers.{Reply, ok, ignored, refused, gives}
 use Rattle.machine.specs.Machine.{learn, release, ready, write, finish, listens, deliver, isSound, isKind, readsB}
@@ -63,8 +65,11 @@ comesUp : List ℕ
 comesUp = 1 ∷ 2 ∷ 0 ∷ 0 ∷ 1 ∷ 2 ∷ 1 ∷ 0 ∷ 0 ∷ 1 ∷ []
 
 -- tables of the right size to lend to Plan
+paths : PathTables
+paths = record { distances = metricsUp; hops = metricsUp; fours = metricsUp }
+
 lent : Tables
-lent = asTables metricsUp metricsUp metricsUp metricsUp metricsUp
+lent = record { metrics = metricsUp; old = paths; new = paths }
 
 -- an entry for each of the three routers, and 0 for the rest
 abbrev three : ℕ → ℕ → ℕ → List ℕ
@@ -106,11 +111,11 @@ record Accepts (m l : List ℕ) (r : Record) : Type 0 where
   given : recordOf 3 m l lent ≡ r
 
 planned : Accepts metricsUp goesDown beforeRise × Accepts metricsDown comesUp beforeFall
-unfolding metricsDown metricsUp goesDown comesUp lent beforeRise beforeFall recordOf isPlanned fresh perRouter build
-    rank longest above greatest waiting telling due oldHops newHops nextHops isNext bit setOf distance sums least
-    topology isLink newMetrics tabulate newCell listedMetric planRefusal areTables isTable isRouterCount areMetrics
-    isMetric all first listedRefusal entryRefusal isFree areAtMost isSame isRise isFall isCommon root entryCount
-    entryOf
+unfolding metricsDown metricsUp goesDown comesUp paths lent beforeRise beforeFall recordOf isPlanned fresh perRouter
+    build rank longest above greatest waiting telling due oldHops newHops oldFours newFours four size total nextHops
+    isNext bit setOf distance sums least topology isLink newMetrics tabulate newCell listedMetric planRefusal areTables
+    arePaths isTable isRouterCount areMetrics isMetric all first listedRefusal entryRefusal isFree areAtMost isSame
+    isRise isFall isCommon root entryCount entryOf
 planned = (record { accepted = refl; given = refl }, record { accepted = refl; given = refl })
 
 -- ---- calls in order
@@ -175,12 +180,12 @@ rise-handed-back {last} bytes outcome ran-last =
 -- ---- out of order
 -- packets for 2 go 0, 1, 0 if of all routers only x has written 2
 abbrev Loops : List ℕ → List ℕ → ℕ → Type 0
-Loops m l x = Along (pointers (λ r. oldHops 3 m r 2) (λ r. newHops 3 m l r 2) (λ r. eqb r x)) 0 (1 ∷ 0 ∷ [])
+Loops m l x = Along (pointers (λ r. oldFours 3 m r 2) (λ r. newFours 3 m l r 2) (λ r. eqb r x)) 0 (1 ∷ 0 ∷ [])
 
 -- in the rise if 1 writes before 0, and in the fall if 0 writes before 1: the two writes that are refused above
 loops : Loops metricsUp goesDown 1 × Loops metricsDown comesUp 0
-unfolding metricsDown metricsUp goesDown comesUp oldHops newHops nextHops isNext bit setOf distance sums least
-    topology isLink newMetrics tabulate build newCell listedMetric entryCount entryOf
+unfolding metricsDown metricsUp goesDown comesUp oldHops newHops oldFours newFours four size total nextHops isNext bit
+    setOf distance sums least topology isLink newMetrics tabulate build newCell listedMetric entryCount entryOf
 loops = ((refl, (refl, tt)), (refl, (refl, tt)))
 
 -- that walk meets 0 twice

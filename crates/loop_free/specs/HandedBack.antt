@@ -36,11 +36,11 @@ pub data After (first : Record) : Record → Type 0 where
       → last ≡ run now (callsOf bytes)
       → After first last
 
--- Where each router points toward d: to the next hops in its row of the new table if d is in its written set, and to
--- those in its row of the old table if not. `left` are the tables that Plan left.
+-- Where each router points toward d: to the set in its row of the new table of sets of four if d is in its written set,
+-- and to that in its row of the old one if not. `left` are the tables that Plan left.
 abbrev pub pointsBy : (left : Tables) (last : Record) (d : ℕ) → ℕ → ℕ
 pointsBy left last d =
-    pointers (λ r. cell width (left .oldHops) r d) (λ r. cell width (left .newHops) r d)
+    pointers (λ r. cell width (left .old .fours) r d) (λ r. cell width (left .new .fours) r d)
     (λ r. bit (writtenOf last r) d)
 
 -- Demand 3, among n routers, where Plan left the tables `left` and the last call the record `last`.
@@ -55,7 +55,7 @@ pub record LoopFreeBy (n : ℕ) (left : Tables) (last : Record) : Type 0 where
   pub arrives : (d x : ℕ) (walk : List ℕ)
       → d < n
       → x < n
-      → cell width (left .oldDistances) x d ≢ unreached
-      → cell width (left .newDistances) x d ≢ unreached
+      → cell width (left .old .distances) x d ≢ unreached
+      → cell width (left .new .distances) x d ≢ unreached
       → Along (pointsBy left last d) x walk
       → Prolonged (pointsBy left last d) (n - 1) d x walk

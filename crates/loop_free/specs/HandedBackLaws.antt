@@ -6,9 +6,9 @@
 -- So a reader puts the contracts of the calls in, in the order of the calls, and has demand 3 of the record at hand.
 --
 -- The argument: calls of the code make a list of calls (`after-run`), of which `loop-free` speaks. The tables hold the
--- next hops and the distances of the two topologies (FilledLaws.antt of crate plan), and a written set holds what was
--- written (`run-bit` of crate machine). So both speak of the same pointers (`same-pointers`) and the same routers that
--- reach d (`same-reach`).
+-- sets of four and the distances of the two topologies (FilledLaws.antt of crate plan), and a written set holds what
+-- was written (`run-bit` of crate machine). So both speak of the same pointers (`same-pointers`) and the same routers
+-- that reach d (`same-reach`).
 use Prim.Native.Nat.{ℕ, _≤_, _<_}
 use mathlib.Core.Path.{_≡_, refl, sym, ap, _∙_}
 use mathlib.Core.Bool.{Bool}
@@ -23,7 +23,7 @@ use Rattle.plan.specs.declared.Record.{Record}
 use Rattle.plan.specs.NewMetrics.{newMetrics}
 use Rattle.plan.specs.Plan.{Tables, areTables, planRefusal, fresh, recordOf, tablesOf}
 use Rattle.plan.specs.PlanLaws.{plan-of, planned-true, record-planned, tables-planned}
-use Rattle.plan.specs.FilledLaws.{filled-old-hops, filled-new-hops, filled-old-distance, filled-new-distance}
+use Rattle.plan.specs.FilledLaws.{filled-old-fours, filled-new-fours, filled-old-distance, filled-new-distance}
 use Rattle.convergence.specs.Pointers.{Pointers, Along, Prolonged}
 use Rattle.machine.specs.Answers.{Outcome}
 use Rattle.machine.specs.Run.{Call, call, run, callsOf}
@@ -75,7 +75,7 @@ module _ (n : ℕ) (m l : List ℕ) (lent : Tables) (z : planRefusal n m l (areT
   most : n ≤ width
   most = plan-of n m l lent z .ready .most
 
-  -- what the tables and the written sets say is what next hops and answers say, of any router r
+  -- what the tables and the written sets say is what sets of four and answers say, of any router r
   pub same-pointers : (calls : List Call) (d r : ℕ)
       → d < n
       → pointsBy (tablesOf n m l lent) (run (recordOf n m l lent) calls) d r
@@ -84,14 +84,14 @@ module _ (n : ℕ) (m l : List ℕ) (lent : Tables) (z : planRefusal n m l (areT
       let planned = planned-true n m l lent z in
       rw (record-planned n m l lent planned, tables-planned n m l lent planned)
       (same-pick (run-bit (fresh n m l) calls (fresh-start n m l) r d (omega (arith, most)))
-      (filled-new-hops n m l most r d h) (filled-old-hops n m l most r d h))
+      (filled-new-fours n m l most r d h) (filled-old-fours n m l most r d h))
 
   -- and what the distance tables say of reaching d is what distances say
   pub same-reach : (x d : ℕ)
       → x < n
       → d < n
-      → (cell width (tablesOf n m l lent .oldDistances) x d ≢ unreached → Reaches n m x d)
-      × (cell width (tablesOf n m l lent .newDistances) x d ≢ unreached → Reaches n (newMetrics n m l) x d)
+      → (cell width (tablesOf n m l lent .old .distances) x d ≢ unreached → Reaches n m x d)
+      × (cell width (tablesOf n m l lent .new .distances) x d ≢ unreached → Reaches n (newMetrics n m l) x d)
   same-reach x d a b =
       rw (tables-planned n m l lent (planned-true n m l lent z))
       (rw (filled-old-distance n m l most x d a b, filled-new-distance n m l most x d a b)

@@ -1,6 +1,6 @@
--- Demand 3, as a statement about a whole list of calls (01, "The steps"): `LoopFree`. It is proved in LoopFreeLaws.antt
--- (`loop-free`) for every input that Plan accepts and every list of calls. HandedBack.antt says it of the tables and
--- records that the code hands back.
+-- Demand 3, as a statement about a whole list of calls (01, "The steps"; 02, No. 9): `LoopFree`. It is proved in
+-- LoopFreeLaws.antt (`loop-free`) for every input that Plan accepts and every list of calls. HandedBack.antt says it of
+-- the tables and records that the code hands back.
 -- There are n routers, the old metrics m and the change list l; `first` is the record that the first call gets.
 use Prim.Native.Nat.{ℕ, _-_, _<_}
 use mathlib.Core.Path.{_≡_}
@@ -13,15 +13,16 @@ use Rattle.topology.specs.Distance.{distance}
 use Rattle.area.specs.Lists.{Distinct}
 use Rattle.plan.specs.declared.Record.{Record}
 use Rattle.plan.specs.NewMetrics.{newMetrics}
-use Rattle.plan.specs.Waiting.{oldHops, newHops}
+use Rattle.plan.specs.Waiting.{oldFours, newFours}
 use Rattle.convergence.specs.Pointers.{pointers, Along, Prolonged}
 use Rattle.machine.specs.Machine.{writtenOf}
 use Rattle.machine.specs.Run.{Call, run, hasWritten}
 
--- Where each router points toward d after the calls: to its new next hops if it has written d, to its old ones if not.
+-- Where each router points toward d after the calls: to its new set of four if it has written d, to its old one if not
+-- (02, No. 9: these are what line cards hold).
 abbrev pub pointsTo : (n : ℕ) (m l : List ℕ) (first : Record) (calls : List Call) (d : ℕ) → ℕ → ℕ
 pointsTo n m l first calls d =
-    pointers (λ r. oldHops n m r d) (λ r. newHops n m l r d) (λ r. hasWritten first calls r d)
+    pointers (λ r. oldFours n m r d) (λ r. newFours n m l r d) (λ r. hasWritten first calls r d)
 
 -- Router x reaches d in the topology of the metrics m: its distance there is not 4,294,967,295.
 abbrev pub Reaches : (n : ℕ) (m : List ℕ) (x d : ℕ) → Type 0

@@ -2,10 +2,11 @@
 -- The argument over two topologies is made in the crate convergence. It asks for three things, for one destination d:
 --     Change       the two topologies differ only at links of the root, and one has no metric above the other's there.
 --                  Plan's judgement of the change list gives this: `rises`, `falls`.
---     Sets         the old and the new pointers hold exactly the next hops in the two topologies: `old-exact`,
---                  `new-exact`.
+--     Sets         the old and the new pointers are a part of the next hops in the two topologies, and not empty where
+--                  these are not. The full sets hold exactly the next hops (`old-exact`, `new-exact`), and a set of
+--                  four is the four lowest of them (`cut-sets`).
 --     Ordered      of a router that has written d, or is done, those that it waited for are done; and one that is done
---                  has written d, where its next hops to d change. The machine keeps this: `ordered`.
+--                  has written d, where its set of four to d changes. The machine keeps this: `ordered`.
 -- `safe` puts them together, for a rise and for a fall. `fresh-free` says it of the fresh record, and that is what an
 -- accepted plan hands back.
 use Prim.Native.Nat.{ℕ, _≤_, _<_}
@@ -22,7 +23,10 @@ use Rattle.area.specs.Limits.{width, unused, unreached}
 use Rattle.area.specs.TestLaws.{look, same-test}
 use Rattle.sets.specs.Sets.{bit, setOf}
 use Rattle.sets.specs.SetLaws.{same-members, member-some}
+use Rattle.sets.specs.Four.{four}
+use Rattle.sets.specs.FourLaws.{four-part, four-some}
 use Rattle.topology.specs.Topology.{topology}
+use Rattle.topology.specs.WalkLaws.{Graph}
 use Rattle.topology.specs.TopologyLaws.{topology-graph}
 use Rattle.topology.specs.Distance.{distance}
 use Rattle.topology.specs.DistanceLaws.{distance-top}
@@ -31,9 +35,9 @@ use Rattle.changes.specs.Root.{root}
 use Rattle.plan.specs.declared.Record.{Record}
 use Rattle.plan.specs.NewMetrics.{newMetrics}
 use Rattle.plan.specs.Direction.{isRise}
-use Rattle.plan.specs.Waiting.{oldHops, newHops, waiting}
+use Rattle.plan.specs.Waiting.{oldHops, newHops, oldFours, newFours, waiting}
 use Rattle.plan.specs.Plan.{Tables, areTables, planRefusal, fresh, recordOf}
-use Rattle.plan.specs.WaitingLaws.{old-next, new-next, waits-rise, waits-fall, waits-inside, due-at}
+use Rattle.plan.specs.WaitingLaws.{old-next, new-next, old-four, new-four, waits-rise, waits-fall, waits-inside, due-at}
 use Rattle.plan.specs.PlanLaws.{Plan, plan-of, planned-true, record-planned}
 use Rattle.plan.specs.FreshLaws.{plan-elsewhere, plan-rises, plan-falls, fresh-count, fresh-waiting, fresh-due}
 use Rattle.convergence.specs.Change.{Change, Part, Sets, Ordered, WaitsRise, WaitsFall}
@@ -51,20 +55,49 @@ reaches-below n m x d f = omega (arith, distance-top n (topology n m) x d)
 abbrev Exact : (n d : ℕ) (g : ℕ → ℕ → ℕ) (f : ℕ → ℕ) → Type 0
 Exact n d g f = (r k : ℕ) → (bit (f r) k ≡ true) ↔ Next n g r d k
 
-exact-part : {n d : ℕ} {g : ℕ → ℕ → ℕ} {f : ℕ → ℕ} → Exact n d g f → Part n d g f
-exact-part a = record { next = λ r k. a r k .0; some = λ r k x. (k, a r k .1 x) }
-
-exact-sets : {n d : ℕ} {lo hi : ℕ → ℕ → ℕ} {at-lo at-hi : ℕ → ℕ}
+-- where a router has the same next hops in two topologies, such sets are equal
+exact-same : {n d : ℕ} {lo hi : ℕ → ℕ → ℕ} (at-lo at-hi : ℕ → ℕ)
     → Exact n d lo at-lo
     → Exact n d hi at-hi
+    → (r : ℕ)
+    → ((k : ℕ) → Next n lo r d k ↔ Next n hi r d k)
+    → at-lo r ≡ at-hi r
+exact-same at-lo at-hi a b r q =
+    same-members (at-lo r) (at-hi r)
+    (λ k. same-test (bit (at-lo r) k) (bit (at-hi r) k)
+    (λ t. b r k .1 (q k .0 (a r k .0 t)))
+    (λ t. a r k .1 (q k .1 (b r k .0 t))))
+
+-- ---- the four lowest of these
+abbrev Cut : (f p : ℕ → ℕ) → Type 0
+Cut f p = (r : ℕ) → p r ≡ four width (f r)
+
+cut-part : {n d : ℕ} {g : ℕ → ℕ → ℕ} (f : ℕ → ℕ) {p : ℕ → ℕ}
+    → n ≤ width
+    → Graph n g
+    → Exact n d g f
+    → Cut f p
+    → Part n d g p
+cut-part f most graph a cut = record {
+  next = λ r k b. a r k .0 (four-part width (f r) k (ap (λ (s : ℕ). bit s k) (sym (cut r)) ∙ b));
+  some = λ r k x.
+      let member = four-some width (f r) k (omega (arith, graph .inside r k (x .uses) .1)) (a r k .1 x) in
+      (member .0, ap (λ (s : ℕ). bit s (member .0)) (cut r) ∙ member .1);
+}
+
+cut-sets : {n d : ℕ} {lo hi : ℕ → ℕ → ℕ} (full-lo full-hi : ℕ → ℕ) {at-lo at-hi : ℕ → ℕ}
+    → n ≤ width
+    → Graph n lo
+    → Graph n hi
+    → Exact n d lo full-lo
+    → Exact n d hi full-hi
+    → Cut full-lo at-lo
+    → Cut full-hi at-hi
     → Sets n d lo hi at-lo at-hi
-exact-sets {at-lo} {at-hi} a b = record {
-  in-lo = exact-part a;
-  in-hi = exact-part b;
-  same = λ r q. same-members (at-lo r) (at-hi r)
-      (λ k. same-test (bit (at-lo r) k) (bit (at-hi r) k)
-      (λ t. b r k .1 (q k .0 (a r k .0 t)))
-      (λ t. a r k .1 (q k .1 (b r k .0 t))));
+cut-sets full-lo full-hi most graph-lo graph-hi a b cut-lo cut-hi = record {
+  in-lo = cut-part full-lo most graph-lo a cut-lo;
+  in-hi = cut-part full-hi most graph-hi b cut-hi;
+  same = λ r q. cut-lo r ∙ ap (four width) (exact-same full-lo full-hi a b r q) ∙ sym (cut-hi r);
 }
 
 -- `Safe` asks the same of both topologies
@@ -99,10 +132,35 @@ module _ (n : ℕ) (m l : List ℕ) (p : Plan n m l) where
     new-exact : Exact n d (topology n (newMetrics n m l)) (λ r. newHops n m l r d)
     new-exact r k = new-next n m l most r d k
 
+    abbrev old-graph : Graph n (topology n m)
+    old-graph = topology-graph n m most
+
+    abbrev new-graph : Graph n (topology n (newMetrics n m l))
+    new-graph = topology-graph n (newMetrics n m l) most
+
+    old-cut : Cut (λ r. oldHops n m r d) (λ r. oldFours n m r d)
+    old-cut r = old-four n m r d
+
+    new-cut : Cut (λ r. newHops n m l r d) (λ r. newFours n m l r d)
+    new-cut r = new-four n m l r d
+
+    -- the sets of four of a rise, and of a fall
+    rise-sets :
+        Sets n d (topology n m) (topology n (newMetrics n m l)) (λ r. oldFours n m r d) (λ r. newFours n m l r d)
+    rise-sets =
+        cut-sets (λ r. oldHops n m r d) (λ r. newHops n m l r d) most old-graph new-graph old-exact new-exact
+        old-cut new-cut
+
+    fall-sets :
+        Sets n d (topology n (newMetrics n m l)) (topology n m) (λ r. newFours n m l r d) (λ r. oldFours n m r d)
+    fall-sets =
+        cut-sets (λ r. newHops n m l r d) (λ r. oldHops n m r d) most new-graph old-graph new-exact old-exact
+        new-cut old-cut
+
     -- no router beyond the area has a next hop, before the change or after it
-    hops-beyond : (r : ℕ) → n ≤ r → oldHops n m r d ≡ newHops n m l r d
-    hops-beyond r b =
-        exact-sets old-exact new-exact .same r
+    fours-beyond : (r : ℕ) → n ≤ r → oldFours n m r d ≡ newFours n m l r d
+    fours-beyond r b =
+        rise-sets .same r
         (λ k. ((λ x. absurd (none m k (x .uses))), (λ x. absurd (none (newMetrics n m l) k (x .uses)))))
       where
         none : (o : List ℕ) (k : ℕ) → topology n o r k < unused → ⊥
@@ -125,19 +183,19 @@ module _ (n : ℕ) (m l : List ℕ) (p : Plan n m l) where
         (kept .waits r w (omega (arith, i .1, most)) waits-first)
 
     module _ (d : ℕ) (d-in : d < n) where
-      -- a destination to which the next hops of r change is due at r
-      is-due : (r : ℕ) → oldHops n m r d ≢ newHops n m l r d → bit (dueOf now r) d ≡ true
+      -- a destination to which the set of four of r changes is due at r
+      is-due : (r : ℕ) → oldFours n m r d ≢ newFours n m l r d → bit (dueOf now r) d ≡ true
       is-due r f = elim (decLt r n) [
         | yes h ↦
             let entry = ap (λ (t : List ℕ). getD t r 0) (kept .due) ∙ fresh-due n m l most r h in
             ap (λ (s : ℕ). bit s d) entry ∙ due-at n m l most r d d-in .1 f
-        | no g ↦ absurd (f (hops-beyond d r (omega arith)))
+        | no g ↦ absurd (f (fours-beyond d r (omega arith)))
       ]
 
       -- the order in which routers write and are done, where `waits r w` puts w into the fresh waiting set of r
       ordered : (waits : ℕ → ℕ → Type 0)
           → ((r w : ℕ) → waits r w → bit (waiting n m l r) w ≡ true)
-          → Ordered waits (λ r. oldHops n m r d) (λ r. newHops n m l r d)
+          → Ordered waits (λ r. oldFours n m r d) (λ r. newFours n m l r d)
           (λ r. hasWritten (fresh n m l) calls r d) (λ r. eqb (stateOf now r) done)
       ordered waits f = record {
         wrote-after = λ r w e x.
@@ -161,13 +219,13 @@ module _ (n : ℕ) (m l : List ℕ) (p : Plan n m l) where
         where
           by-rise : isRise n m l ≡ true → Demand
           by-rise t =
-              rise (rises t) d-in (exact-sets (old-exact d) (new-exact d))
+              rise (rises t) d-in (rise-sets d)
               (ordered (WaitsRise n (root l) (topology n m)) (λ r w. waits-rise n m l most t r w .1))
 
           by-fall : isRise n m l ≡ false → Demand
           by-fall f =
               let waits = WaitsFall n (root l) (topology n (newMetrics n m l)) in
-              swapped (fall (falls f) d-in (exact-sets (new-exact d) (old-exact d))
+              swapped (fall (falls f) d-in (fall-sets d)
               (ordered waits (λ r w. waits-fall n m l most f r w .1)))
 
     fresh-free : LoopFree n m l (fresh n m l) calls

@@ -1,20 +1,21 @@
--- Laws of the order by two next-hop tables.
+-- Laws of the order by the full next-hop sets, and of what is due by the sets of four.
 --     telling-same, ranks-same         the sets of n routers decide who tells whom, and the ranks
 --     order-of, order-none     it is taken from the tables, or nothing, by `isOrderable`
---     order-waiting, order-telling, order-ranks, order-due     its parts, where n is at most the width, the root is
---                                      below it, and the tables have their size
+--     order-waiting, order-telling, order-ranks        its parts, where n is at most the width, the root is below it,
+--                                      and the tables have their size
 --     orderable-many, orderable-root, orderable-old, orderable-last, orderable-sizes       the tests of `isOrderable`,
 --                                      one after another, and what is known where all hold
+--     due-of, due-many, due-old, due-new       what is due by tables that have their size, and by others
 use Prim.Native.Nat.{ℕ, _*_, _≤_, _<_}
 use mathlib.Core.Path.{_≡_, refl, ap}
-use mathlib.Core.Bool.{Bool, true, false}
+use mathlib.Core.Bool.{Bool, true, false, _&&_}
 use mathlib.Core.Logic.{_≢_}
 use mathlib.Core.List.{List}
 use lib.Dec.{ltb, leb, eqb}
-use lib.ListN.{length}
+use lib.ListN.{length, replicate}
 use borrow.Author.Tests.{leb-true, ltb-true, le-leb, lt-leb, lt-ltb, le-ltb}
 use Rattle.area.specs.Limits.{width}
-use Rattle.area.specs.TestLaws.{both-true}
+use Rattle.area.specs.TestLaws.{both-true, and-false}
 use Rattle.area.specs.Tables.{cell, perRouter}
 use Rattle.area.specs.PerRouterLaws.{per-same}
 use Rattle.area.specs.Sizes.{isTable}
@@ -24,7 +25,7 @@ use Rattle.sets.specs.SetLaws.{setOf-same}
 use Rattle.ranks.specs.Rank.{rank}
 use Rattle.ranks.specs.RankLaws.{rank-same}
 use Rattle.order.specs.declared.Order.{Order}
-use Rattle.order.specs.Order.{waitingBy, tellingBy, dueBy, isOrderable, ordered, noOrder, orderOf}
+use Rattle.order.specs.Order.{waitingBy, tellingBy, dueBy, isOrderable, ordered, noOrder, orderOf, dueTable}
 
 -- ---- what the sets of n routers decide
 module _ (w n : ℕ) (f g : ℕ → ℕ) (most : n ≤ w) (same : (s : ℕ) → s < n → f s ≡ g s) where
@@ -100,8 +101,26 @@ module _ (n c : ℕ) (old new : List ℕ) where
       unfolding ordered
       order-ranks = ap (λ (o : Order). o .ranks) order-is
 
-      pub order-due :
-          orderOf n c rising old new .due
-          ≡ perRouter width n (dueBy n (cell width old) (cell width new))
-      unfolding ordered
-      order-due = ap (λ (o : Order). o .due) order-is
+-- ---- what is due
+module _ (n : ℕ) (old new : List ℕ) where
+  pub due-many : width < n → dueTable n old new ≡ replicate width 0
+  unfolding dueTable
+  due-many a = rw (lt-leb n width a) refl
+
+  pub due-old : length old ≢ width * width → dueTable n old new ≡ replicate width 0
+  unfolding dueTable
+  due-old f = rw (and-false (leb n width) (isTable old && isTable new) (rw (table-false old f) refl)) refl
+
+  pub due-new : length new ≢ width * width → dueTable n old new ≡ replicate width 0
+  unfolding dueTable
+  due-new f =
+      let short = and-false (isTable old) (isTable new) (table-false new f) in
+      rw (and-false (leb n width) (isTable old && isTable new) short) refl
+
+  pub due-of :
+      n ≤ width
+      → length old ≡ width * width
+      → length new ≡ width * width
+      → dueTable n old new ≡ perRouter width n (dueBy n (cell width old) (cell width new))
+  unfolding dueTable
+  due-of a x y = rw (le-leb n width a, table-true old x, table-true new y) refl

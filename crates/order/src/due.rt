@@ -1,4 +1,4 @@
-// What is due: the destinations to which next hops change. `old` and `new` are the next-hop tables of the two
+// What is due: the destinations to which the set of four changes. `old` and `new` are the sets of four of the two
 // topologies.
 use area::limits::Set;
 use area::limits::WIDTH;
@@ -23,7 +23,7 @@ pub(crate) fn due(n: usize, old: &[Set], new: &[Set]) -> [Set; WIDTH]
     out
 }
 
-// The destinations to which the next hops of router r change.
+// The destinations to which the set of router r changes.
 fn changed(n: usize, old: &[Set], new: &[Set], r: usize) -> Set
     requires { ⌜ (n ≤ width) × (r < width) ⌝ }
     requires { ⌜ (length (now old) ≡ width * width) × (length (now new) ≡ width * width) ⌝ }

@@ -1,8 +1,9 @@
 // Who waits for whom, who tells whom, ranks, and what is due, from the next hops before a change and after it.
-//     order_of    all of it, for every input
+//     order_of    who waits for whom and tells whom, and ranks, by the full next-hop sets, for every input
 //     ordered     the same, from tables that can be read
 //     waiting     the waiting sets, and from them the telling sets (`converse`)
-//     due         the destinations that are due
+//     due_table   what is due, by the sets of four, for every input
+//     due         the same, from tables that can be read
 // Ranks are found by crate ranks. What is promised is specs/Order.antt; proofs/Converse.antt says why the table of
 // waiting sets is all that telling sets and ranks need.
 mod due;
@@ -15,17 +16,16 @@ ghost use mathlib.Core.Path.{_≡_};
 ghost use Prim.Native.Nat.{_≤_, _<_, _*_};
 ghost use lib.ListN.{length};
 ghost use Rattle.area.specs.Limits.{width};
-ghost use Rattle.order.specs.Order.{isOrderable, ordered, noOrder, orderOf};
+ghost use Rattle.order.specs.Order.{isOrderable, ordered, noOrder, orderOf, dueTable};
 
 // Entry r of each table belongs to router r, and is 0 from n on.
 pub struct Order {
     pub waiting: [Set; WIDTH],
     pub telling: [Set; WIDTH],
     pub ranks: [u8; WIDTH],
-    pub due: [Set; WIDTH],
 }
 
-// The order of a change: `old` and `new` are the next-hop tables of the two topologies. All is 0 where n is above
+// The order of a change: `old` and `new` are the full next-hop sets of the two topologies. All is 0 where n is above
 // WIDTH, the root is not below WIDTH, or a table has not its size.
 pub fn order_of(n: usize, root: usize, rising: bool, old: &[Set], new: &[Set]) -> Order
     ensures order { λ r. ⌜ r ≡ orderOf n root rising (now (old .entry)) (now (new .entry)) ⌝ }
@@ -52,7 +52,7 @@ fn is_orderable(n: usize, root: usize, old: &[Set], new: &[Set]) -> bool
     new.len() == CELLS
 }
 
-// No router waits, tells or has anything due.
+// No router waits or tells.
 fn no_order() -> Order
     ensures { λ r. ⌜ r ≡ noOrder ⌝ }
 {
@@ -60,7 +60,6 @@ fn no_order() -> Order
         waiting: [0; WIDTH],
         telling: [0; WIDTH],
         ranks: [0; WIDTH],
-        due: [0; WIDTH],
     }
 }
 
@@ -73,11 +72,26 @@ fn ordered(n: usize, root: usize, rising: bool, old: &[Set], new: &[Set]) -> Ord
     let waiting = waiting::waiting(n, root, rising, old, new);
     let telling = waiting::converse(n, waiting);
     let ranks = ranks::ranks(n, waiting);
-    let due = due::due(n, old, new);
     Order {
         waiting,
         telling,
         ranks,
-        due,
     }
+}
+
+// The destinations that are due at each router: `old` and `new` are the sets of four of the two topologies. All is 0
+// where n is above WIDTH, or a table has not its size.
+pub fn due_table(n: usize, old: &[Set], new: &[Set]) -> [Set; WIDTH]
+    ensures due { λ r. ⌜ r ≡ dueTable n (now (old .entry)) (now (new .entry)) ⌝ }
+{
+    if WIDTH < n {
+        return [0; WIDTH];
+    }
+    if old.len() != CELLS {
+        return [0; WIDTH];
+    }
+    if new.len() != CELLS {
+        return [0; WIDTH];
+    }
+    due::due(n, old, new)
 }

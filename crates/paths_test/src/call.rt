@@ -6,10 +6,12 @@ use cases::metrics;
 use cases::print;
 use cases::read;
 
-// What the two tables hold before a call: numbers that no call writes.
+// What the three tables hold before a call: numbers that no call writes.
 pub const OLD_DISTANCE: u32 = 777777777;
 
 pub const OLD_SET: Set = 8888888888888888888;
+
+pub const OLD_FOUR: Set = 8888888888888888889;
 
 // Paths, or with the mark i the test of n and the metrics alone.
 pub fn run(case: &[u8]) {
@@ -35,10 +37,11 @@ fn area(case: &[u8], metric: &[u32; LONG_TABLE]) {
 fn paths(case: &[u8], metric: &[u32; LONG_TABLE]) {
     let mut dist = [OLD_DISTANCE; LONG_TABLE];
     let mut hops = [OLD_SET; LONG_TABLE];
+    let mut fours = [OLD_FOUR; LONG_TABLE];
     let n = read::number(case, 0) as usize;
-    let answer = lend(case, n, metric, &mut dist, &mut hops);
+    let answer = lend(case, n, metric, &mut dist, &mut hops, &mut fours);
     print::form(b": #", &[answer as u64]);
-    show::call(case, n, &dist, &hops);
+    show::call(case, n, &dist, &hops, &fours);
 }
 
 // A call with the first cells of longer tables, so that a table can be one cell too short or too long.
@@ -49,16 +52,19 @@ fn lend(
     metric: &[u32; LONG_TABLE],
     dist: &mut [u32],
     hops: &mut [Set],
+    fours: &mut [Set],
 ) -> u8 {
     let all = &metric[..];
     let cells = read::size(case, 0, all.len());
     let distances = read::size(case, 1, dist.len());
-    let sets = read::size(case, 2, hops.len());
+    let full = read::size(case, 2, hops.len());
+    let of_four = read::size(case, 3, fours.len());
     let v = paths::paths(
         n,
         &all[0..cells],
         &mut dist[0..distances],
-        &mut hops[0..sets],
+        &mut hops[0..full],
+        &mut fours[0..of_four],
     );
     v.number()
 }

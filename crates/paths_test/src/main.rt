@@ -1,7 +1,7 @@
 // Runs Paths on the cases of standard input, and prints what it answers. The first lines of stdin say what a case is.
 //     run     the lines of the input: of a case its name is printed, and then it is called
 //     call    the call that the words of a case say
-//     show    what is shown of the two tables after it
+//     show    what is shown of the three tables after it
 mod call;
 mod show;
 

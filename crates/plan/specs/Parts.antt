@@ -1,7 +1,7 @@
 -- What the parts of Plan promise to each other; no other crate reads it.
 --     Judges       what is found of an input before it is planned (src/judging.rt)
 --     areListedAtMost      what is found of which way the metrics go (src/direction.rt)
---     started      the record of a plan, by the order of its change (`fresh` of src/lib.rt)
+--     started      the record of a plan, by the order of its change and what is due (`fresh` of src/lib.rt)
 use Prim.Native.Nat.{ℕ}
 use mathlib.Core.Path.{_≡_}
 use mathlib.Core.Bool.{Bool}
@@ -24,16 +24,17 @@ Judges n m l sized r =
     (verdictNumber (r .answer) ≡ planRefusal n m l sized)
     × (planRefusal n m l sized ≡ 0 → (r .root ≡ root l) × (r .rising ≡ isRise n m l))
 
--- n routers with the root c and the direction and order of the change: every router idle, with nothing written
-abbrev pub started : (n c : ℕ) (rising : Bool) (order : Order) → Record
-started n c rising order = record {
+-- n routers with the root c, the direction and order of the change and what is due: every router idle, with nothing
+-- written
+abbrev pub started : (n c : ℕ) (rising : Bool) (order : Order) (due : List ℕ) → Record
+started n c rising order due = record {
   n = n;
   root = c;
   direction = pick rising 1 2;
   ranks = order .ranks;
   waiting = order .waiting;
   telling = order .telling;
-  due = order .due;
+  due = due;
   states = zeros;
   written = zeros;
 }

@@ -4,16 +4,16 @@
 use Prim.Native.Nat.{ℕ, _%_}
 use mathlib.Core.Bool.{Bool, not, _&&_, _||_}
 use mathlib.Core.List.{List}
+use denote.Ref.{RefT, now}
 use lib.Dec.{ltb, eqb}
 use lib.ListN.{length, replicate}
 use Rattle.area.specs.Limits.{width, mostChanges}
 use Rattle.area.specs.Refusals.{routerCount, tableSize, badMetric, incomplete, tooMany}
 use Rattle.area.specs.Refusals.{noChange, sameMetric, mixed, noCommonRouter}
 use Rattle.area.specs.Tests.{pick, orThen, first}
-use Rattle.area.specs.Tables.{tabulate, perRouter}
+use Rattle.area.specs.Tables.{perRouter}
 use Rattle.area.specs.Sizes.{isRouterCount, isTable}
-use Rattle.paths.specs.Paths.{areMetrics}
-use Rattle.topology.specs.Cells.{distanceCell, hopCell}
+use Rattle.paths.specs.Paths.{PathTables, pathsIn, arePaths, areMetrics, filledPaths}
 use Rattle.ranks.specs.Rank.{rank}
 use Rattle.entries.specs.Entries.{entryCount, listedRefusal}
 use Rattle.changes.specs.Root.{isCommon, root}
@@ -22,26 +22,20 @@ use Rattle.plan.specs.NewMetrics.{newMetrics}
 use Rattle.plan.specs.Direction.{isSame, isRise, isFall}
 use Rattle.plan.specs.Waiting.{waiting, telling, due}
 
--- the tables that Plan is lent and fills
+-- the tables that Plan is lent and fills: the new metrics, and the paths of the old and of the new topology
 pub record Tables : Type 0 where
   pub metrics : List ℕ
-  pub oldDistances : List ℕ
-  pub newDistances : List ℕ
-  pub oldHops : List ℕ
-  pub newHops : List ℕ
+  pub old : PathTables
+  pub new : PathTables
 
-abbrev pub asTables : (metrics oldDistances newDistances oldHops newHops : List ℕ) → Tables
-asTables a b c d e = record { metrics = a; oldDistances = b; newDistances = c; oldHops = d; newHops = e }
+-- what seven lent slices hold
+abbrev pub tablesIn :
+    (metrics oldDistances oldHops oldFours newDistances newHops newFours : RefT (List ℕ)) → Tables
+tablesIn m od oh of nd nh nf = record { metrics = now m; old = pathsIn od oh of; new = pathsIn nd nh nf }
 
 -- the old metric table and each of those have the right size
 unfoldable pub areTables : (m : List ℕ) (t : Tables) → Bool
-areTables m t =
-    isTable m
-    && (isTable (t .metrics)
-    && (isTable (t .oldDistances)
-    && (isTable (t .newDistances)
-    && (isTable (t .oldHops)
-    && isTable (t .newHops)))))
+areTables m t = isTable m && (isTable (t .metrics) && (arePaths (t .old) && arePaths (t .new)))
 
 -- The number of the first refusal that applies; 0 where the input is planned. 01 has them in this order: the three that
 -- Paths has too, then the length of the list and the number of its entries, then that of the first faulty entry
@@ -103,10 +97,8 @@ unfoldable pub filled : (n : ℕ) (m l : List ℕ) → Tables
 filled n m l =
     record {
       metrics = newMetrics n m l;
-      oldDistances = tabulate width (distanceCell n m);
-      newDistances = tabulate width (distanceCell n (newMetrics n m l));
-      oldHops = tabulate width (hopCell n m);
-      newHops = tabulate width (hopCell n (newMetrics n m l));
+      old = filledPaths n m;
+      new = filledPaths n (newMetrics n m l);
     }
 
 -- What Plan hands back and leaves, where t are the tables as it was lent them: a refusal hands back zeros and leaves

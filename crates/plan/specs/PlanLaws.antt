@@ -25,9 +25,8 @@ use Rattle.area.specs.TestLaws.{look, both-true, or-cases, or-left, or-right, t
 use Rattle.area.specs.Sizes.{isRouterCount, isTable}
 use Rattle.area.specs.SizeLaws.{router-count-true, table-true, table-size}
 use Rattle.entries.specs.Entries.{entryCount, listedRefusal}
-use Rattle.paths.specs.Paths.{areMetrics}
-use Rattle.topology.specs.Cells.{distanceCell, hopCell}
-use Rattle.paths.specs.PathsLaws.{Ready, area-ready, area-metrics}
+use Rattle.paths.specs.Paths.{arePaths, areMetrics}
+use Rattle.paths.specs.PathsLaws.{Ready, area-ready, area-metrics, SizedPaths, sized-paths-of, filled-sized}
 use Rattle.changes.specs.Root.{isCommon, root}
 use Rattle.changes.specs.ChangeLaws.{Sound, sound-of, of-sound}
 use Rattle.plan.specs.NewMetrics.{newCell, newMetrics}
@@ -115,28 +114,22 @@ module _ (n : ℕ) (m l : List ℕ) (listed : Listed n m l) where
 
 -- ---- the sizes of the tables
 pub record Sized (m : List ℕ) (t : Tables) : Type 0 where
-  pub old : length m ≡ width * width
+  pub given : length m ≡ width * width
   pub metrics : length (t .metrics) ≡ width * width
-  pub oldDistances : length (t .oldDistances) ≡ width * width
-  pub newDistances : length (t .newDistances) ≡ width * width
-  pub oldHops : length (t .oldHops) ≡ width * width
-  pub newHops : length (t .newHops) ≡ width * width
+  pub old : SizedPaths (t .old)
+  pub new : SizedPaths (t .new)
 
 pub sized-of : (m : List ℕ) (t : Tables) → areTables m t ≡ true → Sized m t
 unfolding areTables
 sized-of m t e =
     let p = both-true (isTable m) _ e in
     let q = both-true (isTable (t .metrics)) _ (p .1) in
-    let r = both-true (isTable (t .oldDistances)) _ (q .1) in
-    let u = both-true (isTable (t .newDistances)) _ (r .1) in
-    let v = both-true (isTable (t .oldHops)) (isTable (t .newHops)) (u .1) in
+    let r = both-true (arePaths (t .old)) (arePaths (t .new)) (q .1) in
     record {
-      old = table-size m (p .0);
+      given = table-size m (p .0);
       metrics = table-size (t .metrics) (q .0);
-      oldDistances = table-size (t .oldDistances) (r .0);
-      newDistances = table-size (t .newDistances) (u .0);
-      oldHops = table-size (t .oldHops) (v .0);
-      newHops = table-size (t .newHops) (v .1);
+      old = sized-paths-of (t .old) (r .0);
+      new = sized-paths-of (t .new) (r .1);
     }
 
 -- ---- an input that is planned: none of 01's conditions for a refusal holds
@@ -224,7 +217,7 @@ module _ (n : ℕ) (m l : List ℕ) where
     pub plan-of : planRefusal n m l (areTables m t) ≡ 0 → Plan n m l
     plan-of z =
         let p = passed (areTables m t) z in
-        let area = area-metrics n m (p .0) (table-true m (sized-of m t (p .1) .old)) ∙ p .2 in
+        let area = area-metrics n m (p .0) (table-true m (sized-of m t (p .1) .given)) ∙ p .2 in
         let y = ap (planRefusal n m l) (sym (p .1)) ∙ z in
         together-of (listed-of (area-ready n m area) y) y
 
@@ -277,10 +270,8 @@ module _ (n : ℕ) (m l : List ℕ) where
 pub filled-size : (n : ℕ) (m l : List ℕ) → Sized (newMetrics n m l) (filled n m l)
 unfolding filled newMetrics
 filled-size n m l = record {
-  old = length-tabulate width (newCell n m l);
+  given = length-tabulate width (newCell n m l);
   metrics = length-tabulate width (newCell n m l);
-  oldDistances = length-tabulate width (distanceCell n m);
-  newDistances = length-tabulate width (distanceCell n (newMetrics n m l));
-  oldHops = length-tabulate width (hopCell n m);
-  newHops = length-tabulate width (hopCell n (newMetrics n m l));
+  old = filled-sized n m;
+  new = filled-sized n (newMetrics n m l);
 }

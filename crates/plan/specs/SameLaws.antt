@@ -18,6 +18,7 @@ use Rattle.area.specs.Tables.{cell, perRouter}
 use Rattle.area.specs.TableLaws.{is-tabulate, length-tabulate, cell-tabulate}
 use Rattle.area.specs.PerRouterLaws.{per-same}
 use Rattle.sets.specs.SetLaws.{setOf-same}
+use Rattle.sets.specs.Four.{four}
 use Rattle.topology.specs.Topology.{topology}
 use Rattle.topology.specs.NextHops.{nextHops}
 use Rattle.order.specs.OrderLaws.{telling-same, ranks-same}
@@ -30,7 +31,7 @@ use Rattle.changes.specs.RootLaws.{common-root}
 use Rattle.changes.specs.SameLaws.{joined-same, common-same, root-same, given-same, sound-same}
 use Rattle.plan.specs.NewMetrics.{newCell, newMetrics}
 use Rattle.plan.specs.Direction.{areAtMost, isSame, isRise, isFall}
-use Rattle.plan.specs.Waiting.{oldHops, newHops, waiting, telling, due}
+use Rattle.plan.specs.Waiting.{newHops, oldFours, newFours, waiting, telling, due}
 use Rattle.plan.specs.Plan.{Tables, areTables, planRefusal, fresh, filled, recordOf, tablesOf}
 use Rattle.plan.specs.DirectionLaws.{same-both}
 use Rattle.plan.specs.PlanLaws.{Plan, plan-of, of-plan, planned-true, planned-is}
@@ -72,6 +73,10 @@ module _ (n : ℕ) (m l k : List ℕ) (s : SameChanges l k) (once-l : Once l) (o
   unfolding newHops
   same-hops i j = ap (λ (t : List ℕ). nextHops width n (topology n t) i j) same-metrics
 
+  same-fours : (i j : ℕ) → newFours n m l i j ≡ newFours n m k i j
+  unfolding newFours
+  same-fours i j = ap (four width) (same-hops i j)
+
   -- ---- the record, field by field
   module _ (most : n ≤ width) (same-root : root l ≡ root k) where
     same-waiting : (r : ℕ) → waiting n m l r ≡ waiting n m k r
@@ -82,9 +87,9 @@ module _ (n : ℕ) (m l k : List ℕ) (s : SameChanges l k) (once-l : Once l) (o
     unfolding due
     same-due r =
         setOf-same n
-        (λ d. not (eqb (oldHops n m r d) (newHops n m l r d)))
-        (λ d. not (eqb (oldHops n m r d) (newHops n m k r d)))
-        (λ d h. ap (λ (x : ℕ). not (eqb (oldHops n m r d) x)) (same-hops r d))
+        (λ d. not (eqb (oldFours n m r d) (newFours n m l r d)))
+        (λ d. not (eqb (oldFours n m r d) (newFours n m k r d)))
+        (λ d h. ap (λ (x : ℕ). not (eqb (oldFours n m r d) x)) (same-fours r d))
 
     same-telling : perRouter width n (telling n m l) ≡ perRouter width n (telling n m k)
     unfolding telling

@@ -5,6 +5,7 @@
 --     waiting-distinct, waiting-rank, waiting-less     waiting never goes round in a circle, so ranks are over chains
 --                                  of any length, and a router ranks above those it waits for
 --     due-at, due-inside           what is due, destination by destination; every one is a router of the area
+--     old-four, new-four           a set of four is the four lowest of the full set
 -- In a rise a router waits for those farther from the root in the old topology, in a fall for those nearer to it in the
 -- new one. So a distance to the root bounds every chain of waiting, and the laws of ranks apply.
 use Prim.Native.Nat.{ℕ, _-_, _≤_, _<_}
@@ -20,6 +21,7 @@ use Rattle.area.specs.Tests.{pick}
 use Rattle.area.specs.TestLaws.{look}
 use Rattle.sets.specs.Sets.{bit, setOf}
 use Rattle.sets.specs.SetLaws.{setOf-lt, bit-lt, bit-setOf}
+use Rattle.sets.specs.Four.{four}
 use Rattle.topology.specs.Topology.{topology}
 use Rattle.topology.specs.TopologyLaws.{topology-graph}
 use Rattle.topology.specs.Distance.{distance}
@@ -32,7 +34,7 @@ use Rattle.ranks.specs.RankLaws.{chain-distinct, rank-is, rank-less}
 use Rattle.changes.specs.Root.{root}
 use Rattle.plan.specs.NewMetrics.{newMetrics}
 use Rattle.plan.specs.Direction.{isRise}
-use Rattle.plan.specs.Waiting.{oldHops, newHops, waiting, telling, due}
+use Rattle.plan.specs.Waiting.{oldHops, newHops, oldFours, newFours, waiting, telling, due}
 
 -- the members of a set, where the test holds of none beyond its width
 set-is :
@@ -127,16 +129,25 @@ module _ (n : ℕ) (m l : List ℕ) (most : n ≤ width) where
   waiting-less = rank-less n (waiting n m l) waits-inside measure waits-down
 
   -- ---- what is due, destination by destination
-  pub due-at : (r d : ℕ) → d < n → (bit (due n m l r) d ≡ true) ↔ (oldHops n m r d ≢ newHops n m l r d)
+  pub due-at : (r d : ℕ) → d < n → (bit (due n m l r) d ≡ true) ↔ (oldFours n m r d ≢ newFours n m l r d)
   unfolding due
   due-at r d h =
-      let a = oldHops n m r d in
-      let b = newHops n m l r d in
+      let a = oldFours n m r d in
+      let b = newFours n m l r d in
       Iff·trans
-      (set-is n (λ d. not (eqb (oldHops n m r d) (newHops n m l r d))) d (λ e. h))
+      (set-is n (λ d. not (eqb (oldFours n m r d) (newFours n m l r d))) d (λ e. h))
       ((λ e. eqb-false a b (not-true (eqb a b) e)), (λ f. rw (ne-eqb a b f) refl))
 
 pub due-inside : (n : ℕ) (m l : List ℕ) (r d : ℕ) → bit (due n m l r) d ≡ true → d < n
 unfolding due
 due-inside n m l r d e =
-    bit-lt n (due n m l r) d (setOf-lt n (λ d. not (eqb (oldHops n m r d) (newHops n m l r d)))) e
+    bit-lt n (due n m l r) d (setOf-lt n (λ d. not (eqb (oldFours n m r d) (newFours n m l r d)))) e
+
+-- ---- a set of four by the full set
+pub old-four : (n : ℕ) (m : List ℕ) (i j : ℕ) → oldFours n m i j ≡ four width (oldHops n m i j)
+unfolding oldFours
+old-four n m i j = refl
+
+pub new-four : (n : ℕ) (m l : List ℕ) (i j : ℕ) → newFours n m l i j ≡ four width (newHops n m l i j)
+unfolding newFours
+new-four n m l i j = refl

@@ -3,7 +3,7 @@
 //     judging    its refusals, in the order of 01; with them the root and the direction are found
 //     direction  which way the usable metrics go
 //     metrics    the metric table after the change
-//     fill       the tables, by Paths over the old metrics and the new ones, and from them the record
+//     fill       the tables (`topologies`: by Paths over the old metrics and the new ones), and from them the record
 //     fresh      the record, by the order of crate order
 // What Plan promises is specs/Plan.antt, with specs/NewMetrics.antt, specs/Direction.antt and specs/Waiting.antt; what
 // the functions below promise to each other is specs/Parts.antt. The argument is in specs/PlanLaws.antt for the
@@ -18,16 +18,18 @@ use area::limits::Set;
 use area::limits::WIDTH;
 use area::refusal::Verdict;
 use judging::judge;
+use order::due_table;
 use order::order_of;
+use paths::are_paths;
 use paths::paths;
 ghost use mathlib.Core.Path.{_≡_};
 ghost use Prim.Native.Nat.{_≤_, _<_};
 ghost use Rattle.area.specs.Limits.{width};
 ghost use Rattle.area.specs.Refusals.{verdictNumber};
-ghost use Rattle.order.specs.Order.{orderOf};
+ghost use Rattle.order.specs.Order.{orderOf, dueTable};
 ghost use Rattle.changes.specs.Root.{root};
 ghost use Rattle.plan.specs.Direction.{isRise};
-ghost use Rattle.plan.specs.Plan.{asTables, areTables, planRefusal, fresh, blank, filled, recordOf, tablesOf};
+ghost use Rattle.plan.specs.Plan.{tablesIn, areTables, planRefusal, fresh, blank, filled, recordOf, tablesOf};
 ghost use Rattle.plan.specs.PlanLaws.{Plan, Sized};
 ghost use Rattle.plan.specs.Parts.{started};
 
@@ -52,39 +54,50 @@ pub struct Planned {
     pub record: Record,
 }
 
-// Plan: the record of a change, with the new metrics and both topologies' distances and next hops, or a refusal that
-// writes no cell.
+// Plan: the record of a change, with the new metrics and both topologies' distances, next hops and sets of four, or a
+// refusal that writes no cell.
 pub fn plan(
     n: usize,
     old: &[u32],
     list: &[u8],
     new: &mut [u32],
     old_dist: &mut [u32],
-    new_dist: &mut [u32],
     old_hops: &mut [Set],
+    old_fours: &mut [Set],
+    new_dist: &mut [u32],
     new_hops: &mut [Set],
+    new_fours: &mut [Set],
 ) -> Planned
     ensures answer { λ r.
-        let lent = asTables (now (new .entry))
-        (now («old_dist» .entry)) (now («new_dist» .entry))
-        (now («old_hops» .entry)) (now («new_hops» .entry)) in
+        let lent = tablesIn (new .entry)
+        («old_dist» .entry) («old_hops» .entry) («old_fours» .entry)
+        («new_dist» .entry) («new_hops» .entry) («new_fours» .entry) in
         ⌜ verdictNumber (r .answer)
         ≡ planRefusal n (now (old .entry)) (now (list .entry)) (areTables (now (old .entry)) lent) ⌝ }
     ensures record { λ r.
-        let lent = asTables (now (new .entry))
-        (now («old_dist» .entry)) (now («new_dist» .entry))
-        (now («old_hops» .entry)) (now («new_hops» .entry)) in
+        let lent = tablesIn (new .entry)
+        («old_dist» .entry) («old_hops» .entry) («old_fours» .entry)
+        («new_dist» .entry) («new_hops» .entry) («new_fours» .entry) in
         ⌜ r .record ≡ recordOf n (now (old .entry)) (now (list .entry)) lent ⌝ }
     ensures tables { λ _.
-        let lent = asTables (now (new .entry))
-        (now («old_dist» .entry)) (now («new_dist» .entry))
-        (now («old_hops» .entry)) (now («new_hops» .entry)) in
-        let left = asTables (now (new .exit))
-        (now («old_dist» .exit)) (now («new_dist» .exit))
-        (now («old_hops» .exit)) (now («new_hops» .exit)) in
+        let lent = tablesIn (new .entry)
+        («old_dist» .entry) («old_hops» .entry) («old_fours» .entry)
+        («new_dist» .entry) («new_hops» .entry) («new_fours» .entry) in
+        let left = tablesIn (new .exit)
+        («old_dist» .exit) («old_hops» .exit) («old_fours» .exit)
+        («new_dist» .exit) («new_hops» .exit) («new_fours» .exit) in
         ⌜ left ≡ tablesOf n (now (old .entry)) (now (list .entry)) lent ⌝ }
 {
-    let sized = are_tables(old, new, old_dist, new_dist, old_hops, new_hops);
+    let sized = are_tables(
+        old,
+        new,
+        old_dist,
+        old_hops,
+        old_fours,
+        new_dist,
+        new_hops,
+        new_fours,
+    );
     let judged = judge(n, old, list, sized);
     let answer = judged.answer;
     if !answer.is_accepted() {
@@ -103,9 +116,11 @@ pub fn plan(
         rising,
         new,
         old_dist,
-        new_dist,
         old_hops,
+        old_fours,
+        new_dist,
         new_hops,
+        new_fours,
     );
     Planned { answer, record }
 }
@@ -119,27 +134,66 @@ fn fill(
     rising: bool,
     new: &mut [u32],
     old_dist: &mut [u32],
-    new_dist: &mut [u32],
     old_hops: &mut [Set],
+    old_fours: &mut [Set],
+    new_dist: &mut [u32],
     new_hops: &mut [Set],
+    new_fours: &mut [Set],
 ) -> Record
     requires { ⌜ Plan n (now old) (now list) ⌝ }
     requires { ⌜ (c ≡ root (now list)) × (rising ≡ isRise n (now old) (now list)) ⌝ }
     requires { ⌜
         Sized (now old)
-        (asTables (now new) (now «old_dist») (now «new_dist») (now «old_hops») (now «new_hops»)) ⌝ }
+        (tablesIn new «old_dist» «old_hops» «old_fours» «new_dist» «new_hops» «new_fours») ⌝ }
     ensures { λ r. ⌜ r ≡ fresh n (now (old .entry)) (now (list .entry)) ⌝ }
     ensures { λ _.
-        let left = asTables (now (new .exit))
-        (now («old_dist» .exit)) (now («new_dist» .exit))
-        (now («old_hops» .exit)) (now («new_hops» .exit)) in
+        let left = tablesIn (new .exit)
+        («old_dist» .exit) («old_hops» .exit) («old_fours» .exit)
+        («new_dist» .exit) («new_hops» .exit) («new_fours» .exit) in
+        ⌜ left ≡ filled n (now (old .entry)) (now (list .entry)) ⌝ }
+{
+    topologies(
+        n,
+        old,
+        list,
+        new,
+        old_dist,
+        old_hops,
+        old_fours,
+        new_dist,
+        new_hops,
+        new_fours,
+    );
+    fresh(n, c, rising, old_hops, old_fours, new_hops, new_fours)
+}
+
+// The new metrics, and the tables of both topologies.
+fn topologies(
+    n: usize,
+    old: &[u32],
+    list: &[u8],
+    new: &mut [u32],
+    old_dist: &mut [u32],
+    old_hops: &mut [Set],
+    old_fours: &mut [Set],
+    new_dist: &mut [u32],
+    new_hops: &mut [Set],
+    new_fours: &mut [Set],
+)
+    requires { ⌜ Plan n (now old) (now list) ⌝ }
+    requires { ⌜
+        Sized (now old)
+        (tablesIn new «old_dist» «old_hops» «old_fours» «new_dist» «new_hops» «new_fours») ⌝ }
+    ensures { λ _.
+        let left = tablesIn (new .exit)
+        («old_dist» .exit) («old_hops» .exit) («old_fours» .exit)
+        («new_dist» .exit) («new_hops» .exit) («new_fours» .exit) in
         ⌜ left ≡ filled n (now (old .entry)) (now (list .entry)) ⌝ }
 {
     metrics::apply(n, old, list, new);
-    // What was judged is what Paths asks for, so it refuses neither table.
-    paths(n, old, old_dist, old_hops);
-    paths(n, new, new_dist, new_hops);
-    fresh(n, c, rising, old_hops, new_hops)
+    // What was judged is what Paths asks for, so it refuses neither topology.
+    paths(n, old, old_dist, old_hops, old_fours);
+    paths(n, new, new_dist, new_hops, new_fours);
 }
 
 // Has every table the right size?
@@ -147,14 +201,16 @@ fn are_tables(
     old: &[u32],
     new: &[u32],
     old_dist: &[u32],
-    new_dist: &[u32],
     old_hops: &[Set],
+    old_fours: &[Set],
+    new_dist: &[u32],
     new_hops: &[Set],
+    new_fours: &[Set],
 ) -> bool
     ensures { λ r.
-        let lent = asTables (now (new .entry))
-        (now («old_dist» .entry)) (now («new_dist» .entry))
-        (now («old_hops» .entry)) (now («new_hops» .entry)) in
+        let lent = tablesIn (new .entry)
+        («old_dist» .entry) («old_hops» .entry) («old_fours» .entry)
+        («new_dist» .entry) («new_hops» .entry) («new_fours» .entry) in
         ⌜ r ≡ areTables (now (old .entry)) lent ⌝ }
 {
     if old.len() != CELLS {
@@ -163,16 +219,10 @@ fn are_tables(
     if new.len() != CELLS {
         return false;
     }
-    if old_dist.len() != CELLS {
+    if !are_paths(old_dist, old_hops, old_fours) {
         return false;
     }
-    if new_dist.len() != CELLS {
-        return false;
-    }
-    if old_hops.len() != CELLS {
-        return false;
-    }
-    new_hops.len() == CELLS
+    are_paths(new_dist, new_hops, new_fours)
 }
 
 // The record of a plan that was refused: all zeros.
@@ -192,12 +242,22 @@ pub fn blank() -> Record
     }
 }
 
-// The record of a plan that was accepted, before the first step.
-fn fresh(n: usize, root: usize, rising: bool, old_hops: &[Set], new_hops: &[Set]) -> Record
+// The record of a plan that was accepted, before the first step: full sets decide who waits for whom, and sets of four
+// what is due.
+fn fresh(
+    n: usize,
+    root: usize,
+    rising: bool,
+    old_hops: &[Set],
+    old_fours: &[Set],
+    new_hops: &[Set],
+    new_fours: &[Set],
+) -> Record
     requires { ⌜ (n ≤ width) × (root < width) ⌝ }
     ensures { λ r. ⌜
         r ≡ started n root rising
-        (orderOf n root rising (now («old_hops» .entry)) (now («new_hops» .entry))) ⌝ }
+        (orderOf n root rising (now («old_hops» .entry)) (now («new_hops» .entry)))
+        (dueTable n (now («old_fours» .entry)) (now («new_fours» .entry))) ⌝ }
 {
     let order = order_of(n, root, rising, old_hops, new_hops);
     Record {
@@ -207,7 +267,7 @@ fn fresh(n: usize, root: usize, rising: bool, old_hops: &[Set], new_hops: &[Set]
         ranks: order.ranks,
         waiting: order.waiting,
         telling: order.telling,
-        due: order.due,
+        due: due_table(n, old_fours, new_fours),
         states: [0; WIDTH],
         written: [0; WIDTH],
     }

@@ -1,8 +1,10 @@
 // What is shown of a call.
 use crate::call::NEW;
 use crate::call::NEW_DISTANCE;
+use crate::call::NEW_FOUR;
 use crate::call::NEW_SET;
 use crate::call::OLD_DISTANCE;
+use crate::call::OLD_FOUR;
 use crate::call::OLD_SET;
 use crate::fresh;
 use area::limits::Set;
@@ -18,15 +20,33 @@ pub fn planned(
     p: Planned,
     new: &[u32; LONG_TABLE],
     old_dist: &[u32; LONG_TABLE],
-    new_dist: &[u32; LONG_TABLE],
     old_hops: &[Set; LONG_TABLE],
+    old_fours: &[Set; LONG_TABLE],
+    new_dist: &[u32; LONG_TABLE],
     new_hops: &[Set; LONG_TABLE],
+    new_fours: &[Set; LONG_TABLE],
 ) {
     if record(n, p) {
-        way(n, old_dist, new_dist, old_hops, new_hops);
-        checksums(n, new, old_dist, new_dist, old_hops, new_hops);
+        filled(
+            n,
+            new,
+            old_dist,
+            old_hops,
+            old_fours,
+            new_dist,
+            new_hops,
+            new_fours,
+        );
     } else {
-        changed(new, old_dist, new_dist, old_hops, new_hops);
+        changed(
+            new,
+            old_dist,
+            old_hops,
+            old_fours,
+            new_dist,
+            new_hops,
+            new_fours,
+        );
     }
 }
 
@@ -54,13 +74,51 @@ fn record(n: usize, p: Planned) -> bool {
     true
 }
 
-// The distances and the next-hop sets from router 0 to the last router, the old before the new.
+// What the tables of an accepted call hold: the way from router 0 to the last, in how many cells that belong to no
+// link a new metric stands, and a checksum of each table.
+fn filled(
+    n: usize,
+    new: &[u32; LONG_TABLE],
+    old_dist: &[u32; LONG_TABLE],
+    old_hops: &[Set; LONG_TABLE],
+    old_fours: &[Set; LONG_TABLE],
+    new_dist: &[u32; LONG_TABLE],
+    new_hops: &[Set; LONG_TABLE],
+    new_fours: &[Set; LONG_TABLE],
+) {
+    way(
+        n,
+        old_dist,
+        old_hops,
+        old_fours,
+        new_dist,
+        new_hops,
+        new_fours,
+    );
+    print::form(
+        b"metrics # tables # # # # # # #\n",
+        &[
+            compare::beyond_links(n, &compare::wide(new), 16777215),
+            compare::checksum(&compare::wide(new)),
+            compare::checksum(&compare::wide(old_dist)),
+            compare::checksum(old_hops),
+            compare::checksum(old_fours),
+            compare::checksum(&compare::wide(new_dist)),
+            compare::checksum(new_hops),
+            compare::checksum(new_fours),
+        ],
+    );
+}
+
+// The distances, the full next-hop sets and the sets of four from router 0 to the last router, the old before the new.
 fn way(
     n: usize,
     old_dist: &[u32; LONG_TABLE],
-    new_dist: &[u32; LONG_TABLE],
     old_hops: &[Set; LONG_TABLE],
+    old_fours: &[Set; LONG_TABLE],
+    new_dist: &[u32; LONG_TABLE],
     new_hops: &[Set; LONG_TABLE],
+    new_fours: &[Set; LONG_TABLE],
 ) {
     if n < 1 {
         return;
@@ -69,41 +127,15 @@ fn way(
         return;
     }
     let k = n - 1;
-    pair(k, old_dist[k], new_dist[k], old_hops[k], new_hops[k]);
+    distances(k, old_dist[k], new_dist[k]);
+    print::form(b" hops # #", &[old_hops[k], new_hops[k]]);
+    print::form(b" fours # #\n", &[old_fours[k], new_fours[k]]);
 }
 
-fn pair(k: usize, old_dist: u32, new_dist: u32, old_hops: Set, new_hops: Set) {
+fn distances(k: usize, old: u32, new: u32) {
     print::form(
-        b"from 0 to # distances # # hops # #\n",
-        &[
-            k as u64,
-            old_dist as u64,
-            new_dist as u64,
-            old_hops,
-            new_hops,
-        ],
-    );
-}
-
-// In how many cells that belong to no link a new metric stands, and a checksum of each table.
-fn checksums(
-    n: usize,
-    new: &[u32; LONG_TABLE],
-    old_dist: &[u32; LONG_TABLE],
-    new_dist: &[u32; LONG_TABLE],
-    old_hops: &[Set; LONG_TABLE],
-    new_hops: &[Set; LONG_TABLE],
-) {
-    print::form(
-        b"metrics # tables # # # # #\n",
-        &[
-            compare::beyond_links(n, &compare::wide(new), 16777215),
-            compare::checksum(&compare::wide(new)),
-            compare::checksum(&compare::wide(old_dist)),
-            compare::checksum(&compare::wide(new_dist)),
-            compare::checksum(old_hops),
-            compare::checksum(new_hops),
-        ],
+        b"from 0 to # distances # #",
+        &[k as u64, old as u64, new as u64],
     );
 }
 
@@ -111,18 +143,22 @@ fn checksums(
 fn changed(
     new: &[u32; LONG_TABLE],
     old_dist: &[u32; LONG_TABLE],
-    new_dist: &[u32; LONG_TABLE],
     old_hops: &[Set; LONG_TABLE],
+    old_fours: &[Set; LONG_TABLE],
+    new_dist: &[u32; LONG_TABLE],
     new_hops: &[Set; LONG_TABLE],
+    new_fours: &[Set; LONG_TABLE],
 ) {
     print::form(
-        b" changed # # # # #\n",
+        b" changed # # # # # # #\n",
         &[
             compare::changed(&compare::wide(new), NEW as u64),
             compare::changed(&compare::wide(old_dist), OLD_DISTANCE as u64),
-            compare::changed(&compare::wide(new_dist), NEW_DISTANCE as u64),
             compare::changed(old_hops, OLD_SET),
+            compare::changed(old_fours, OLD_FOUR),
+            compare::changed(&compare::wide(new_dist), NEW_DISTANCE as u64),
             compare::changed(new_hops, NEW_SET),
+            compare::changed(new_fours, NEW_FOUR),
         ],
     );
 }

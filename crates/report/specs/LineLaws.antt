@@ -181,9 +181,9 @@ module _ (d h e g : List ℕ) where
   unfolding rowLines
   row-more i k u v = rw add-one (appended-then u v)
 
-  pub routes-none : (n : ℕ) (o : List ℕ) → Appended o 0 (routeLines d h e g n 0) o 0
+  pub routes-none : (n : ℕ) (o : List ℕ) (a : ℕ) → a ≤ length o → Appended o a (routeLines d h e g n 0) o a
   unfolding routeLines
-  routes-none n o = appended-none o 0 (omega arith)
+  routes-none n o a b = appended-none o a b
 
   pub routes-more :
       (n k : ℕ) {o p q : List ℕ} {a b c : ℕ}

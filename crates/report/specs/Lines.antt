@@ -66,7 +66,7 @@ rehearsalLines r bytes =
     word "end\n"))
 
 -- ---- the routes
--- a distance and the next-hop set by which it is reached, or that there is no walk
+-- a distance and the full next-hop set by which it is reached, or that there is no walk
 unfoldable pub pathText : (p : Path) → List ℕ
 pathText p =
     pick (eqb (p .distance) unreached)
@@ -97,7 +97,7 @@ pairText i j before after = pick (isPrinted i j before after) (routeLine i j bef
 abbrev pub path : (distances hops : List ℕ) (i j : ℕ) → Path
 path distances hops i j = record { distance = cell width distances i j; hops = cell width hops i j }
 
--- all pairs by these tables: d and h before the change, e and g after it
+-- all pairs by the tables of distances and full sets: d and h before the change, e and g after it
 module _ (d h e g : List ℕ) where
   -- the pairs of router i with the first k routers
   unfoldable pub rowLines : (i k : ℕ) → List ℕ
@@ -108,6 +108,10 @@ module _ (d h e g : List ℕ) where
   unfoldable pub routeLines : (n k : ℕ) → List ℕ
   routeLines n zero = []
   routeLines n (suc k) = routeLines n k ++ rowLines k n
+
+  -- All of the routes of n routers: that the sets are full ones (02, No. 9), and the lines of all pairs.
+  abbrev pub routesLines : (n : ℕ) → List ℕ
+  routesLines n = word "full next-hop sets\n" ++ routeLines n n
 
 -- ---- the running sheet (02, No. 1)
 -- router k after a space, where it is a member of a set

@@ -9,7 +9,7 @@ use Rattle.bench_file.specs.Sections.{routers, steps}
 use Rattle.sheet.specs.Follow.{sheetCalls}
 use Rattle.text.specs.Text.{refusedLine}
 use Rattle.prepare.specs.Bench.{refusal, planned, filledTables}
-use Rattle.report.specs.Lines.{rehearsalLines, routeLines, sheetLines, unfinishedAfter, stepSection}
+use Rattle.report.specs.Lines.{rehearsalLines, routesLines, sheetLines, unfinishedAfter, stepSection}
 
 -- the line of the refusal where there is one, and these lines where there is none
 abbrev pub unlessRefused : (number : ℕ) (lines : List ℕ) → List ℕ
@@ -20,12 +20,13 @@ unlessRefused number lines = pick (eqb number 0) lines (refusedLine number)
 unfoldable pub rehearsal : (f m : List ℕ) (t : Tables) → List ℕ
 rehearsal f m t = unlessRefused (refusal f m t) (rehearsalLines (planned f) (steps f))
 
--- The routes: the refusal alone, or the lines of all pairs (our own, docs/DECISIONS.md).
+-- The routes: the refusal alone, or that the sets are full ones, and the lines of all pairs (our own,
+-- docs/DECISIONS.md).
 unfoldable pub routes : (f m : List ℕ) (t : Tables) → List ℕ
 routes f m t =
     let p = filledTables f in
     unlessRefused (refusal f m t)
-    (routeLines (p .oldDistances) (p .oldHops) (p .newDistances) (p .newHops) (routers f) (routers f))
+    (routesLines (p .old .distances) (p .old .hops) (p .new .distances) (p .new .hops) (routers f))
 
 -- The running sheet: the refusal alone, or a line for each turn, and an end (02, No. 1; its form is our own).
 unfoldable pub sheetTurns : (f m : List ℕ) (t : Tables) → List ℕ

@@ -25,7 +25,7 @@ use lib.ListN.{length, take, drop, length-take}
 use Rattle.area.specs.Limits.{width, mostSteps}
 use Rattle.area.specs.SizeLaws.{router-count-most}
 use Rattle.plan.specs.declared.Record.{Record}
-use Rattle.plan.specs.Plan.{Tables, asTables}
+use Rattle.plan.specs.Plan.{Tables}
 use Rattle.plan.specs.PlanLaws.{filled-size}
 use Rattle.plan.specs.FreshLaws.{fresh-count}
 use Rattle.machine.specs.Run.{run, replies, callsOf}
@@ -42,7 +42,7 @@ use Rattle.text.specs.Text.{Appended, word, line, refusedLine}
 use Rattle.text.specs.TextLaws.{appended-then, refused-is}
 use Rattle.prepare.specs.Bench.{metrics, refusal, planned, filledTables, recordAt, tablesAt}
 use Rattle.prepare.specs.BenchLaws.{read-passed, file-of, plan-passed, record-passed, tables-passed}
-use Rattle.report.specs.Lines.{routerLines, stepLines, rehearsalLines, routeLines, sheetLines, stepSection}
+use Rattle.report.specs.Lines.{routerLines, stepLines, rehearsalLines, routesLines, sheetLines, stepSection}
 use Rattle.report.specs.Lines.{unfinishedLines, unfinishedIn, unfinishedAfter}
 use Rattle.report.specs.Report.{unlessRefused, rehearsal, routes, sheetTurns, sheetSteps, unfinished}
 
@@ -142,7 +142,7 @@ module _ (f m : List ℕ) (t : Tables) where
     pub routes-whole :
         let p = filledTables f in
         routes f m t
-        ≡ routeLines (p .oldDistances) (p .oldHops) (p .newDistances) (p .newHops) (routers f) (routers f)
+        ≡ routesLines (p .old .distances) (p .old .hops) (p .new .distances) (p .new .hops) (routers f)
     unfolding routes
     routes-whole = rw (eq-eqb (refusal f m t) 0 z) refl
 
@@ -257,37 +257,35 @@ module _ (f m : List ℕ) (t : Tables) where
             (λ z. of-both z unfinishedAfter)
 
     -- and these are the tables
-    module _ (new d e h g : List ℕ) (filled : asTables new d e h g ≡ tablesAt f m t) where
-      by-plan : refusal f m t ≡ 0 → asTables new d e h g ≡ filledTables f
+    module _ (left : Tables) (filled : left ≡ tablesAt f m t) where
+      by-plan : refusal f m t ≡ 0 → left ≡ filledTables f
       by-plan z = filled ∙ tables-passed f m t z
 
-      pub full-tables : k ≡ 0 → (r .n ≤ width) × Full d h e g
+      abbrev FullTables : (u : Tables) → Type 0
+      FullTables u = Full (u .old .distances) (u .old .hops) (u .new .distances) (u .new .hops)
+
+      pub full-tables : k ≡ 0 → (r .n ≤ width) × FullTables left
       full-tables i =
           let z = sym told ∙ i in
-          let size = filled-size (routers f) (metrics f) (changes f) in (
-            few-routers z,
-            record {
-              old-distances = ap (λ (u : Tables). length (u .oldDistances)) (by-plan z) ∙ size .oldDistances;
-              old-hops = ap (λ (u : Tables). length (u .oldHops)) (by-plan z) ∙ size .oldHops;
-              new-distances = ap (λ (u : Tables). length (u .newDistances)) (by-plan z) ∙ size .newDistances;
-              new-hops = ap (λ (u : Tables). length (u .newHops)) (by-plan z) ∙ size .newHops;
-            },
-          )
+          let size = filled-size (routers f) (metrics f) (changes f) in
+          let full : FullTables (filledTables f) =
+          record {
+            old-distances = size .old .distances;
+            old-hops = size .old .hops;
+            new-distances = size .new .distances;
+            new-hops = size .new .hops;
+          } in
+          (few-routers z, subst FullTables (sym (by-plan z)) full)
+
+      -- the lines of all pairs by such tables
+      abbrev linesBy : (u : Tables) (n : ℕ) → List ℕ
+      linesBy u = routesLines (u .old .distances) (u .old .hops) (u .new .distances) (u .new .hops)
 
       pub routes-printed :
           {o p : List ℕ} {a : ℕ}
-          → Appended o 0 (unlessRefused k (routeLines d h e g (r .n) (r .n))) p a
+          → Appended o 0 (unlessRefused k (linesBy left (r .n))) p a
           → Appended o 0 (routes f m t) p a
       unfolding routes
-      routes-printed = same-printed (routeLines d h e g (r .n) (r .n)) _ lines-are
-        where
-          lines-are : refusal f m t ≡ 0
-              → let p = filledTables f in
-              routeLines d h e g (r .n) (r .n)
-              ≡ routeLines (p .oldDistances) (p .oldHops) (p .newDistances) (p .newHops) (routers f) (routers f)
-          lines-are z =
-              let d-is = ap (λ (u : Tables). u .oldDistances) (by-plan z) in
-              let h-is = ap (λ (u : Tables). u .oldHops) (by-plan z) in
-              let e-is = ap (λ (u : Tables). u .newDistances) (by-plan z) in
-              let g-is = ap (λ (u : Tables). u .newHops) (by-plan z) in
-              rw (d-is, h-is, e-is, g-is, n-is z) refl
+      routes-printed =
+          same-printed (linesBy left (r .n)) (linesBy (filledTables f) (routers f))
+          (λ z. ap₂ linesBy (by-plan z) (n-is z))

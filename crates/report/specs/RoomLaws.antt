@@ -35,7 +35,7 @@ abbrev pub rehearsalRoom : ℕ
 rehearsalRoom = 133 * width + 27 + 55 * mostSteps + 4
 
 abbrev pub routesRoom : ℕ
-routesRoom = 148 * (width * width)
+routesRoom = 19 + 148 * (width * width)
 
 abbrev pub sheetTurnsRoom : ℕ
 sheetTurnsRoom = (67 + 42 * width) * width + 4
@@ -72,8 +72,8 @@ module _ (f m : List ℕ) (t : Tables) where
           let few = router-count-most (routers f) (file-of f m t z .routers-in) in
           let p = filledTables f in
           let n = routers f in
-          let most = routes-most (p .oldDistances) (p .oldHops) (p .newDistances) (p .newHops) n n few in
-          rw (routes-whole f m t z) (omega arith)
+          let most = routes-most (p .old .distances) (p .old .hops) (p .new .distances) (p .new .hops) n n few in
+          rw (routes-whole f m t z) (simp length-append (omega arith))
 
   pub sheet-turns-room : length (sheetTurns f m t) ≤ sheetTurnsRoom
   sheet-turns-room = by-refusal (ℕ-discrete (refusal f m t) 0)

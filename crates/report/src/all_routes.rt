@@ -1,20 +1,22 @@
-// The routes: distances and next-hop sets of every pair of routers, before the change and after it.
+// The routes: distances and full next-hop sets of every pair of routers, before the change and after it. The first line
+// says that the sets are full ones.
 use crate::lines::Path;
 use crate::lines::route_line;
 use area::limits::Set;
 use area::limits::UNREACHED;
 use area::limits::WIDTH;
 use prepare::prepare;
+use text::append;
 use text::refused_line;
 ghost use mathlib.Core.Path.{_≡_};
 ghost use Prim.Native.Nat.{_≤_, _<_};
 ghost use lib.ListN.{length};
 ghost use Rattle.area.specs.Limits.{width};
-ghost use Rattle.plan.specs.Plan.{asTables};
+ghost use Rattle.plan.specs.Plan.{tablesIn};
 ghost use Rattle.bench_file.specs.Read.{metricsOf};
 ghost use Rattle.text.specs.Text.{Appended};
 ghost use Rattle.prepare.specs.Bench.{tablesAt};
-ghost use Rattle.report.specs.Lines.{isPrinted, pairText, rowLines, routeLines};
+ghost use Rattle.report.specs.Lines.{isPrinted, pairText, rowLines, routeLines, routesLines};
 ghost use Rattle.report.specs.Report.{unlessRefused, routes};
 ghost use Rattle.report.specs.ReportLaws.{Full};
 
@@ -25,27 +27,39 @@ pub fn routes(
     old: &mut [u32],
     new: &mut [u32],
     old_dist: &mut [u32],
-    new_dist: &mut [u32],
     old_hops: &mut [Set],
+    old_fours: &mut [Set],
+    new_dist: &mut [u32],
     new_hops: &mut [Set],
+    new_fours: &mut [Set],
     out: &mut [u8],
 ) -> usize
     ensures text { λ r.
-        let lent = asTables (now (new .entry))
-        (now («old_dist» .entry)) (now («new_dist» .entry))
-        (now («old_hops» .entry)) (now («new_hops» .entry)) in
+        let lent = tablesIn (new .entry)
+        («old_dist» .entry) («old_hops» .entry) («old_fours» .entry)
+        («new_dist» .entry) («new_hops» .entry) («new_fours» .entry) in
         ⌜ Appended (now (out .entry)) 0 (routes (now (file .entry)) (now (old .entry)) lent) (now (out .exit)) r ⌝ }
     ensures metrics { λ _. ⌜ now (old .exit) ≡ metricsOf (now (file .entry)) (now (old .entry)) ⌝ }
     ensures tables { λ _.
-        let lent = asTables (now (new .entry))
-        (now («old_dist» .entry)) (now («new_dist» .entry))
-        (now («old_hops» .entry)) (now («new_hops» .entry)) in
-        let left = asTables (now (new .exit))
-        (now («old_dist» .exit)) (now («new_dist» .exit))
-        (now («old_hops» .exit)) (now («new_hops» .exit)) in
+        let lent = tablesIn (new .entry)
+        («old_dist» .entry) («old_hops» .entry) («old_fours» .entry)
+        («new_dist» .entry) («new_hops» .entry) («new_fours» .entry) in
+        let left = tablesIn (new .exit)
+        («old_dist» .exit) («old_hops» .exit) («old_fours» .exit)
+        («new_dist» .exit) («new_hops» .exit) («new_fours» .exit) in
         ⌜ left ≡ tablesAt (now (file .entry)) (now (old .entry)) lent ⌝ }
 {
-    let start = prepare(file, old, new, old_dist, new_dist, old_hops, new_hops);
+    let start = prepare(
+        file,
+        old,
+        new,
+        old_dist,
+        old_hops,
+        old_fours,
+        new_dist,
+        new_hops,
+        new_fours,
+    );
     printed(
         start.refusal,
         start.record.n,
@@ -57,7 +71,7 @@ pub fn routes(
     )
 }
 
-// The refusal of this number, or the lines of all pairs.
+// The refusal of this number, or what sets are printed and the lines of all pairs.
 fn printed(
     number: u8,
     n: u8,
@@ -71,18 +85,19 @@ fn printed(
         (number ≡ 0
         → (n ≤ width) × Full (now «old_dist») (now «old_hops») (now «new_dist») (now «new_hops»)) ⌝ }
     ensures text { λ r.
-        let lines = routeLines
+        let lines = routesLines
         (now («old_dist» .entry)) (now («old_hops» .entry))
-        (now («new_dist» .entry)) (now («new_hops» .entry)) n n in
+        (now («new_dist» .entry)) (now («new_hops» .entry)) n in
         ⌜ Appended (now (out .entry)) 0 (unlessRefused number lines) (now (out .exit)) r ⌝ }
 {
     if number != 0 {
         return refused_line(out, 0, number);
     }
-    route_lines(n as usize, old_dist, old_hops, new_dist, new_hops, out)
+    let at = append(out, 0, b"full next-hop sets\n");
+    route_lines(n as usize, old_dist, old_hops, new_dist, new_hops, out, at)
 }
 
-// The lines of all pairs, at the start of `out`.
+// The lines of all pairs.
 fn route_lines(
     n: usize,
     old_dist: &[u32],
@@ -90,16 +105,17 @@ fn route_lines(
     new_dist: &[u32],
     new_hops: &[Set],
     out: &mut [u8],
+    start: usize,
 ) -> usize
-    requires { ⌜ n ≤ width ⌝ }
+    requires { ⌜ (n ≤ width) × (start ≤ length (now out)) ⌝ }
     requires { ⌜ Full (now «old_dist») (now «old_hops») (now «new_dist») (now «new_hops») ⌝ }
     ensures lines { λ r.
         let lines = routeLines
         (now («old_dist» .entry)) (now («old_hops» .entry))
         (now («new_dist» .entry)) (now («new_hops» .entry)) n n in
-        ⌜ Appended (now (out .entry)) 0 lines (now (out .exit)) r ⌝ }
+        ⌜ Appended (now (out .entry)) start lines (now (out .exit)) r ⌝ }
 {
-    let mut at = 0;
+    let mut at = start;
     for i in 0..n {
         at = row_lines(n, i, old_dist, old_hops, new_dist, new_hops, out, at);
     }

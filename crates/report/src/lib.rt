@@ -2,7 +2,8 @@
 //     rehearsal             `rehearse`: a line for each router, what the change needs, a line for each step, and an end
 //     unfinished_routers    `unfinished`: a line for each router that is not done after the last step, and what is
 //                           missing
-//     all_routes            `routes`: a line for each pair of routers, with its path before the change and after it
+//     all_routes            `routes`: a line for each pair of routers, with its path before the change and after it, by
+//                           the full next-hop sets
 //     turns                 `sheet_turns`: a line for each turn of the running sheet, and an end
 //     step_section          `sheet_steps`: the steps of the sheet, in hexadecimal
 //     lines, hex_lines      each of these lines, of the numbers that it shows
@@ -13,8 +14,8 @@
 // What is printed is specs/Report.antt, made of the lines of specs/Lines.antt. Why it is right: specs/LineLaws.antt,
 // SheetLineLaws.antt, UnfinishedLaws.antt and CallLineLaws.antt join the parts of a line, and a line to those before
 // it; specs/ReportLaws.antt goes from what `prepare` gives to the whole text; specs/RoomLaws.antt says that ROOM bytes
-// are enough for it, and specs/FirstBytesLaws.antt that 33,085 bytes of an input are. specs/StepsReadLaws.antt reads the
-// steps of the sheet again: they are the calls that the sheet stands for.
+// are enough for it, and specs/FirstBytesLaws.antt that 33,085 bytes of an input are. specs/StepsReadLaws.antt reads
+// the steps of the sheet again: they are the calls that the sheet stands for.
 mod all_routes;
 mod hex_lines;
 mod lines;
@@ -37,7 +38,7 @@ pub const REHEARSAL_ROOM: usize = 133 * WIDTH + 27 + 55 * MOST_STEPS + 4;
 
 pub const UNFINISHED_ROOM: usize = (52 + 42 * WIDTH) * WIDTH + 29;
 
-pub const ROUTES_ROOM: usize = 148 * CELLS;
+pub const ROUTES_ROOM: usize = 19 + 148 * CELLS;
 
 pub const SHEET_TURNS_ROOM: usize = (67 + 42 * WIDTH) * WIDTH + 4;
 

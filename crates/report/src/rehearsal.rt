@@ -16,7 +16,7 @@ ghost use mathlib.Core.Path.{_≡_};
 ghost use Prim.Native.Nat.{_+_, _*_, _≤_};
 ghost use lib.ListN.{length};
 ghost use Rattle.area.specs.Limits.{width, mostSteps};
-ghost use Rattle.plan.specs.Plan.{asTables};
+ghost use Rattle.plan.specs.Plan.{tablesIn};
 ghost use Rattle.machine.specs.Run.{replies, callsOf};
 ghost use Rattle.bench_file.specs.Read.{metricsOf};
 ghost use Rattle.text.specs.Text.{Appended};
@@ -32,28 +32,40 @@ pub fn rehearse(
     old: &mut [u32],
     new: &mut [u32],
     old_dist: &mut [u32],
-    new_dist: &mut [u32],
     old_hops: &mut [Set],
+    old_fours: &mut [Set],
+    new_dist: &mut [u32],
     new_hops: &mut [Set],
+    new_fours: &mut [Set],
     out: &mut [u8],
 ) -> usize
     ensures text { λ r.
-        let lent = asTables (now (new .entry))
-        (now («old_dist» .entry)) (now («new_dist» .entry))
-        (now («old_hops» .entry)) (now («new_hops» .entry)) in
+        let lent = tablesIn (new .entry)
+        («old_dist» .entry) («old_hops» .entry) («old_fours» .entry)
+        («new_dist» .entry) («new_hops» .entry) («new_fours» .entry) in
         ⌜ Appended (now (out .entry)) 0
         (rehearsal (now (file .entry)) (now (old .entry)) lent) (now (out .exit)) r ⌝ }
     ensures metrics { λ _. ⌜ now (old .exit) ≡ metricsOf (now (file .entry)) (now (old .entry)) ⌝ }
     ensures tables { λ _.
-        let lent = asTables (now (new .entry))
-        (now («old_dist» .entry)) (now («new_dist» .entry))
-        (now («old_hops» .entry)) (now («new_hops» .entry)) in
-        let left = asTables (now (new .exit))
-        (now («old_dist» .exit)) (now («new_dist» .exit))
-        (now («old_hops» .exit)) (now («new_hops» .exit)) in
+        let lent = tablesIn (new .entry)
+        («old_dist» .entry) («old_hops» .entry) («old_fours» .entry)
+        («new_dist» .entry) («new_hops» .entry) («new_fours» .entry) in
+        let left = tablesIn (new .exit)
+        («old_dist» .exit) («old_hops» .exit) («old_fours» .exit)
+        («new_dist» .exit) («new_hops» .exit) («new_fours» .exit) in
         ⌜ left ≡ tablesAt (now (file .entry)) (now (old .entry)) lent ⌝ }
 {
-    let start = prepare(file, old, new, old_dist, new_dist, old_hops, new_hops);
+    let start = prepare(
+        file,
+        old,
+        new,
+        old_dist,
+        old_hops,
+        old_fours,
+        new_dist,
+        new_hops,
+        new_fours,
+    );
     printed(file, start, out)
 }
 

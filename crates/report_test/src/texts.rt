@@ -38,15 +38,19 @@ fn text(words: &[u8], file: &[u8], out: &mut [u8]) -> usize
     let mut old = [1u32; LONG_TABLE];
     let mut new = [2u32; LONG_TABLE];
     let mut old_dist = [3u32; LONG_TABLE];
-    let mut new_dist = [5u32; LONG_TABLE];
     let mut old_hops: [Set; LONG_TABLE] = [7; LONG_TABLE];
+    let mut old_fours: [Set; LONG_TABLE] = [8; LONG_TABLE];
+    let mut new_dist = [5u32; LONG_TABLE];
     let mut new_hops: [Set; LONG_TABLE] = [18446744073709551615; LONG_TABLE];
+    let mut new_fours: [Set; LONG_TABLE] = [9; LONG_TABLE];
     let a = read::size(words, 0, LONG_TABLE);
     let b = read::size(words, 1, LONG_TABLE);
     let c = read::size(words, 2, LONG_TABLE);
     let d = read::size(words, 3, LONG_TABLE);
     let e = read::size(words, 4, LONG_TABLE);
     let f = read::size(words, 5, LONG_TABLE);
+    let g = read::size(words, 6, LONG_TABLE);
+    let h = read::size(words, 7, LONG_TABLE);
     let bytes = room(words, out.len());
     by_letter(
         words,
@@ -54,9 +58,11 @@ fn text(words: &[u8], file: &[u8], out: &mut [u8]) -> usize
         &mut old[..a],
         &mut new[..b],
         &mut old_dist[..c],
-        &mut new_dist[..d],
-        &mut old_hops[..e],
-        &mut new_hops[..f],
+        &mut old_hops[..d],
+        &mut old_fours[..e],
+        &mut new_dist[..f],
+        &mut new_hops[..g],
+        &mut new_fours[..h],
         &mut out[..bytes],
     )
 }
@@ -74,32 +80,35 @@ fn room(words: &[u8], most: usize) -> usize
 }
 
 // The routes (r), the running sheet (t), its steps (s), what is unfinished (u), or with no letter the rehearsal.
+// The distances, the full sets and the sets of four have short names here: of the old (o) and of the new topology (n).
 fn by_letter(
     words: &[u8],
     file: &[u8],
     old: &mut [u32],
     new: &mut [u32],
-    old_dist: &mut [u32],
-    new_dist: &mut [u32],
-    old_hops: &mut [Set],
-    new_hops: &mut [Set],
+    od: &mut [u32],
+    oh: &mut [Set],
+    of: &mut [Set],
+    nd: &mut [u32],
+    nh: &mut [Set],
+    nf: &mut [Set],
     out: &mut [u8],
 ) -> usize
     ensures { λ r. ⌜ (r ≤ length (now (out .exit))) × (r ≡ length (take r (now (out .exit)))) ⌝ }
 {
     if has(words, b'r') {
-        return report::routes(file, old, new, old_dist, new_dist, old_hops, new_hops, out);
+        return report::routes(file, old, new, od, oh, of, nd, nh, nf, out);
     }
     if has(words, b't') {
-        return report::sheet_turns(file, old, new, old_dist, new_dist, old_hops, new_hops, out);
+        return report::sheet_turns(file, old, new, od, oh, of, nd, nh, nf, out);
     }
     if has(words, b's') {
-        return report::sheet_steps(file, old, new, old_dist, new_dist, old_hops, new_hops, out);
+        return report::sheet_steps(file, old, new, od, oh, of, nd, nh, nf, out);
     }
     if has(words, b'u') {
-        return report::unfinished(file, old, new, old_dist, new_dist, old_hops, new_hops, out);
+        return report::unfinished(file, old, new, od, oh, of, nd, nh, nf, out);
     }
-    report::rehearse(file, old, new, old_dist, new_dist, old_hops, new_hops, out)
+    report::rehearse(file, old, new, od, oh, of, nd, nh, nf, out)
 }
 
 fn has(words: &[u8], letter: u8) -> bool {

@@ -3,8 +3,9 @@
 //     size                             how many members a set has
 //     entry                            a router's set in a table of sets
 //     add, remove, join, without       a new set from one or two
-// What each promises is specs/Sets.antt and Counts.antt; why bit operations do it is the last part of
-// specs/SetLaws.antt.
+//     four                             the four lowest members, by `rest`, which leaves out the lowest one
+// What each promises is specs/Sets.antt, Counts.antt and Four.antt; why bit operations do it is the last part of
+// specs/SetLaws.antt, and of specs/FourLaws.antt.
 use area::limits::Set;
 use area::limits::WIDTH;
 ghost use mathlib.Core.Path.{_≡_};
@@ -14,6 +15,7 @@ ghost use lib.ListN.{getD};
 ghost use Rattle.area.specs.Limits.{width};
 ghost use Rattle.sets.specs.Sets.{num, bit, added, removed, union, without, subset};
 ghost use Rattle.sets.specs.Counts.{size};
+ghost use Rattle.sets.specs.Four.{four, beyond};
 
 // Is router k a member of s?
 pub fn member(s: Set, k: usize) -> bool
@@ -88,4 +90,21 @@ fn one_if(test: bool) -> usize
     ensures { λ r. ⌜ (r ≤ 1) × (r ≡ num test) ⌝ }
 {
     if test { 1 } else { 0 }
+}
+
+// The four lowest members of s; all of them where it has fewer.
+pub fn four(s: Set) -> Set
+    ensures set { λ r. ⌜ r ≡ four width s ⌝ }
+{
+    let from_second = rest(s);
+    let from_third = rest(from_second);
+    let from_fourth = rest(from_third);
+    without(s, rest(from_fourth))
+}
+
+// s without its lowest member.
+fn rest(s: Set) -> Set
+    ensures { λ r. ⌜ r ≡ beyond width 1 s ⌝ }
+{
+    if s == 0 { 0 } else { s & (s - 1) }
 }

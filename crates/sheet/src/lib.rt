@@ -23,7 +23,7 @@ ghost use Rattle.area.specs.Limits.{width};
 ghost use Rattle.area.specs.Refusals.{verdictNumber};
 ghost use Rattle.area.specs.Tables.{perRouter};
 ghost use Rattle.sets.specs.Sets.{bit, subset};
-ghost use Rattle.plan.specs.Plan.{asTables, areTables, planRefusal, recordOf, tablesOf};
+ghost use Rattle.plan.specs.Plan.{tablesIn, areTables, planRefusal, recordOf, tablesOf};
 ghost use Rattle.sheet.specs.Sheet.{nextAfter, placeAt, sheetOf};
 
 // What the running sheet of a change is: Plan's answer, and the routers in turn.
@@ -40,31 +40,44 @@ pub fn sheet(
     list: &[u8],
     new: &mut [u32],
     old_dist: &mut [u32],
-    new_dist: &mut [u32],
     old_hops: &mut [Set],
+    old_fours: &mut [Set],
+    new_dist: &mut [u32],
     new_hops: &mut [Set],
+    new_fours: &mut [Set],
 ) -> RunningSheet
     ensures answer { λ r.
-        let lent = asTables (now (new .entry))
-        (now («old_dist» .entry)) (now («new_dist» .entry))
-        (now («old_hops» .entry)) (now («new_hops» .entry)) in
+        let lent = tablesIn (new .entry)
+        («old_dist» .entry) («old_hops» .entry) («old_fours» .entry)
+        («new_dist» .entry) («new_hops» .entry) («new_fours» .entry) in
         ⌜ verdictNumber (r .answer)
         ≡ planRefusal n (now (old .entry)) (now (list .entry)) (areTables (now (old .entry)) lent) ⌝ }
     ensures routers { λ r.
-        let lent = asTables (now (new .entry))
-        (now («old_dist» .entry)) (now («new_dist» .entry))
-        (now («old_hops» .entry)) (now («new_hops» .entry)) in
+        let lent = tablesIn (new .entry)
+        («old_dist» .entry) («old_hops» .entry) («old_fours» .entry)
+        («new_dist» .entry) («new_hops» .entry) («new_fours» .entry) in
         ⌜ r .routers ≡ sheetOf (recordOf n (now (old .entry)) (now (list .entry)) lent) ⌝ }
     ensures tables { λ _.
-        let lent = asTables (now (new .entry))
-        (now («old_dist» .entry)) (now («new_dist» .entry))
-        (now («old_hops» .entry)) (now («new_hops» .entry)) in
-        let left = asTables (now (new .exit))
-        (now («old_dist» .exit)) (now («new_dist» .exit))
-        (now («old_hops» .exit)) (now («new_hops» .exit)) in
+        let lent = tablesIn (new .entry)
+        («old_dist» .entry) («old_hops» .entry) («old_fours» .entry)
+        («new_dist» .entry) («new_hops» .entry) («new_fours» .entry) in
+        let left = tablesIn (new .exit)
+        («old_dist» .exit) («old_hops» .exit) («old_fours» .exit)
+        («new_dist» .exit) («new_hops» .exit) («new_fours» .exit) in
         ⌜ left ≡ tablesOf n (now (old .entry)) (now (list .entry)) lent ⌝ }
 {
-    let planned = plan(n, old, list, new, old_dist, new_dist, old_hops, new_hops);
+    let planned = plan(
+        n,
+        old,
+        list,
+        new,
+        old_dist,
+        old_hops,
+        old_fours,
+        new_dist,
+        new_hops,
+        new_fours,
+    );
     let answer = planned.answer;
     let record = planned.record;
     RunningSheet {

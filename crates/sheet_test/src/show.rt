@@ -1,8 +1,10 @@
 // What is shown of a call.
 use crate::call::NEW;
 use crate::call::NEW_DISTANCE;
+use crate::call::NEW_FOUR;
 use crate::call::NEW_SET;
 use crate::call::OLD_DISTANCE;
+use crate::call::OLD_FOUR;
 use crate::call::OLD_SET;
 use area::limits::Set;
 use area::limits::WIDTH;
@@ -17,18 +19,22 @@ ghost use Rattle.area.specs.Limits.{width};
 pub(crate) fn changed(
     new: &[u32; LONG_TABLE],
     old_dist: &[u32; LONG_TABLE],
-    new_dist: &[u32; LONG_TABLE],
     old_hops: &[Set; LONG_TABLE],
+    old_fours: &[Set; LONG_TABLE],
+    new_dist: &[u32; LONG_TABLE],
     new_hops: &[Set; LONG_TABLE],
+    new_fours: &[Set; LONG_TABLE],
 ) {
     print::form(
-        b" changed # # # # #",
+        b" changed # # # # # # #",
         &[
             compare::changed(&compare::wide(new), NEW as u64),
             compare::changed(&compare::wide(old_dist), OLD_DISTANCE as u64),
-            compare::changed(&compare::wide(new_dist), NEW_DISTANCE as u64),
             compare::changed(old_hops, OLD_SET),
+            compare::changed(old_fours, OLD_FOUR),
+            compare::changed(&compare::wide(new_dist), NEW_DISTANCE as u64),
             compare::changed(new_hops, NEW_SET),
+            compare::changed(new_fours, NEW_FOUR),
         ],
     );
 }

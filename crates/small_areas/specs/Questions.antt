@@ -14,16 +14,15 @@ use Rattle.entries.specs.Entries.{entryCount, entryOf, isFree, entryRefusal, li
 use Rattle.topology.specs.Topology.{isLink, topology}
 use Rattle.topology.specs.Distance.{sums, least}
 use Rattle.topology.specs.NextHops.{isNext, nextHops}
-use Rattle.paths.specs.Paths.{isMetric, areMetrics, pathsRefusal, distancesOf, hopsOf}
-use Rattle.topology.specs.Cells.{distanceCell, hopCell}
+use Rattle.paths.specs.Paths.{PathTables, isMetric, areMetrics, arePaths, pathsRefusal, filledPaths, pathsOf}
+use Rattle.topology.specs.Cells.{distanceCell, hopCell, fourCell}
 use Rattle.ranks.specs.Rank.{greatest, above, longest, rank}
 use Rattle.changes.specs.Root.{isCommon}
 use Rattle.plan.specs.declared.Record.{Record}
 use Rattle.plan.specs.NewMetrics.{newCell, newMetrics}
 use Rattle.plan.specs.Direction.{areAtMost, isSame, isRise, isFall}
-use Rattle.plan.specs.Waiting.{oldHops, newHops, waiting, telling, due}
-use Rattle.plan.specs.Plan.{Tables, asTables, areTables, planRefusal, isPlanned, fresh, blank, filled, recordOf}
-use Rattle.plan.specs.Plan.{tablesOf}
+use Rattle.plan.specs.Waiting.{oldHops, newHops, oldFours, newFours, waiting, telling}
+use Rattle.plan.specs.Plan.{Tables, areTables, planRefusal, isPlanned, fresh, blank, filled, recordOf, tablesOf}
 use Rattle.machine.specs.Answers.{Reply, refused}
 use Rattle.machine.specs.Machine.{learn, release, ready, write, finish, listens, deliver, isSound, isKind, readsB}
 use Rattle.machine.specs.Machine.{areRouters, callOf, stepOf}
@@ -47,21 +46,26 @@ use Rattle.report.specs.Report.{rehearsal}
 pub data Question : Type 0 where
   -- the number with which Read refuses the file, or else Plan; 0 where the change is planned
   refusal : Question
-  -- the plan's root, and the rank and the waiting set of each router, in the routers' order
+  -- the plan's root, and the rank and the waiting set of each router, in the routers' order; what is due at router r
   root : Question
   ranks : Question
   waits : Question
-  -- the distance from i to j over the links of the file, whatever its changes, and the next-hop set of (i, j)
+  due : (r : ℕ) → Question
+  -- the distance from i to j over the links of the file, whatever its changes, and the full next-hop set of (i, j) and
+  -- its set of four
   distance : (i j : ℕ) → Question
   set : (i j : ℕ) → Question
-  -- the same by a metric table of n routers, which need not be that of a file
+  four : (i j : ℕ) → Question
+  -- distance and full set by a metric table of n routers, which need not be that of a file
   distanceBy : (n : ℕ) (table : List ℕ) (i j : ℕ) → Question
   setBy : (n : ℕ) (table : List ℕ) (i j : ℕ) → Question
   -- the running sheet, all of its entries: the routers in their order, and then zeros
   sheet : Question
-  -- the plan's next-hop set of (i, j) before the change, and after it
+  -- the plan's full set of (i, j) before the change, and after it; and its sets of four
   oldSet : (i j : ℕ) → Question
   newSet : (i j : ℕ) → Question
+  oldFour : (i j : ℕ) → Question
+  newFour : (i j : ℕ) → Question
   -- the reply to step k, counted from 1, and the replies to all steps
   step : (k : ℕ) → Question
   allSteps : Question
@@ -84,13 +88,17 @@ Value refusal = ℕ
 Value root = ℕ
 Value ranks = List ℕ
 Value waits = List ℕ
+Value (due r) = ℕ
 Value sheet = List ℕ
 Value (distance i j) = ℕ
 Value (set i j) = ℕ
+Value (four i j) = ℕ
 Value (distanceBy n table i j) = ℕ
 Value (setBy n table i j) = ℕ
 Value (oldSet i j) = ℕ
 Value (newSet i j) = ℕ
+Value (oldFour i j) = ℕ
+Value (newFour i j) = ℕ
 Value (step k) = Reply
 Value allSteps = List Reply
 Value needs = ℕ
@@ -105,8 +113,11 @@ Value (isisMetric n identities i j) = ℕ
 abbrev lent : List ℕ
 lent = replicate (width * width) 0
 
-abbrev lentFive : Tables
-lentFive = asTables lent lent lent lent lent
+abbrev lentThree : PathTables
+lentThree = record { distances = lent; hops = lent; fours = lent }
+
+abbrev lentSeven : Tables
+lentSeven = record { metrics = lent; old = lentThree; new = lentThree }
 
 -- ---- what comes of the file
 -- Read: the number of routers, and the metric table. Where Read refuses, there is no router, and Paths and Plan refuse
@@ -117,15 +128,19 @@ routers f = contentsOf f lent .n
 abbrev metrics : (f : List ℕ) → List ℕ
 metrics f = metricsOf f lent
 
+-- Paths: its tables
+abbrev paths : (f : List ℕ) → PathTables
+paths f = pathsOf (routers f) (metrics f) lentThree
+
 -- Plan: its refusal, its record and its tables
 abbrev refusedBy : (f : List ℕ) → ℕ
-refusedBy f = planRefusal (routers f) (metrics f) (changes f) (areTables (metrics f) lentFive)
+refusedBy f = planRefusal (routers f) (metrics f) (changes f) (areTables (metrics f) lentSeven)
 
 abbrev planned : (f : List ℕ) → Record
-planned f = recordOf (routers f) (metrics f) (changes f) lentFive
+planned f = recordOf (routers f) (metrics f) (changes f) lentSeven
 
 abbrev filledIn : (f : List ℕ) → Tables
-filledIn f = tablesOf (routers f) (metrics f) (changes f) lentFive
+filledIn f = tablesOf (routers f) (metrics f) (changes f) lentSeven
 
 -- Step: the replies to the file's steps, the first of which gets Plan's record
 abbrev replied : (f : List ℕ) → List Reply
@@ -141,12 +156,12 @@ unfoldable pub answer : (f : List ℕ) (q : Question) → Value q
 unfolding readRefusal fileRefusal mostLinks deadRefusal linkRefusal restRefusal contentsOf contents noContents
     metricsBy linked all first bit setOf added removed without subset isRouterCount isTable build tabulate perRouter
     entryCount entryOf isFree entryRefusal listedRefusal listedMetric isLink topology sums least
-    Rattle.topology.specs.Distance.distance isNext nextHops isMetric areMetrics pathsRefusal distanceCell hopCell
-    distancesOf hopsOf areAtMost isSame isRise isFall isCommon Rattle.changes.specs.Root.root newCell newMetrics
-    oldHops newHops waiting telling due greatest above longest rank areTables planRefusal isPlanned fresh blank
-    filled recordOf tablesOf learn release ready write finish listens deliver isSound isKind readsB areRouters
-    callOf stepOf callsOf run replies lowest placed sheetOf total size counts.needs counts.missing
-    digits decimal field line
+    Rattle.topology.specs.Distance.distance isNext nextHops isMetric areMetrics arePaths pathsRefusal distanceCell
+    hopCell fourCell Rattle.sets.specs.Four.four filledPaths pathsOf areAtMost isSame isRise isFall isCommon
+    Rattle.changes.specs.Root.root newCell newMetrics oldHops newHops oldFours newFours waiting telling
+    Rattle.plan.specs.Waiting.due greatest above longest rank areTables planRefusal isPlanned fresh blank filled
+    recordOf tablesOf learn release ready write finish listens deliver isSound isKind readsB areRouters callOf
+    stepOf callsOf run replies lowest placed sheetOf total size counts.needs counts.missing digits decimal field line
     Rattle.prepare.specs.Bench.refusal refusedLine routerLine routerLines answerText stepLine stepLines rehearsal
     live liveCount rewritten written itemAt itemsFrom itemsAt rowsRefusal rowOf isOf neighbourRefusal
     itemsRefusal lowestTo lengthAt listRefusal listedTo listsRefusal areaRefusal isisRefusal listed noLinks isisMetrics
@@ -154,18 +169,22 @@ answer f refusal = orThen (readRefusal f lent) (refusedBy f)
 answer f root = planned f .root
 answer f ranks = take (routers f) (planned f .ranks)
 answer f waits = take (routers f) (planned f .waiting)
+answer f (due r) = getD (planned f .due) r 0
 answer f sheet = sheetOf (planned f)
-answer f (distance i j) = cell width (distancesOf (routers f) (metrics f) lent lent) i j
-answer f (set i j) = cell width (hopsOf (routers f) (metrics f) lent lent) i j
-answer f (distanceBy n table i j) = cell width (distancesOf n table lent lent) i j
-answer f (setBy n table i j) = cell width (hopsOf n table lent lent) i j
-answer f (oldSet i j) = cell width (filledIn f .oldHops) i j
-answer f (newSet i j) = cell width (filledIn f .newHops) i j
+answer f (distance i j) = cell width (paths f .distances) i j
+answer f (set i j) = cell width (paths f .hops) i j
+answer f (four i j) = cell width (paths f .fours) i j
+answer f (distanceBy n table i j) = cell width (pathsOf n table lentThree .distances) i j
+answer f (setBy n table i j) = cell width (pathsOf n table lentThree .hops) i j
+answer f (oldSet i j) = cell width (filledIn f .old .hops) i j
+answer f (newSet i j) = cell width (filledIn f .new .hops) i j
+answer f (oldFour i j) = cell width (filledIn f .old .fours) i j
+answer f (newFour i j) = cell width (filledIn f .new .fours) i j
 answer f (step k) = getD (refused 0 ∷ replied f) k (refused 0)
 answer f allSteps = replied f
 answer f needs = counts.needs (planned f)
 answer f missing = counts.missing (reached f)
-answer f printed = rehearsal f lent lentFive
+answer f printed = rehearsal f lent lentSeven
 answer f oldRefusal = fileRefusal Old f
 answer f rewrites = written f
 answer f (isis n identities cells) = isisRefusal n identities f (replicate cells 0)

@@ -9,6 +9,7 @@
 --     isisFaults       those that are refused
 --     largest          the largest areas, and those that are too large (02, No. 7)
 --     counted          how many calls a change needs, and how many are missing (02, No. 8)
+--     fiveNextHops     more next hops than a set of four holds (02, No. 9)
 --     rehearsed        and all that the rehearsal replies and prints
 --     agreed           the theorem
 use Prim.Native.Nat.{ℕ, zero, suc, _/_, _%_}
@@ -17,9 +18,10 @@ use mathlib.Core.List.{List, [], _∷_, _++_, map}
 use lib.ListN.{length, take, replicate}
 use Rattle.machine.specs.Answers.{ok, ignored, refused}
 use Rattle.text.specs.Text.{word}
-use Rattle.small_areas.specs.Questions.{Question, refusal, root, ranks, waits, distance, set, oldSet, newSet}
-use Rattle.small_areas.specs.Questions.{distanceBy, setBy, sheet, step, allSteps, needs, missing, printed}
-use Rattle.small_areas.specs.Questions.{oldRefusal, rewrites, isis, isisMetric, Value, answer}
+use Rattle.small_areas.specs.Questions.{Question, refusal, root, ranks, waits, due, distance, set, four}
+use Rattle.small_areas.specs.Questions.{oldSet, newSet, oldFour, newFour, distanceBy, setBy, sheet, step}
+use Rattle.small_areas.specs.Questions.{allSteps, needs, missing, printed, oldRefusal, rewrites, isis}
+use Rattle.small_areas.specs.Questions.{isisMetric, Value, answer}
 
 -- ---- bench files as bytes (01, "The bench file")
 -- a number in two bytes
@@ -540,6 +542,71 @@ counted =
     ∷ otherRoot (both 0 1 1 ++ both 0 2 3) (both 1 2 1) (2 ∷ 4 ∷ 0 ∷ [])
     ∷ countedC9 ∷ countedLink ∷ allDone ∷ []
 
+-- ---- four next hops in hardware (02, No. 9)
+-- Five ways from 0 to 6 cost the same: the full set is {1, 2, 3, 4, 5}, and the set of four {1, 2, 3, 4}. Every link is
+-- at 1.
+--
+--              1
+--            / 2 \
+--        0 --- 3 --- 6
+--            \ 4 /
+--              5
+abbrev fiveWays : List ℕ
+fiveWays =
+    both 0 1 1 ++ both 0 2 1 ++ both 0 3 1 ++ both 0 4 1 ++ both 0 5 1
+    ++ both 1 6 1 ++ both 2 6 1 ++ both 3 6 1 ++ both 4 6 1 ++ both 5 6 1
+
+-- A set of two is its own set of four, and a cell with a row or a column beyond n is 0.
+abbrev fiveEqual : Case
+fiveEqual =
+    case (bench 7 fiveWays [] [])
+    (set 0 6 is 62 ∷ four 0 6 is 30 ∷ set 1 5 is 65 ∷ four 1 5 is 65 ∷ four 0 7 is 0 ∷ four 7 0 is 0 ∷ [])
+
+-- Link 5–6 goes down, and the full set from 0 to 6 loses its highest member. The set of four stays: 6 is not due at 0.
+abbrev highestGoes : Case
+highestGoes =
+    case (bench 7 fiveWays (both 5 6 down) [])
+    (oldSet 0 6 is 62 ∷ newSet 0 6 is 30 ∷ oldFour 0 6 is 30 ∷ newFour 0 6 is 30 ∷ due 0 is 0 ∷ [])
+
+-- Link 1–6 goes down, and the full set loses its lowest member. Router 5 comes into the set of four: 6 is due at 0.
+abbrev lowestGoes : Case
+lowestGoes =
+    case (bench 7 fiveWays (both 1 6 down) [])
+    (oldSet 0 6 is 62 ∷ newSet 0 6 is 60 ∷ oldFour 0 6 is 30 ∷ newFour 0 6 is 60 ∷ due 0 is 64 ∷ [])
+
+-- Link 4–5, at 2, goes down; all other links are at 1. From 5 to 4 the full set is {0, 1, 2, 3, 4}, and the set of four
+-- does not have 4. No set of four changes, so nothing is due; and yet 4, the root, waits for 5 too, whose full set has
+-- it: 3 * 6 + 0 + (4 + 5) calls.
+--
+--              0                    0
+--            / 1 \                / 1 \
+--        4 --- 2 --- 5        4 --- 2 --- 5
+--        |   \ 3 /   |            \ 3 /
+--        +-----------+
+abbrev fourWays : List ℕ
+fourWays =
+    both 0 4 1 ++ both 1 4 1 ++ both 2 4 1 ++ both 3 4 1
+    ++ both 0 5 1 ++ both 1 5 1 ++ both 2 5 1 ++ both 3 5 1
+
+abbrev notDueWaitedFor : Case
+notDueWaitedFor =
+    case
+    (bench 6 (fourWays ++ both 4 5 2) (both 4 5 down)
+    (learn 4 ++ learn 5 ++ release 5 ++ write 5 4 ++ finish 5 ++ deliver 5 4))
+    (root is 4 ∷ oldSet 5 4 is 31 ∷ newSet 5 4 is 15 ∷ oldFour 5 4 is 15 ∷ newFour 5 4 is 15 ∷ due 5 is 0
+    ∷ waits is (32 ∷ 32 ∷ 32 ∷ 32 ∷ 47 ∷ 0 ∷ []) ∷ allSteps is (ok ∷ ok ∷ ok ∷ refused 25 ∷ ok ∷ ok ∷ []) ∷ needs is 27
+    ∷ [])
+
+-- Link 4–5 comes up again: 5 waits for all of its new full set to the root, 4 among it, and nothing is due at 5.
+abbrev notDueWaits : Case
+notDueWaits =
+    case (bench 6 fourWays (both 4 5 2) [])
+    (root is 4 ∷ oldFour 5 4 is 15 ∷ newSet 5 4 is 31 ∷ newFour 5 4 is 15 ∷ due 5 is 0
+    ∷ waits is (16 ∷ 16 ∷ 16 ∷ 16 ∷ 0 ∷ 31 ∷ []) ∷ [])
+
+abbrev fiveNextHops : List Case
+fiveNextHops = fiveEqual ∷ highestGoes ∷ lowestGoes ∷ notDueWaitedFor ∷ notDueWaits ∷ []
+
 -- ---- the rehearsal, with the lines that 01 has below its file, as they are since 02, No. 2, and the one of No. 8
 abbrev routerLines : List ℕ
 routerLines =
@@ -571,7 +638,8 @@ rehearsed = replied ∷ wholeText ∷ []
 cases : List Case
 cases =
     C1 ∷ C2 ∷ C3 ∷ C4 ∷ C5 ∷ C6 ∷ C7 ∷ C8 ∷ C9 ∷ C10 ∷ C11 ∷ C12 ∷ C13
-    ∷ sheets ++ orders ++ halfLinks ++ deadLinks ++ isisAreas ++ isisFaults ++ largest ++ counted ++ rehearsed
+    ∷ sheets ++ orders ++ halfLinks ++ deadLinks ++ isisAreas ++ isisFaults ++ largest ++ counted ++ fiveNextHops
+    ++ rehearsed
 
 -- the questions of a row, with the definitions' answers
 abbrev answered : (c : Case) → List Result
@@ -582,34 +650,39 @@ abbrev Agree : (cs : List Case) → Type 0
 Agree [] = Unit {0}
 Agree (c ∷ cs) = (answered c ≡ c .results) × Agree cs
 
--- The definitions agree with the list: both sides are computed, in each of its 73 rows.
+-- The definitions agree with the list: both sides are computed, in each of its 78 rows.
 last-rows : Agree rehearsed
 unfolding answer
 last-rows = (refl, (refl, tt))
 
-counted-rows : Agree (counted ++ rehearsed)
+five-rows : Agree (fiveNextHops ++ rehearsed)
 unfolding answer
-counted-rows = (refl, (refl, (refl, (refl, (refl, (refl, (refl, (refl, (refl, last-rows)))))))))
+five-rows = (refl, (refl, (refl, (refl, (refl, last-rows)))))
 
-large-rows : Agree (largest ++ counted ++ rehearsed)
+counted-rows : Agree (counted ++ fiveNextHops ++ rehearsed)
+unfolding answer
+counted-rows = (refl, (refl, (refl, (refl, (refl, (refl, (refl, (refl, (refl, five-rows)))))))))
+
+large-rows : Agree (largest ++ counted ++ fiveNextHops ++ rehearsed)
 unfolding answer hub
 large-rows = (refl, (refl, (refl, (refl, (refl, counted-rows)))))
 
-isis-rows : Agree (isisFaults ++ largest ++ counted ++ rehearsed)
+isis-rows : Agree (isisFaults ++ largest ++ counted ++ fiveNextHops ++ rehearsed)
 unfolding answer
 isis-rows = (refl, (refl, (refl, (refl, (refl, (refl, (refl, (refl, (refl, (refl, (refl, (refl, large-rows))))))))))))
 
-dead-rows : Agree (deadLinks ++ isisAreas ++ isisFaults ++ largest ++ counted ++ rehearsed)
+dead-rows : Agree (deadLinks ++ isisAreas ++ isisFaults ++ largest ++ counted ++ fiveNextHops ++ rehearsed)
 unfolding answer
 dead-rows = (refl, (refl, (refl, (refl, (refl, (refl, (refl, (refl, (refl, (refl, (refl, (refl, isis-rows))))))))))))
 
-half-rows : Agree (halfLinks ++ deadLinks ++ isisAreas ++ isisFaults ++ largest ++ counted ++ rehearsed)
+half-rows : Agree (halfLinks ++ deadLinks ++ isisAreas ++ isisFaults ++ largest ++ counted ++ fiveNextHops ++ rehearsed)
 unfolding answer
 half-rows = (refl, (refl, (refl, (refl, (refl, (refl, (refl, (refl, (refl, (refl, (refl, dead-rows)))))))))))
 
 others :
     Agree
-    (sheets ++ orders ++ halfLinks ++ deadLinks ++ isisAreas ++ isisFaults ++ largest ++ counted ++ rehearsed)
+    (sheets ++ orders ++ halfLinks ++ deadLinks ++ isisAreas ++ isisFaults ++ largest ++ counted ++ fiveNextHops
+    ++ rehearsed)
 unfolding answer
 others = (refl, (refl, (refl, (refl, (refl, (refl, (refl, (refl, (refl, half-rows)))))))))
 

@@ -84,9 +84,11 @@ fn plan(n: usize, old: &[u32; LONG_TABLE], list: &[u8; LONG_LIST], bytes: usize)
 {
     let mut new = [0; CELLS];
     let mut old_dist = [0; CELLS];
-    let mut new_dist = [0; CELLS];
     let mut old_hops = [0; CELLS];
+    let mut old_fours = [0; CELLS];
+    let mut new_dist = [0; CELLS];
     let mut new_hops = [0; CELLS];
+    let mut new_fours = [0; CELLS];
     let table = &old[..];
     let changes = &list[..];
     let p = plan::plan(
@@ -95,9 +97,11 @@ fn plan(n: usize, old: &[u32; LONG_TABLE], list: &[u8; LONG_LIST], bytes: usize)
         &changes[0..bytes],
         &mut new,
         &mut old_dist,
-        &mut new_dist,
         &mut old_hops,
+        &mut old_fours,
+        &mut new_dist,
         &mut new_hops,
+        &mut new_fours,
     );
     p.record
 }

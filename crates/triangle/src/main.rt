@@ -14,9 +14,11 @@ use steps::Stepped;
 fn main() {
     let mut new = [0u32; CELLS];
     let mut old_dist = [0u32; CELLS];
-    let mut new_dist = [0u32; CELLS];
     let mut old_hops: [Set; CELLS] = [0; CELLS];
+    let mut old_fours: [Set; CELLS] = [0; CELLS];
+    let mut new_dist = [0u32; CELLS];
     let mut new_hops: [Set; CELLS] = [0; CELLS];
+    let mut new_fours: [Set; CELLS] = [0; CELLS];
     let mut old = [UNUSED; CELLS];
     old[WIDTH * 0 + 1] = 1;
     old[WIDTH * 1 + 0] = 1;
@@ -31,9 +33,11 @@ fn main() {
         &changes,
         &mut new,
         &mut old_dist,
-        &mut new_dist,
         &mut old_hops,
+        &mut old_fours,
+        &mut new_dist,
         &mut new_hops,
+        &mut new_fours,
     );
     let fresh = print_plan(planned);
     let learned = print_step(fresh.learn(1));

@@ -12,7 +12,7 @@ ghost use mathlib.Core.List.{List};
 ghost use Prim.Native.Nat.{ℕ, _<_};
 ghost use lib.ListN.{length, take};
 ghost use Rattle.io.specs.Counts.{Counts};
-ghost use Rattle.plan.specs.Plan.{asTables};
+ghost use Rattle.plan.specs.Plan.{tablesIn};
 ghost use Rattle.bench_file.specs.Sections.{largest};
 ghost use Rattle.report.specs.Report.{unfinished};
 ghost use Rattle.streams.specs.Streams.{ReadOf};
@@ -27,9 +27,11 @@ fn main() {
     let mut old = [UNUSED; CELLS];
     let mut new = [UNUSED; CELLS];
     let mut old_dist = [0u32; CELLS];
-    let mut new_dist = [0u32; CELLS];
     let mut old_hops: [Set; CELLS] = [0; CELLS];
+    let mut old_fours: [Set; CELLS] = [0; CELLS];
+    let mut new_dist = [0u32; CELLS];
     let mut new_hops: [Set; CELLS] = [0; CELLS];
+    let mut new_fours: [Set; CELLS] = [0; CELLS];
     let mut out = [0u8; UNFINISHED_ROOM];
     let printed = whole(
         &file,
@@ -37,9 +39,11 @@ fn main() {
         &mut old,
         &mut new,
         &mut old_dist,
-        &mut new_dist,
         &mut old_hops,
+        &mut old_fours,
+        &mut new_dist,
         &mut new_hops,
+        &mut new_fours,
         &mut out,
     );
     streams::write(b"unfinished", &out[..printed]);
@@ -54,18 +58,20 @@ fn whole(
     old: &mut [u32],
     new: &mut [u32],
     old_dist: &mut [u32],
-    new_dist: &mut [u32],
     old_hops: &mut [Set],
+    old_fours: &mut [Set],
+    new_dist: &mut [u32],
     new_hops: &mut [Set],
+    new_fours: &mut [Set],
     out: &mut [u8; UNFINISHED_ROOM],
 ) -> usize
     requires { ⌜ largest < length (now file) ⌝ }
     requires { ⌜ Counts count (now file) ⌝ }
     ensures counted { λ r. ⌜ Counts r (now (out .exit)) ⌝ }
     ensures text { λ r.
-        let lent = asTables (now (new .entry))
-        (now («old_dist» .entry)) (now («new_dist» .entry))
-        (now («old_hops» .entry)) (now («new_hops» .entry)) in
+        let lent = tablesIn (new .entry)
+        («old_dist» .entry) («old_hops» .entry) («old_fours» .entry)
+        («new_dist» .entry) («new_hops» .entry) («new_fours» .entry) in
         ⌜ ((input : List ℕ)
         → ReadOf input (now (file .entry)) count
         → take r (now (out .exit)) ≡ unfinished input (now (old .entry)) lent) ⌝ }
@@ -75,9 +81,11 @@ fn whole(
         old,
         new,
         old_dist,
-        new_dist,
         old_hops,
+        old_fours,
+        new_dist,
         new_hops,
+        new_fours,
         out,
     )
 }

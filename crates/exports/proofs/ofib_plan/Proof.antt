@@ -28,11 +28,18 @@ same-length-4 c = search needs
 same-length-5 : tie.Need-same-length-5
 same-length-5 c = search needs
 
+same-length-6 : tie.Need-same-length-6
+same-length-6 c = search needs
+
+same-length-7 : tie.Need-same-length-7
+same-length-7 c = search needs
+
 returns : tie.Need-returns
 returns c =
     let handed = c .before .hand-back in
-    let at = c .before .before .before .before .before .before .before .before .before .before .before .before in
-    let plan = at .before .before .before .before .before .before .before .before .before .plan in
+    let handing = c .before .before .before .before .before .before .before .before .before .before .before in
+    let tables = handing .before .before .before .before .before .before .before in
+    let plan = tables .before .before .before .before .before .before .before .plan in
     (c .number .ensures ∙ plan .ensures .0, (handed .ensures ∙ plan .ensures .1 .0, plan .ensures .1 .1))
 
 pub ofib-plan-spec : {M : Type 1} → statement M
@@ -47,4 +54,6 @@ ofib-plan-spec =
     same-length-3
     same-length-4
     same-length-5
+    same-length-6
+    same-length-7
     returns)

@@ -1,67 +1,59 @@
 -- The tables are measured one after another.
-use mathlib.Core.Path.{_≡_, refl}
-use mathlib.Core.Bool.{false}
+use mathlib.Core.Path.{_≡_, refl, sym, _∙_}
+use mathlib.Core.Bool.{Bool, true, false, not}
 use mathlib.Core.Logic.{_≢_}
 use mathlib.Core.List.{List}
 use Prim.Native.Nat.{ℕ, _*_}
-use lib.Dec.{eqb}
+use borrow.Author.Needs.{needs}
+use borrow.Author.Tests.{not-true, not-false}
 use lib.ListN.{length}
 use Rattle.area.specs.Limits.{width}
-use Rattle.area.specs.SizeLaws.{table-true, table-false, table-is}
-use Rattle.plan.specs.Plan.{asTables, areTables}
+use Rattle.area.specs.SizeLaws.{table-true, table-false}
+use Rattle.paths.specs.Paths.{PathTables, arePaths}
+use Rattle.plan.specs.Plan.{areTables}
 use Rattle.plan.proofs.are_tables.Statement.{statement}
 use Rattle.plan.proofs.are_tables.Tie as tie
 
 -- one law for each return
-module _ (m a b c d e : List ℕ) where
-  short-m : length m ≢ width * width → false ≡ areTables m (asTables a b c d e)
+module _ (m a : List ℕ) (o p : PathTables) where
+  short-m : length m ≢ width * width → false ≡ areTables m (record { metrics = a; old = o; new = p })
   unfolding areTables
   short-m f = rw (table-false m f) refl
 
   module _ (pm : length m ≡ width * width) where
-    short-a : length a ≢ width * width → false ≡ areTables m (asTables a b c d e)
+    short-new : length a ≢ width * width → false ≡ areTables m (record { metrics = a; old = o; new = p })
     unfolding areTables
-    short-a f = rw (table-true m pm, table-false a f) refl
+    short-new f = rw (table-true m pm, table-false a f) refl
 
-    module _ (pa : length a ≡ width * width) where
-      short-b : length b ≢ width * width → false ≡ areTables m (asTables a b c d e)
+    module _ (pa : length a ≡ width * width) (ok : Bool) (told : ok ≡ arePaths o) where
+      short-old-paths : not ok ≡ true → false ≡ areTables m (record { metrics = a; old = o; new = p })
       unfolding areTables
-      short-b f = rw (table-true m pm, table-true a pa, table-false b f) refl
+      short-old-paths f = rw (table-true m pm, table-true a pa, sym told ∙ not-true ok f) refl
 
-      module _ (pb : length b ≡ width * width) where
-        short-c : length c ≢ width * width → false ≡ areTables m (asTables a b c d e)
+      module _ (t : not ok ≡ false) where
+        last : (r : Bool) → r ≡ arePaths p → r ≡ areTables m (record { metrics = a; old = o; new = p })
         unfolding areTables
-        short-c f = rw (table-true m pm, table-true a pa, table-true b pb, table-false c f) refl
-
-        module _ (pc : length c ≡ width * width) where
-          short-d : length d ≢ width * width → false ≡ areTables m (asTables a b c d e)
-          unfolding areTables
-          short-d f = rw (table-true m pm, table-true a pa, table-true b pb, table-true c pc, table-false d f) refl
-
-          module _ (pd : length d ≡ width * width) where
-            last : eqb (length e) (width * width) ≡ areTables m (asTables a b c d e)
-            unfolding areTables
-            last =
-                rw (table-true m pm, table-true a pa, table-true b pb, table-true c pc, table-true d pd, table-is e)
-                refl
+        last r e = rw (table-true m pm, table-true a pa, sym told ∙ not-false ok t) e
 
 returns : tie.Need-returns
 returns c = search short-m
 
 returns-2 : tie.Need-returns-2
-returns-2 c = search short-a
+returns-2 c = search short-new
+
+are-paths-requires : tie.Need-are-paths-requires
+are-paths-requires c κs = search needs
 
 returns-3 : tie.Need-returns-3
-returns-3 c = search short-b
+returns-3 c = search short-old-paths
+
+are-paths-requires-2 : tie.Need-are-paths-requires-2
+are-paths-requires-2 c κs = search needs
 
 returns-4 : tie.Need-returns-4
-returns-4 c = search short-c
-
-returns-5 : tie.Need-returns-5
-returns-5 c = search short-d
-
-returns-6 : tie.Need-returns-6
-returns-6 c = search last
+returns-4 c = search last
 
 pub are-tables-spec : {M : Type 1} → statement M
-are-tables-spec = tie.close (tie.spec returns returns-2 returns-3 returns-4 returns-5 returns-6)
+are-tables-spec =
+    tie.close
+    (tie.spec returns returns-2 are-paths-requires returns-3 are-paths-requires-2 returns-4)

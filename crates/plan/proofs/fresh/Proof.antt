@@ -1,21 +1,23 @@
--- The record from the order; the root is below the width, so it fits a byte.
+-- The record from the order and from what is due; the root is below the width, so it fits a byte.
 use mathlib.Core.Path.{_≡_, refl}
 use mathlib.Core.Bool.{Bool}
 use mathlib.Core.Logic.{⊎-elim}
+use mathlib.Core.List.{List}
 use Prim.Native.Nat.{ℕ}
 use borrow.Author.Needs.{needs}
 use denote.Ref.{now}
 use Rattle.area.specs.Tests.{pick}
 use Rattle.order.specs.declared.Order.{Order}
-use Rattle.order.specs.Order.{orderOf}
+use Rattle.order.specs.Order.{orderOf, dueTable}
 use Rattle.plan.specs.Plan.{zeros}
 use Rattle.plan.specs.Parts.{started}
 use Rattle.plan.proofs.fresh.Statement.{statement}
 use Rattle.plan.proofs.fresh.Tie as tie
 
 started-is :
-    (n c d : ℕ) (rising : Bool) (o p : Order)
+    (n c d : ℕ) (rising : Bool) (o p : Order) (u v : List ℕ)
     → o ≡ p
+    → u ≡ v
     → d ≡ pick rising 1 2
     → record {
       n = n;
@@ -24,30 +26,35 @@ started-is :
       ranks = o .ranks;
       waiting = o .waiting;
       telling = o .telling;
-      due = o .due;
+      due = u;
       states = zeros;
       written = zeros;
     }
-    ≡ started n c rising p
-started-is n c d rising o p e f = rw (e, f) refl
+    ≡ started n c rising p v
+started-is n c d rising o p u v e g f = rw (e, g, f) refl
 
 order-of-requires : tie.Need-order-of-requires
 order-of-requires c κs = search needs
 
-cast-t13 : tie.Need-cast-t13
-cast-t13 c = search needs
-
 cast-t15 : tie.Need-cast-t15
 cast-t15 c = search needs
+
+cast-t17 : tie.Need-cast-t17
+cast-t17 c = search needs
+
+due-table-requires : tie.Need-due-table-requires
+due-table-requires c κs = search needs
 
 returns : tie.Need-returns
 returns c =
     let way = c .before .before .before .before in
     let made = way .before .order-of in
-    let a = way .before .before .before .before .args in
+    let a = way .before .before .before .before .before .before .args in
     let order = orderOf (a .n) (a .root) (a .rising) (now (a .old-hops)) (now (a .new-hops)) in
-    started-is (a .n) (a .root) (way .if1 .t18) (a .rising) (made .result) order (made .ensures)
+    let due = dueTable (a .n) (now (a .old-fours)) (now (a .new-fours)) in
+    started-is (a .n) (a .root) (way .if1 .t20) (a .rising) (made .result) order (c .due-table .result) due
+    (made .ensures) (c .due-table .ensures)
     (⊎-elim (λ w. rw (w .0 .taken) (w .1)) (λ w. rw (w .0 .left) (w .1)) (way .if1 .came))
 
 pub fresh-spec : {M : Type 1} → statement M
-fresh-spec = tie.close (tie.spec order-of-requires cast-t13 cast-t15 returns)
+fresh-spec = tie.close (tie.spec order-of-requires cast-t15 cast-t17 due-table-requires returns)

@@ -12,7 +12,7 @@ use lib.Dec.{eqb}
 use denote.Ref.{now}
 use Rattle.area.specs.declared.refusal.Verdict.{Verdict}
 use Rattle.area.specs.Refusals.{verdictNumber}
-use Rattle.plan.specs.Plan.{Tables, asTables, areTables, planRefusal, isPlanned}
+use Rattle.plan.specs.Plan.{Tables, tablesIn, areTables, planRefusal, isPlanned}
 use Rattle.plan.specs.PlanLaws.{sized-of, planned-is, planned-true, planned-false}
 use Rattle.plan.specs.PlanLaws.{record-planned, record-refused, tables-planned, tables-refused}
 use Rattle.plan.proofs.plan.Statement.{statement}
@@ -40,16 +40,16 @@ module _
 abbrev lent : tie.Start → Tables
 lent s =
     let a = s .args in
-    asTables (now (a .new)) (now (a .old-dist)) (now (a .new-dist)) (now (a .old-hops)) (now (a .new-hops))
+    tablesIn (a .new) (a .old-dist) (a .old-hops) (a .old-fours) (a .new-dist) (a .new-hops) (a .new-fours)
 
 are-tables-requires : tie.Need-are-tables-requires
 are-tables-requires c κs = search needs
 
 judge-requires : tie.Need-judge-requires
 judge-requires c κs =
-    let asked = c .before .before .before .before .before .before in
-    let start = asked .before .before .before .before .before .before .before in
-    λ e. sized-of (now (start .args .old)) (lent start) (sym (c .are-tables .ensures) ∙ e) .old
+    let asked = c .before .before .before .before .before .before .before .before in
+    let start = asked .before .before .before .before .before .before .before .before .before in
+    λ e. sized-of (now (start .args .old)) (lent start) (sym (c .are-tables .ensures) ∙ e) .given
 
 is-accepted-requires : tie.Need-is-accepted-requires
 is-accepted-requires c κs = search needs
@@ -72,6 +72,12 @@ same-length-4 c = search needs
 same-length-5 : tie.Need-same-length-5
 same-length-5 c = search needs
 
+same-length-6 : tie.Need-same-length-6
+same-length-6 c = search needs
+
+same-length-7 : tie.Need-same-length-7
+same-length-7 c = search needs
+
 returns : tie.Need-returns
 returns c =
     let at = c .before in
@@ -79,8 +85,8 @@ returns c =
     let judged = at .before .before .judge in
     let sizes = at .before .before .before in
     let sized = sizes .are-tables in
-    let asked = sizes .before .before .before .before .before .before in
-    let start = asked .before .before .before .before .before .before .before in
+    let asked = sizes .before .before .before .before .before .before .before .before in
+    let start = asked .before .before .before .before .before .before .before .before .before in
     let n = start .args .n in
     let m = now (start .args .old) in
     let l = now (start .args .list) in
@@ -94,13 +100,13 @@ returns c =
 
 fill-requires : tie.Need-fill-requires
 fill-requires c κs =
-    let at = c .before .before .before .before .before in
+    let at = c .before .before .before .before .before .before .before in
     let accepted = at .before .is-accepted in
     let judged = at .before .before .judge in
     let sizes = at .before .before .before in
     let sized = sizes .are-tables in
-    let asked = sizes .before .before .before .before .before .before in
-    let start = asked .before .before .before .before .before .before .before in
+    let asked = sizes .before .before .before .before .before .before .before .before in
+    let start = asked .before .before .before .before .before .before .before .before .before in
     let n = start .args .n in
     let m = now (start .args .old) in
     let l = now (start .args .list) in
@@ -111,12 +117,6 @@ fill-requires c κs =
     let found = judged .ensures .1 (zero (accepted .result) (accepted .ensures) (at .if1 .left)) in
     (known .1, (found, sized-of m t (known .0)))
 
-same-length-6 : tie.Need-same-length-6
-same-length-6 c = search needs
-
-same-length-7 : tie.Need-same-length-7
-same-length-7 c = search needs
-
 same-length-8 : tie.Need-same-length-8
 same-length-8 c = search needs
 
@@ -126,16 +126,29 @@ same-length-9 c = search needs
 same-length-10 : tie.Need-same-length-10
 same-length-10 c = search needs
 
+same-length-11 : tie.Need-same-length-11
+same-length-11 c = search needs
+
+same-length-12 : tie.Need-same-length-12
+same-length-12 c = search needs
+
+same-length-13 : tie.Need-same-length-13
+same-length-13 c = search needs
+
+same-length-14 : tie.Need-same-length-14
+same-length-14 c = search needs
+
 returns-2 : tie.Need-returns-2
 returns-2 c =
-    let filled = c .before .before .before .before .before .before .before .before .before .before in
-    let at = filled .before .before .before .before .before .before in
+    let tables = c .before .before .before .before .before .before .before in
+    let filled = tables .before .before .before .before .before .before .before in
+    let at = filled .before .before .before .before .before .before .before .before in
     let accepted = at .before .is-accepted in
     let judged = at .before .before .judge in
     let sizes = at .before .before .before in
     let sized = sizes .are-tables in
-    let asked = sizes .before .before .before .before .before .before in
-    let start = asked .before .before .before .before .before .before .before in
+    let asked = sizes .before .before .before .before .before .before .before .before in
+    let start = asked .before .before .before .before .before .before .before .before .before in
     let n = start .args .n in
     let m = now (start .args .old) in
     let l = now (start .args .list) in
@@ -161,11 +174,15 @@ plan-spec =
     same-length-3
     same-length-4
     same-length-5
-    returns
-    fill-requires
     same-length-6
     same-length-7
+    returns
+    fill-requires
     same-length-8
     same-length-9
     same-length-10
+    same-length-11
+    same-length-12
+    same-length-13
+    same-length-14
     returns-2)

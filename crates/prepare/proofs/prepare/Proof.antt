@@ -3,7 +3,7 @@
 use mathlib.Core.Path.{ap, _∙_}
 use borrow.Author.Needs.{needs}
 use denote.Ref.{now}
-use Rattle.plan.specs.Plan.{asTables}
+use Rattle.plan.specs.Plan.{tablesIn}
 use Rattle.bench_file.specs.declared.Contents.{Contents}
 use Rattle.prepare.specs.BenchLaws.{changes-within, refusal-given, record-given, tables-given}
 use Rattle.prepare.proofs.prepare.Statement.{statement}
@@ -15,7 +15,7 @@ read-requires c κs = search needs
 changes-requires : tie.Need-changes-requires
 changes-requires c κs =
     let read = c .before .before .before in
-    let a = read .before .before .before .before .before .before .before .before .before .args in
+    let a = read .before .before .before .before .before .before .before .before .before .before .before .args in
     changes-within (now (a .file)) (now (a .old)) (read .read .result .contents) (read .read .ensures .1 .0)
 
 plan-requires : tie.Need-plan-requires
@@ -26,8 +26,9 @@ started-requires c κs = search needs
 
 same-length : tie.Need-same-length
 same-length c =
-    let planned = c .before .before .before .before .before .before .before .before .before .before .before in
-    planned .before .before .before .before .before .before .before .before .before .before .old .given
+    let tables = c .before .before .before .before .before .before .before .before in
+    let planned = tables .before .before .before .before .before .before .before in
+    planned .before .before .before .before .before .before .before .before .before .before .before .before .old .given
 
 same-length-2 : tie.Need-same-length-2
 same-length-2 c = search needs
@@ -44,13 +45,20 @@ same-length-5 c = search needs
 same-length-6 : tie.Need-same-length-6
 same-length-6 c = search needs
 
+same-length-7 : tie.Need-same-length-7
+same-length-7 c = search needs
+
+same-length-8 : tie.Need-same-length-8
+same-length-8 c = search needs
+
 returns : tie.Need-returns
 returns c =
     let both = c .started in
-    let planned = c .before .before .before .before .before .before .before .before .before .before .before in
-    let listed = planned .before .before .before .before .before .before .before in
+    let tables = c .before .before .before .before .before .before .before .before in
+    let planned = tables .before .before .before .before .before .before .before in
+    let listed = planned .before .before .before .before .before .before .before .before .before in
     let found = listed .before .before .before .before in
-    let a = found .before .before .before .before .before .before .before .before .before .args in
+    let a = found .before .before .before .before .before .before .before .before .before .before .before .args in
     let plan = planned .plan in
     let list = listed .changes .ensures in
     let read = found .read in
@@ -59,7 +67,7 @@ returns c =
     let f = now (a .file) in
     let m = now (a .old) in
     let t =
-    asTables (now (a .new)) (now (a .old-dist)) (now (a .new-dist)) (now (a .old-hops)) (now (a .new-hops)) in
+    tablesIn (a .new) (a .old-dist) (a .old-hops) (a .old-fours) (a .new-dist) (a .new-hops) (a .new-fours) in
     let contents = read .result .contents in
     let answer =
     refusal-given f m t contents said _ old _ list (read .ensures .0) (plan .ensures .0) (both .ensures .0) in
@@ -82,4 +90,6 @@ prepare-spec =
     same-length-4
     same-length-5
     same-length-6
+    same-length-7
+    same-length-8
     returns)

@@ -26,10 +26,16 @@ same-length-4 c = search needs
 same-length-5 : tie.Need-same-length-5
 same-length-5 c = search needs
 
+same-length-6 : tie.Need-same-length-6
+same-length-6 c = search needs
+
+same-length-7 : tie.Need-same-length-7
+same-length-7 c = search needs
+
 returns : tie.Need-returns
 returns c =
-    let tables = c .before .before in
-    let plan = tables .before .before .before .before .before .before .before .before .before .before .plan in
+    let tables = c .before .before .before .before .before .before .before .before .before in
+    let plan = tables .before .before .before .before .before .before .before .plan in
     (plan .ensures .0, (c .in-turn .ensures ∙ ap sheetOf (plan .ensures .1 .0), plan .ensures .1 .1))
 
 pub sheet-spec : {M : Type 1} → statement M
@@ -43,4 +49,6 @@ sheet-spec =
     same-length-3
     same-length-4
     same-length-5
+    same-length-6
+    same-length-7
     returns)

@@ -4,7 +4,7 @@ use native.Mathlib.Omega.{arith}
 use borrow.Author.Needs.{needs}
 use lib.ListN.{length}
 use denote.Ref.{now}
-use Rattle.plan.specs.Plan.{asTables}
+use Rattle.plan.specs.Plan.{tablesIn}
 use Rattle.report.specs.Report.{sheetSteps}
 use Rattle.report.specs.RoomLaws.{sheet-steps-room}
 use Rattle.report.specs.FirstBytesLaws.{sheet-steps-first}
@@ -36,18 +36,23 @@ same-length-5 c = search needs
 same-length-6 : tie.Need-same-length-6
 same-length-6 c = search needs
 
+same-length-7 : tie.Need-same-length-7
+same-length-7 c = search needs
+
+same-length-8 : tie.Need-same-length-8
+same-length-8 c = search needs
+
 returns : tie.Need-returns
 returns c =
-    let at-end = c .before .before .before .before .before .before in
-    let called = at-end .before .before .before .before .before .before in
-    let lent = called .before .before .before .before .before .before .before .before .before in
-    let start = lent .before .before .before .before .before .before .before in
+    let at-end = c .before .before .before .before .before .before .before .before in
+    let called = at-end .before .before .before .before .before .before .before .before in
+    let lent = called .before .before .before .before .before .before .before .before .before .before .before in
+    let start = lent .before .before .before .before .before .before .before .before .before in
     let a = start .args in
     let file = now (a .file) in
     let m = now (a .old) in
-    let before = now (a .old-dist) in
-    let after = now (a .new-dist) in
-    let t = asTables (now (a .new)) before after (now (a .old-hops)) (now (a .new-hops)) in
+    let t =
+    tablesIn (a .new) (a .old-dist) (a .old-hops) (a .old-fours) (a .new-dist) (a .new-hops) (a .new-fours) in
     whole-text (λ f. sheetSteps f m t) file (a .count) (called .sheet-steps .ensures .0)
     (λ f. omega (arith, sheet-steps-room f m t))
     (λ f. sheet-steps-first f m t (length file) (omega arith))
@@ -64,4 +69,6 @@ whole-spec =
     same-length-4
     same-length-5
     same-length-6
+    same-length-7
+    same-length-8
     returns)

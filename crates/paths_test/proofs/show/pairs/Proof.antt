@@ -7,10 +7,10 @@ use Rattle.paths_test.proofs.show.pairs.Statement.{statement}
 use Rattle.paths_test.proofs.show.pairs.Tie as tie
 
 abbrev Inv-loop : tie.InvT-loop
-Inv-loop mark n dist hops k₀ k = k ≤ width * width
+Inv-loop mark n dist hops fours k₀ k = k ≤ width * width
 
 abbrev μ-loop : tie.MeasureT-loop
-μ-loop mark n dist hops k₀ k = width * width - k
+μ-loop mark n dist hops fours k₀ k = width * width - k
 
 pub pairs-spec : {M : Type 1} → statement M
 pairs-spec =
@@ -19,6 +19,8 @@ pairs-spec =
     Inv-loop
     μ-loop
     (λ c. search needs)
+    (λ c. omega arith)
+    (λ c. omega arith)
     (λ c. omega arith)
     (λ c. omega arith)
     (λ c. omega arith)

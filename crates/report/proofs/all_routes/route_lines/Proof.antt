@@ -11,15 +11,15 @@ use Rattle.report.proofs.all_routes.route_lines.Statement.{statement}
 use Rattle.report.proofs.all_routes.route_lines.Tie as tie
 
 abbrev Inv-loop : tie.InvT-loop
-Inv-loop n old-dist old-hops new-dist new-hops out₀ at₀ i₀ out at i =
+Inv-loop n old-dist old-hops new-dist new-hops out₀ start at₀ i₀ out at i =
     (i ≤ n) × Full old-dist old-hops new-dist new-hops
-    × Appended out₀ 0 (routeLines old-dist old-hops new-dist new-hops n i) out at
+    × Appended out₀ start (routeLines old-dist old-hops new-dist new-hops n i) out at
 
 abbrev μ-loop : tie.MeasureT-loop
-μ-loop n old-dist old-hops new-dist new-hops out₀ at₀ i₀ out at i = n - i
+μ-loop n old-dist old-hops new-dist new-hops out₀ start at₀ i₀ out at i = n - i
 
 loop-holds : tie.Need-loop-holds Inv-loop μ-loop
-loop-holds c = (omega arith, c .before .before .before .before .before .pre .1, routes-none _ _ _ _ _ _)
+loop-holds c = (omega arith, c .before .before .before .before .before .pre .1, routes-none _ _ _ _ _ _ _ (omega arith))
 
 row-lines-requires : tie.Need-row-lines-requires Inv-loop μ-loop
 row-lines-requires c κs =

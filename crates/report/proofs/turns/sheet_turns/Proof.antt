@@ -9,8 +9,8 @@ prepare-requires c κs = search needs
 
 printed-requires : tie.Need-printed-requires
 printed-requires c κs =
-    let at = c .before .before .before .before .before .before .before in
-    let is = at .before .before .before .before .before .before .prepare .ensures in
+    let at = c .before .before .before .before .before .before .before .before .before in
+    let is = at .before .before .before .before .before .before .before .before .prepare .ensures in
     few-printed _ _ _ _ (is .0) _ (is .1 .0)
 
 same-length : tie.Need-same-length
@@ -34,6 +34,12 @@ same-length-6 c = search needs
 same-length-7 : tie.Need-same-length-7
 same-length-7 c = search needs
 
+same-length-8 : tie.Need-same-length-8
+same-length-8 c = search needs
+
+same-length-9 : tie.Need-same-length-9
+same-length-9 c = search needs
+
 returns : tie.Need-returns
 returns c = (search sheet-turns-printed, (search needs, search needs))
 
@@ -50,4 +56,6 @@ sheet-turns-spec =
     same-length-5
     same-length-6
     same-length-7
+    same-length-8
+    same-length-9
     returns)
