@@ -3,7 +3,7 @@
 
 use crate::isis;
 use crate::limits::{CELLS, ENTRY, MOST_STEPS, STEP, Set, UNUSED, WIDTH};
-use crate::plan::Record;
+use crate::plan::{Record, TIMES};
 
 pub struct Area {
     pub metric: Vec<u32>,
@@ -110,8 +110,8 @@ fn routers(set: Set) -> impl Iterator<Item = u8> {
     (0..WIDTH as u8).filter(move |&r| set >> r & 1 == 1)
 }
 
-/// As many steps as a file may have: those of `progress`, evenly spread, and between them steps of any kind and any
-/// routers.
+/// As many steps as a file may have: those of `progress`, evenly spread, and between them steps of any routers and any
+/// kind but ticks, which would let routers go on before they are told. Kind 0 is unknown.
 pub fn mixed(fresh: &Record) -> Vec<u8> {
     let mut random = Random(3);
     let progress = progress(fresh);
@@ -123,7 +123,7 @@ pub fn mixed(fresh: &Record) -> Vec<u8> {
             steps.extend(&progress[STEP * taken..][..STEP]);
             taken += 1;
         } else {
-            let kind = 1 + random.below(6) as u8;
+            let kind = (1 + random.below(6) as u8) % 6;
             steps.extend([kind, any_router(&mut random), any_router(&mut random)]);
         }
     }
@@ -148,6 +148,8 @@ pub fn largest_file(area: &Area, steps: &[u8]) -> Vec<u8> {
     file.extend(links);
     file.push((area.changes.len() / ENTRY) as u8);
     file.extend(&area.changes);
+    file.extend(TIMES.hold.to_be_bytes());
+    file.extend(TIMES.step.to_be_bytes());
     file.extend(((steps.len() / STEP) as u16).to_be_bytes());
     file.extend(steps);
     file

@@ -2,10 +2,11 @@
 
 use crate::entries::{Entry, Pairs};
 use crate::limits::{CELLS, ENTRY, MOST_CHANGES, MOST_STEPS, STEP, UNUSED, WIDTH};
+use crate::plan::Times;
 use crate::refusal::Refusal;
 
-/// What a file says of itself: counts, and the places of the first change and the first step.
-#[derive(Clone, Copy, Debug, Default, PartialEq, Eq)]
+/// What a file says of itself: counts, the places of the first change and the first step, and the times.
+#[derive(Clone, Copy, Debug, PartialEq, Eq)]
 pub struct Contents {
     pub n: usize,
     pub links: usize,
@@ -13,6 +14,7 @@ pub struct Contents {
     pub changes_at: usize,
     pub steps: usize,
     pub steps_at: usize,
+    pub times: Times,
 }
 
 /// Read: judges the file, and fills the metric table with its links.
@@ -37,7 +39,12 @@ fn sections(file: &[u8], table: &mut [u32]) -> Result<Contents, Refusal> {
     put_links(n, file, links, table)?;
     let changes_at = 3 + ENTRY * links + 1;
     let changes = at_most(MOST_CHANGES, byte(file, changes_at - 1)?)?;
-    let steps_at = changes_at + ENTRY * changes + 2;
+    let times_at = changes_at + ENTRY * changes;
+    let times = Times {
+        hold: two(file, times_at)? as u16,
+        step: two(file, times_at + 2)? as u16,
+    };
+    let steps_at = times_at + 4 + 2;
     let steps = at_most(MOST_STEPS, two(file, steps_at - 2)?)?;
     let end = steps_at + STEP * steps;
     if file.len() < end {
@@ -53,6 +60,7 @@ fn sections(file: &[u8], table: &mut [u32]) -> Result<Contents, Refusal> {
         changes_at,
         steps,
         steps_at,
+        times,
     })
 }
 

@@ -16,5 +16,5 @@ pub const ENTRY: usize = 5;
 /// Bytes of a step.
 pub const STEP: usize = 3;
 
-/// Bytes of the largest file: n, three counts, and all links, changes and steps.
-pub const LARGEST_FILE: usize = 6 + ENTRY * WIDTH * (WIDTH - 1) + ENTRY * MOST_CHANGES + STEP * MOST_STEPS;
+/// Bytes of the largest file: n, three counts, two times, and all links, changes and steps.
+pub const LARGEST_FILE: usize = 10 + ENTRY * WIDTH * (WIDTH - 1) + ENTRY * MOST_CHANGES + STEP * MOST_STEPS;

@@ -30,11 +30,17 @@ fn rest(set: Set) -> Set {
     set & set.wrapping_sub(1)
 }
 
-/// The refusals of n routers and their metric table. `sized` says whether every table has the right size.
-pub fn check(n: usize, metric: &[u32], sized: bool) -> Result<(), Refusal> {
+/// Is n a number of routers?
+pub fn check_count(n: usize) -> Result<(), Refusal> {
     if n < 1 || n > WIDTH {
         return Err(Refusal::RouterCount);
     }
+    Ok(())
+}
+
+/// The refusals of n routers and their metric table. `sized` says whether every table has the right size.
+pub fn check(n: usize, metric: &[u32], sized: bool) -> Result<(), Refusal> {
+    check_count(n)?;
     if !sized {
         return Err(Refusal::TableSize);
     }

@@ -18,7 +18,21 @@ pub struct Record {
     pub due: [Set; WIDTH],
     pub states: [u8; WIDTH],
     pub written: [Set; WIDTH],
+    pub hold_time: u16,
+    pub step_time: u16,
+    pub clock: u32,
+    pub learn_times: [u32; WIDTH],
 }
+
+/// The hold time and the step time of a plan, in ticks.
+#[derive(Clone, Copy, Debug, PartialEq, Eq)]
+pub struct Times {
+    pub hold: u16,
+    pub step: u16,
+}
+
+/// Those of every plan here.
+pub const TIMES: Times = Times { hold: 0, step: 1 };
 
 /// The old metrics, and the tables that a plan fills.
 pub struct Tables {
@@ -63,7 +77,11 @@ impl Tables {
 }
 
 /// Plan: fills the tables and gives the fresh record, or refuses and writes no cell.
-pub fn plan(n: usize, list: &[u8], t: &mut Tables) -> Result<Record, Refusal> {
+pub fn plan(n: usize, times: Times, list: &[u8], t: &mut Tables) -> Result<Record, Refusal> {
+    paths::check_count(n)?;
+    if times.step == 0 {
+        return Err(Refusal::NoStepTime);
+    }
     paths::check(n, &t.old, t.are_sized())?;
     let change = judge::change(n, &t.old, list)?;
     apply(n, &t.old, list, &mut t.new);
@@ -84,6 +102,10 @@ pub fn plan(n: usize, list: &[u8], t: &mut Tables) -> Result<Record, Refusal> {
         due: due(n, &t.old_fours, &t.new_fours),
         states: [0; WIDTH],
         written: [0; WIDTH],
+        hold_time: times.hold,
+        step_time: times.step,
+        clock: 0,
+        learn_times: [0; WIDTH],
     })
 }
 

@@ -28,6 +28,9 @@ pub enum Refusal {
     PastList = 31,
     LongSubTlvs = 32,
     UnknownIdentity = 33,
+    TooEarly = 34,
+    ClockEnd = 35,
+    NoStepTime = 36,
 }
 
 impl Refusal {

@@ -1,12 +1,12 @@
 //! The running sheet of a plan: the routers in an order in which they can be upgraded.
 
 use crate::limits::{Set, WIDTH};
-use crate::plan::{Tables, plan};
+use crate::plan::{Tables, Times, plan};
 use crate::refusal::Refusal;
 
 /// The sheet: fills the tables as Plan does, or refuses and writes no cell.
-pub fn sheet(n: usize, list: &[u8], t: &mut Tables) -> Result<[u8; WIDTH], Refusal> {
-    let record = plan(n, list, t)?;
+pub fn sheet(n: usize, times: Times, list: &[u8], t: &mut Tables) -> Result<[u8; WIDTH], Refusal> {
+    let record = plan(n, times, list, t)?;
     Ok(in_turn(n, &record.waiting))
 }
 

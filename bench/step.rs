@@ -14,6 +14,7 @@ const RELEASE: u8 = 2;
 const WRITE: u8 = 3;
 const FINISH: u8 = 4;
 const DELIVER: u8 = 5;
+const TICK: u8 = 6;
 
 #[derive(Clone, Copy, Debug, PartialEq, Eq)]
 pub enum Answer {
@@ -52,8 +53,11 @@ fn take(record: &mut Record, kind: u8, a: u8, b: u8) -> Result<Answer, Refusal> 
     if !is_record(record) {
         return Err(Refusal::Record);
     }
-    if !(LEARN..=DELIVER).contains(&kind) {
+    if !(LEARN..=TICK).contains(&kind) {
         return Err(Refusal::Kind);
+    }
+    if kind == TICK {
+        return tick(record);
     }
     let reads_b = kind == WRITE || kind == DELIVER;
     if a >= record.n || (reads_b && b >= record.n) {
@@ -61,8 +65,8 @@ fn take(record: &mut Record, kind: u8, a: u8, b: u8) -> Result<Answer, Refusal> 
     }
     let (a, b) = (a as usize, b as usize);
     match kind {
-        LEARN => enter(record, a, IDLE, HOLDING),
-        RELEASE => enter(record, a, HOLDING, ONGOING),
+        LEARN => learn(record, a),
+        RELEASE => release(record, a),
         WRITE => write(record, a, b),
         FINISH => finish(record, a),
         _ => deliver(record, a, b),
@@ -74,19 +78,46 @@ fn is_record(record: &Record) -> bool {
     (1..=WIDTH).contains(&(record.n as usize)) && record.states.iter().all(|&state| state <= DONE)
 }
 
-fn enter(record: &mut Record, r: usize, before: u8, after: u8) -> Result<Answer, Refusal> {
-    if record.states[r] != before {
+fn tick(record: &mut Record) -> Result<Answer, Refusal> {
+    record.clock = record.clock.checked_add(1).ok_or(Refusal::ClockEnd)?;
+    Ok(Answer::Ok)
+}
+
+fn learn(record: &mut Record, r: usize) -> Result<Answer, Refusal> {
+    if record.states[r] != IDLE {
         return Err(Refusal::State);
     }
-    record.states[r] = after;
+    record.states[r] = HOLDING;
+    record.learn_times[r] = record.clock;
     Ok(Answer::Ok)
+}
+
+fn release(record: &mut Record, r: usize) -> Result<Answer, Refusal> {
+    if record.states[r] != HOLDING {
+        return Err(Refusal::State);
+    }
+    if u64::from(record.clock) < held_until(record, r) {
+        return Err(Refusal::TooEarly);
+    }
+    record.states[r] = ONGOING;
+    Ok(Answer::Ok)
+}
+
+fn held_until(record: &Record, r: usize) -> u64 {
+    u64::from(record.learn_times[r]) + u64::from(record.hold_time)
+}
+
+/// Does the router wait for another, with its due time still to come?
+fn must_wait(record: &Record, r: usize) -> bool {
+    let due_time = || held_until(record, r) + u64::from(record.ranks[r]) * u64::from(record.step_time);
+    record.waiting[r] != 0 && u64::from(record.clock) < due_time()
 }
 
 fn write(record: &mut Record, r: usize, destination: usize) -> Result<Answer, Refusal> {
     if record.states[r] != ONGOING {
         return Err(Refusal::State);
     }
-    if record.waiting[r] != 0 {
+    if must_wait(record, r) {
         return Err(Refusal::Waiting);
     }
     let bit = 1 << destination;
@@ -101,7 +132,7 @@ fn finish(record: &mut Record, r: usize) -> Result<Answer, Refusal> {
     if record.states[r] != ONGOING {
         return Err(Refusal::State);
     }
-    if record.waiting[r] != 0 {
+    if must_wait(record, r) {
         return Err(Refusal::Waiting);
     }
     if record.due[r] & !record.written[r] != 0 {

@@ -18,7 +18,7 @@ pub fn rehearse(file: &[u8], tables: &mut Tables, out: &mut Vec<u8>) {
 fn lines(file: &[u8], tables: &mut Tables, out: &mut Vec<u8>) -> Result<(), Refusal> {
     let contents = file::read(file, &mut tables.old)?;
     let changes = &file[contents.changes_at..contents.changes_at + ENTRY * contents.changes];
-    let mut record = plan(contents.n, changes, tables)?;
+    let mut record = plan(contents.n, contents.times, changes, tables)?;
     routers(&record, out);
     field(out, b"needs ", needs(&record));
     out.push(b'\n');

@@ -8,7 +8,7 @@ use crate::file;
 use crate::isis;
 use crate::limits::{LARGEST_FILE, STEP, WIDTH};
 use crate::ofib;
-use crate::plan::{Record, Tables, plan};
+use crate::plan::{Record, TIMES, Tables, Times, plan};
 use crate::sheet::sheet;
 use crate::step::{self, Answer};
 use crate::text;
@@ -24,7 +24,7 @@ pub struct Work {
 
 pub fn all() -> Vec<Work> {
     let dense = areas::dense();
-    let fresh = plan(WIDTH, &dense.changes, &mut tables_of(&dense)).expect("the dense area is planned");
+    let fresh = plan(WIDTH, TIMES, &dense.changes, &mut tables_of(&dense)).expect("the dense area is planned");
     let progress = areas::progress(&fresh);
     let mixed = areas::mixed(&fresh);
     let largest = areas::largest_file(&dense, &mixed);
@@ -50,7 +50,7 @@ pub fn all() -> Vec<Work> {
 /// The largest file, for the programs that read it from standard input.
 pub fn largest_file() -> Vec<u8> {
     let dense = areas::dense();
-    let fresh = plan(WIDTH, &dense.changes, &mut tables_of(&dense)).expect("the dense area is planned");
+    let fresh = plan(WIDTH, TIMES, &dense.changes, &mut tables_of(&dense)).expect("the dense area is planned");
     areas::largest_file(&dense, &areas::mixed(&fresh))
 }
 
@@ -85,6 +85,10 @@ fn for_library(r: &Record) -> ofib::Record {
         due: r.due,
         states: r.states,
         written: r.written,
+        hold_time: r.hold_time,
+        step_time: r.step_time,
+        clock: r.clock,
+        learn_times: r.learn_times,
     }
 }
 
@@ -106,8 +110,15 @@ fn plan_of(name: &'static str, area: Area) -> Work {
     let (mut proved, mut rust) = (tables_of(&area), tables_of(&area));
     let list = area.changes;
     let mut record = ofib::Record::default();
-    let number = ofib::plan(WIDTH, &list, &mut lent(&mut proved), &mut record);
-    let expected = plan(WIDTH, &list, &mut rust);
+    let number = ofib::plan(
+        WIDTH,
+        TIMES.hold,
+        TIMES.step,
+        &list,
+        &mut lent(&mut proved),
+        &mut record,
+    );
+    let expected = plan(WIDTH, TIMES, &list, &mut rust);
     require(
         name,
         number == 0 && expected.is_ok_and(|r| for_library(&r) == record) && are_same(&proved, &rust),
@@ -120,13 +131,15 @@ fn plan_of(name: &'static str, area: Area) -> Work {
         library: Box::new(move || {
             black_box(ofib::plan(
                 black_box(WIDTH),
+                TIMES.hold,
+                TIMES.step,
                 &changes,
                 &mut lent(&mut proved),
                 black_box(&mut record),
             ));
         }),
         plain: Box::new(move || {
-            black_box(&plan(black_box(WIDTH), &list, &mut rust));
+            black_box(&plan(black_box(WIDTH), TIMES, &list, &mut rust));
         }),
     }
 }
@@ -136,8 +149,15 @@ fn sheet_of(name: &'static str, area: Area) -> Work {
     let (mut proved, mut rust) = (tables_of(&area), tables_of(&area));
     let list = area.changes;
     let mut routers = [0; WIDTH];
-    let number = ofib::sheet(WIDTH, &list, &mut lent(&mut proved), &mut routers);
-    let expected = sheet(WIDTH, &list, &mut rust);
+    let number = ofib::sheet(
+        WIDTH,
+        TIMES.hold,
+        TIMES.step,
+        &list,
+        &mut lent(&mut proved),
+        &mut routers,
+    );
+    let expected = sheet(WIDTH, TIMES, &list, &mut rust);
     require(
         name,
         number == 0 && expected.is_ok_and(|r| r == routers) && are_same(&proved, &rust),
@@ -150,13 +170,15 @@ fn sheet_of(name: &'static str, area: Area) -> Work {
         library: Box::new(move || {
             black_box(ofib::sheet(
                 black_box(WIDTH),
+                TIMES.hold,
+                TIMES.step,
                 &changes,
                 &mut lent(&mut proved),
                 black_box(&mut routers),
             ));
         }),
         plain: Box::new(move || {
-            black_box(&sheet(black_box(WIDTH), &list, &mut rust));
+            black_box(&sheet(black_box(WIDTH), TIMES, &list, &mut rust));
         }),
     }
 }
@@ -242,6 +264,10 @@ fn read_of(name: &'static str, file: Vec<u8>) -> Work {
         changes_at: c.changes_at,
         steps: c.steps,
         steps_at: c.steps_at,
+        times: Times {
+            hold: c.hold_time,
+            step: c.step_time,
+        },
     };
     require(
         name,

@@ -9,7 +9,7 @@ pub const ENTRY: usize = 5;
 pub const MOST_CHANGES: usize = 2 * (WIDTH - 1);
 pub const STEP: usize = 3;
 pub const MOST_STEPS: usize = 4096;
-pub const LARGEST: usize = 6 + ENTRY * WIDTH * (WIDTH - 1) + ENTRY * MOST_CHANGES + STEP * MOST_STEPS;
+pub const LARGEST: usize = 10 + ENTRY * WIDTH * (WIDTH - 1) + ENTRY * MOST_CHANGES + STEP * MOST_STEPS;
 
 /// Room for the rehearsal of any file, and for its routes.
 pub const REHEARSAL_ROOM: usize = 133 * WIDTH + 27 + 55 * MOST_STEPS + 4;
@@ -30,6 +30,10 @@ pub struct Record {
     pub due: [Set; WIDTH],
     pub states: [u8; WIDTH],
     pub written: [Set; WIDTH],
+    pub hold_time: u16,
+    pub step_time: u16,
+    pub clock: u32,
+    pub learn_times: [u32; WIDTH],
 }
 
 /// All 0, as with a refusal. Rust has no default for arrays of more than 32 entries.
@@ -45,6 +49,10 @@ impl Default for Record {
             due: [0; WIDTH],
             states: [0; WIDTH],
             written: [0; WIDTH],
+            hold_time: 0,
+            step_time: 0,
+            clock: 0,
+            learn_times: [0; WIDTH],
         }
     }
 }
@@ -58,6 +66,8 @@ pub struct Contents {
     pub changes_at: usize,
     pub steps: usize,
     pub steps_at: usize,
+    pub hold_time: u16,
+    pub step_time: u16,
 }
 
 /// The answer of a step.
@@ -91,7 +101,7 @@ mod c {
             file_len: usize,
             table: *mut u32,
             table_len: usize,
-            contents: *mut [usize; 6],
+            contents: *mut [usize; 8],
         ) -> u8;
         pub fn ofib_isis(
             n: usize,
@@ -115,6 +125,8 @@ mod c {
         ) -> u8;
         pub fn ofib_plan(
             n: usize,
+            hold_time: u16,
+            step_time: u16,
             old: *const u32,
             old_len: usize,
             list: *const u8,
@@ -142,9 +154,15 @@ mod c {
             due: *mut [Set; WIDTH],
             states: *mut [u8; WIDTH],
             written: *mut [Set; WIDTH],
+            record_hold_time: *mut u16,
+            record_step_time: *mut u16,
+            clock: *mut u32,
+            learn_times: *mut [u32; WIDTH],
         ) -> u8;
         pub fn ofib_sheet(
             n: usize,
+            hold_time: u16,
+            step_time: u16,
             old: *const u32,
             old_len: usize,
             list: *const u8,
@@ -167,11 +185,16 @@ mod c {
         ) -> u8;
         pub fn ofib_step(
             n: u8,
+            ranks: *const [u8; WIDTH],
             waiting: *mut [Set; WIDTH],
             telling: *const [Set; WIDTH],
             due: *const [Set; WIDTH],
             states: *mut [u8; WIDTH],
             written: *mut [Set; WIDTH],
+            hold_time: u16,
+            step_time: u16,
+            clock: *mut u32,
+            learn_times: *mut [u32; WIDTH],
             kind: u8,
             a: u8,
             b: u8,
@@ -186,6 +209,10 @@ mod c {
             due: *mut [Set; WIDTH],
             states: *mut [u8; WIDTH],
             written: *mut [Set; WIDTH],
+            hold_time: *mut u16,
+            step_time: *mut u16,
+            clock: *mut u32,
+            learn_times: *mut [u32; WIDTH],
             bytes: *const u8,
             bytes_len: usize,
         );
@@ -246,7 +273,7 @@ mod c {
 
 /// Read: the number of its refusal, or 0, and what the file says of itself.
 pub fn read(file: &[u8], table: &mut [u32]) -> (u8, Contents) {
-    let mut c = [0; 6];
+    let mut c = [0; 8];
     let answer = unsafe { c::ofib_read(file.as_ptr(), file.len(), table.as_mut_ptr(), table.len(), &mut c) };
     (
         answer,
@@ -257,6 +284,8 @@ pub fn read(file: &[u8], table: &mut [u32]) -> (u8, Contents) {
             changes_at: c[3],
             steps: c[4],
             steps_at: c[5],
+            hold_time: c[6] as u16,
+            step_time: c[7] as u16,
         },
     )
 }
@@ -294,10 +323,12 @@ pub fn paths(n: usize, metric: &[u32], dist: &mut [u32], hops: &mut [Set], fours
 }
 
 /// Plan: the number of its refusal, or 0. `t.old` is read, and the other tables and the record are filled.
-pub fn plan(n: usize, list: &[u8], t: &mut Tables, r: &mut Record) -> u8 {
+pub fn plan(n: usize, hold_time: u16, step_time: u16, list: &[u8], t: &mut Tables, r: &mut Record) -> u8 {
     unsafe {
         c::ofib_plan(
             n,
+            hold_time,
+            step_time,
             t.old.as_ptr(),
             t.old.len(),
             list.as_ptr(),
@@ -325,16 +356,22 @@ pub fn plan(n: usize, list: &[u8], t: &mut Tables, r: &mut Record) -> u8 {
             &mut r.due,
             &mut r.states,
             &mut r.written,
+            &mut r.hold_time,
+            &mut r.step_time,
+            &mut r.clock,
+            &mut r.learn_times,
         )
     }
 }
 
 /// The running sheet: the number of Plan's refusal, or 0. `routers` gets the routers in their order, and the tables are
 /// filled as by Plan.
-pub fn sheet(n: usize, list: &[u8], t: &mut Tables, routers: &mut [u8; WIDTH]) -> u8 {
+pub fn sheet(n: usize, hold_time: u16, step_time: u16, list: &[u8], t: &mut Tables, routers: &mut [u8; WIDTH]) -> u8 {
     unsafe {
         c::ofib_sheet(
             n,
+            hold_time,
+            step_time,
             t.old.as_ptr(),
             t.old.len(),
             list.as_ptr(),
@@ -363,11 +400,16 @@ pub fn step(r: &mut Record, kind: u8, a: u8, b: u8) -> Answer {
     let number = unsafe {
         c::ofib_step(
             r.n,
+            &r.ranks,
             &mut r.waiting,
             &r.telling,
             &r.due,
             &mut r.states,
             &mut r.written,
+            r.hold_time,
+            r.step_time,
+            &mut r.clock,
+            &mut r.learn_times,
             kind,
             a,
             b,
@@ -393,18 +435,24 @@ pub fn run(r: &mut Record, steps: &[u8]) {
             &mut r.due,
             &mut r.states,
             &mut r.written,
+            &mut r.hold_time,
+            &mut r.step_time,
+            &mut r.clock,
+            &mut r.learn_times,
             steps.as_ptr(),
             steps.len(),
         )
     }
 }
 
-/// How many steps answered ok bring a fresh record to the one in which all routers are done.
+/// How many steps answered ok, ticks not counted, bring a fresh record to one in which all routers are done and wait
+/// for none.
 pub fn needs(r: &Record) -> usize {
     unsafe { c::ofib_needs(r.n, &r.waiting, &r.due) }
 }
 
-/// How many of them are still to come from this record on.
+/// How many of them are still to come from this record on. Messages that have not come when their receiver is done by
+/// its timer stay among them.
 pub fn missing(r: &Record) -> usize {
     unsafe { c::ofib_missing(r.n, &r.waiting, &r.due, &r.states, &r.written) }
 }

@@ -1,5 +1,6 @@
 // Every function of bindings/ofib.h, called from C: on the file of paper 01, against what is stored of it and what 01
-// and 02 say of its plan (C1), on what they refuse, and on an area in which routers have five next hops.
+// and 02 say of its plan (C1), on what they refuse, with rank timers, and on an area in which routers have five next
+// hops.
 //     ofib_test FILE REHEARSAL ROUTES
 // FILE is the bench file, REHEARSAL and ROUTES what the programs print for it. What differs is printed, and the status
 // is 1 then.
@@ -61,6 +62,10 @@ static void records(const char *what, const ofib_record *got, const ofib_record 
     sets(what, got->due, wanted->due, OFIB_WIDTH);
     bytes(what, got->states, wanted->states, OFIB_WIDTH);
     sets(what, got->written, wanted->written, OFIB_WIDTH);
+    number(what, got->hold_time, wanted->hold_time);
+    number(what, got->step_time, wanted->step_time);
+    number(what, got->clock, wanted->clock);
+    cells(what, got->learn_times, wanted->learn_times, OFIB_WIDTH);
 }
 
 // ---- What the calls are made on.
@@ -130,7 +135,20 @@ static const ofib_set new_next_hops[9] = {0, 2, 4, 1, 0, 1, 1, 1, 0};
 
 static const uint8_t change[] = {1, 2, 255, 255, 255, 2, 1, 255, 255, 255};
 
-static const ofib_record fresh = {3, 1, OFIB_RISE, {0, 1, 0}, {0, 5, 0}, {2, 0, 2}, {4, 4, 3}, {0}, {0}};
+// The times of the plans that are not about them.
+#define HOLD 0
+#define STEP 1
+static const ofib_record fresh = {
+    .n = 3,
+    .root = 1,
+    .direction = OFIB_RISE,
+    .ranks = {0, 1, 0},
+    .waiting = {0, 5, 0},
+    .telling = {2, 0, 2},
+    .due = {4, 4, 3},
+    .hold_time = HOLD,
+    .step_time = STEP,
+};
 static const ofib_record blank;
 
 // The routers on the running sheet, and on the one of a refusal.
@@ -171,19 +189,19 @@ static void same_tables(const char *what, const ofib_tables *wanted)
 
 // One call of ofib_read: its answer, what it says of the file, and the table that it leaves.
 static void one_read(const char *what, size_t file_len, size_t table_len, uint8_t answer,
-                     const size_t wanted[6], const uint32_t *metrics)
+                     const size_t wanted[8], const uint32_t *metrics)
 {
-    size_t contents[6] = {9, 9, 9, 9, 9, 9};
+    size_t contents[8] = {9, 9, 9, 9, 9, 9, 9, 9};
     tables = untouched;
     number(what, ofib_read(file.bytes, file_len, tables.new_, table_len, contents), answer);
-    for (size_t k = 0; k < 6; k++)
+    for (size_t k = 0; k < 8; k++)
         number(what, contents[k], wanted[k]);
     cells(what, tables.new_, metrics, OFIB_CELLS);
 }
 
 // The second link of the file is made another one with the pair of the first. That it is a dead link is seen before
 // that its pair is listed twice.
-static void test_bad_link(const size_t nothing[6], const uint32_t *unused)
+static void test_bad_link(const size_t nothing[8], const uint32_t *unused)
 {
     static const uint8_t dead[] = {0, 1, 255, 255, 255}, repeated[] = {0, 1, 255, 255, 254};
     uint8_t *second = file.bytes + 3 + OFIB_ENTRY, before[OFIB_ENTRY];
@@ -195,11 +213,33 @@ static void test_bad_link(const size_t nothing[6], const uint32_t *unused)
     memcpy(second, before, OFIB_ENTRY);
 }
 
+// The times of the file, two bytes each, high byte first.
+#define TIMES_AT 44
+#define STEPS_AT 50
+
+// Other times in the file, and what it says of itself then. The step time may be 0.
+static void test_file_times(const size_t wanted[8])
+{
+    static const uint8_t others[][4] = {{1, 2, 3, 4}, {255, 255, 255, 255}, {0, 1, 0, 0}};
+    uint8_t before[4], *times = file.bytes + TIMES_AT;
+    memcpy(before, times, 4);
+    for (size_t k = 0; k < sizeof others / sizeof *others; k++) {
+        size_t contents[8];
+        const uint8_t *bytes = others[k];
+        memcpy(contents, wanted, sizeof contents);
+        contents[OFIB_HOLD_TIME] = 256u * bytes[0] + bytes[1];
+        contents[OFIB_STEP_TIME] = 256u * bytes[2] + bytes[3];
+        memcpy(times, bytes, 4);
+        one_read("ofib_read, other times", file.len, OFIB_CELLS, OFIB_OK, contents, planned.old);
+    }
+    memcpy(times, before, 4);
+}
+
 static void test_read(void)
 {
-    static const size_t nothing[6], wanted[6] = {
-        [OFIB_ROUTERS] = 3,     [OFIB_LINKS] = 6,  [OFIB_CHANGES] = 2,
-        [OFIB_CHANGES_AT] = 34, [OFIB_STEPS] = 10, [OFIB_STEPS_AT] = 46,
+    static const size_t nothing[8], wanted[8] = {
+        [OFIB_ROUTERS] = 3, [OFIB_LINKS] = 6,           [OFIB_CHANGES] = 2,      [OFIB_CHANGES_AT] = 34,
+        [OFIB_STEPS] = 10,  [OFIB_STEPS_AT] = STEPS_AT, [OFIB_HOLD_TIME] = HOLD, [OFIB_STEP_TIME] = STEP,
     };
     static uint32_t unused[OFIB_CELLS];
     triangle(unused, no_link, OFIB_UNUSED);
@@ -209,7 +249,9 @@ static void test_read(void)
     one_read("ofib_read, a byte more", file.len + 1, OFIB_CELLS, OFIB_TRAILING, nothing, unused);
     one_read("ofib_read, a cell less", file.len, OFIB_CELLS - 1, OFIB_TABLE_SIZE, nothing, untouched.new_);
     one_read("ofib_read, no cell", file.len, 0, OFIB_TABLE_SIZE, nothing, untouched.new_);
+    one_read("ofib_read, half a time", TIMES_AT + 3, OFIB_CELLS, OFIB_INCOMPLETE, nothing, unused);
     test_bad_link(nothing, unused);
+    test_file_times(wanted);
 }
 
 #define ID(k) k, k, k, k, k, k, k
@@ -301,7 +343,7 @@ static void one_sheet(const char *what, const uint8_t *list, size_t list_len, ui
     uint8_t routers[OFIB_WIDTH];
     memset(routers, UNTOUCHED, sizeof routers);
     tables = untouched;
-    number(what, ofib_tables_sheet(&tables, 3, list, list_len, routers), answer);
+    number(what, ofib_tables_sheet(&tables, 3, HOLD, STEP, list, list_len, routers), answer);
     bytes(what, routers, answer == OFIB_OK ? in_order : no_order, OFIB_WIDTH);
     same_tables(what, answer == OFIB_OK ? &planned : &untouched);
 }
@@ -312,7 +354,7 @@ static void one_plan(const char *what, const uint8_t *list, size_t list_len, uin
     ofib_record r = fresh;
     memset(&r, UNTOUCHED, sizeof r);
     tables = untouched;
-    number(what, ofib_record_plan(&r, 3, &tables, list, list_len), answer);
+    number(what, ofib_record_plan(&r, 3, HOLD, STEP, &tables, list, list_len), answer);
     records(what, &r, answer == OFIB_OK ? &fresh : &blank);
     same_tables(what, answer == OFIB_OK ? &planned : &untouched);
     one_sheet(what, list, list_len, answer);
@@ -337,9 +379,10 @@ static void test_sheet_sizes(void)
         uint8_t routers[OFIB_WIDTH] = {2, 1};
         tables = untouched;
         lengths(lens, k, OFIB_CELLS - 1);
-        number(what, ofib_sheet(3, tables.old, lens[0], change, sizeof change, tables.new_, lens[1], tables.old_dist,
-                                lens[2], tables.old_hops, lens[3], tables.old_fours, lens[4], tables.new_dist, lens[5],
-                                tables.new_hops, lens[6], tables.new_fours, lens[7], routers),
+        number(what, ofib_sheet(3, HOLD, STEP, tables.old, lens[0], change, sizeof change, tables.new_, lens[1],
+                                tables.old_dist, lens[2], tables.old_hops, lens[3], tables.old_fours, lens[4],
+                                tables.new_dist, lens[5], tables.new_hops, lens[6], tables.new_fours, lens[7],
+                                routers),
                OFIB_TABLE_SIZE);
         bytes(what, routers, no_order, OFIB_WIDTH);
         same_tables(what, &untouched);
@@ -354,10 +397,11 @@ static void test_plan_sizes(void)
         ofib_record r = fresh;
         tables = untouched;
         lengths(lens, k, OFIB_CELLS - 1);
-        number(what, ofib_plan(3, tables.old, lens[0], change, sizeof change, tables.new_, lens[1], tables.old_dist,
-                               lens[2], tables.old_hops, lens[3], tables.old_fours, lens[4], tables.new_dist, lens[5],
-                               tables.new_hops, lens[6], tables.new_fours, lens[7], &r.n, &r.root, &r.direction,
-                               r.ranks, r.waiting, r.telling, r.due, r.states, r.written),
+        number(what, ofib_plan(3, HOLD, STEP, tables.old, lens[0], change, sizeof change, tables.new_, lens[1],
+                               tables.old_dist, lens[2], tables.old_hops, lens[3], tables.old_fours, lens[4],
+                               tables.new_dist, lens[5], tables.new_hops, lens[6], tables.new_fours, lens[7], &r.n,
+                               &r.root, &r.direction, r.ranks, r.waiting, r.telling, r.due, r.states, r.written,
+                               &r.hold_time, &r.step_time, &r.clock, r.learn_times),
                OFIB_TABLE_SIZE);
         records(what, &r, &blank);
         same_tables(what, &untouched);
@@ -368,15 +412,25 @@ static void test_plan_sizes(void)
 static void test_fall(void)
 {
     static const uint8_t list[] = {1, 2, 0, 0, 1, 2, 1, 0, 0, 1};
-    static const ofib_record wanted = {3, 1, OFIB_FALL, {1, 0, 1}, {2, 0, 2}, {0, 5, 0}, {4, 4, 3}, {0}, {0}};
+    static const ofib_record wanted = {
+        .n = 3,
+        .root = 1,
+        .direction = OFIB_FALL,
+        .ranks = {1, 0, 1},
+        .waiting = {2, 0, 2},
+        .telling = {0, 5, 0},
+        .due = {4, 4, 3},
+        .hold_time = HOLD,
+        .step_time = STEP,
+    };
     static const uint8_t order[OFIB_WIDTH] = {1, 0, 2};
     ofib_record r = blank;
     uint8_t routers[OFIB_WIDTH] = {0};
     tables = untouched;
     memcpy(tables.old, planned.new_, sizeof tables.old);
-    number("ofib_sheet, C2", ofib_tables_sheet(&tables, 3, list, sizeof list, routers), OFIB_OK);
+    number("ofib_sheet, C2", ofib_tables_sheet(&tables, 3, HOLD, STEP, list, sizeof list, routers), OFIB_OK);
     bytes("ofib_sheet, C2", routers, order, OFIB_WIDTH);
-    number("ofib_plan, C2", ofib_record_plan(&r, 3, &tables, list, sizeof list), OFIB_OK);
+    number("ofib_plan, C2", ofib_record_plan(&r, 3, HOLD, STEP, &tables, list, sizeof list), OFIB_OK);
     records("ofib_plan, C2", &r, &wanted);
     cells("ofib_plan, C2, new metrics", tables.new_, planned.old, OFIB_CELLS);
     cells("ofib_plan, C2, old distances", tables.old_dist, planned.new_dist, OFIB_CELLS);
@@ -394,6 +448,45 @@ static void test_one_end(void)
     planned.new_[reverse] = planned.old[reverse];
     one_plan("ofib_plan, 1 to 2 alone", change, OFIB_ENTRY, OFIB_OK);
     planned.new_[reverse] = OFIB_UNUSED;
+}
+
+// Plan and sheet of C1 with these times.
+static void one_pair(const char *what, size_t n, uint16_t hold_time, uint16_t step_time, uint8_t answer)
+{
+    ofib_record r, wanted = answer == OFIB_OK ? fresh : blank;
+    uint8_t routers[OFIB_WIDTH];
+    memset(&r, UNTOUCHED, sizeof r);
+    memset(routers, UNTOUCHED, sizeof routers);
+    if (answer == OFIB_OK) {
+        wanted.hold_time = hold_time;
+        wanted.step_time = step_time;
+    }
+    tables = untouched;
+    number(what, ofib_record_plan(&r, n, hold_time, step_time, &tables, change, sizeof change), answer);
+    records(what, &r, &wanted);
+    same_tables(what, answer == OFIB_OK ? &planned : &untouched);
+    tables = untouched;
+    number(what, ofib_tables_sheet(&tables, n, hold_time, step_time, change, sizeof change, routers), answer);
+    bytes(what, routers, answer == OFIB_OK ? in_order : no_order, OFIB_WIDTH);
+    same_tables(what, answer == OFIB_OK ? &planned : &untouched);
+}
+
+// That there is no step time is seen after a wrong n, and before a wrong size.
+static void test_times(void)
+{
+    ofib_record r = fresh;
+    one_pair("ofib_plan, the longest times", 3, 65535, 65535, OFIB_OK);
+    one_pair("ofib_plan, the shortest times", 3, 0, 1, OFIB_OK);
+    one_pair("ofib_plan, no step time", 3, 65535, 0, OFIB_NO_STEP_TIME);
+    one_pair("ofib_plan, no step time and no router", 0, 65535, 0, OFIB_ROUTER_COUNT);
+    tables = untouched;
+    number("ofib_plan, no step time and no cell",
+           ofib_plan(3, 0, 0, tables.old, 0, change, sizeof change, tables.new_, 0, tables.old_dist, 0,
+                     tables.old_hops, 0, tables.old_fours, 0, tables.new_dist, 0, tables.new_hops, 0,
+                     tables.new_fours, 0, &r.n, &r.root, &r.direction, r.ranks, r.waiting, r.telling, r.due, r.states,
+                     r.written, &r.hold_time, &r.step_time, &r.clock, r.learn_times),
+           OFIB_NO_STEP_TIME);
+    records("ofib_plan, no step time and no cell", &r, &blank);
 }
 
 static void test_plan(void)
@@ -422,18 +515,29 @@ static void test_plan(void)
     test_sheet_sizes();
     test_one_end();
     test_fall();
+    test_times();
 }
 
 // The steps of the file one by one, and after each of them all of them so far at once.
 static void test_steps(void)
 {
     static const uint8_t answers[] = {0, 0, OFIB_STILL_WAITING, 0, 0, 0, 0, 0, OFIB_IGNORED, OFIB_STILL_WAITING};
-    static const ofib_record last = {3,         1,         OFIB_RISE, {0, 1, 0},
-                                     {0, 4, 0}, {2, 0, 2}, {4, 4, 3}, {OFIB_DONE, OFIB_ONGOING, OFIB_IDLE},
-                                     {4, 0, 0}};
+    static const ofib_record last = {
+        .n = 3,
+        .root = 1,
+        .direction = OFIB_RISE,
+        .ranks = {0, 1, 0},
+        .waiting = {0, 4, 0},
+        .telling = {2, 0, 2},
+        .due = {4, 4, 3},
+        .states = {OFIB_DONE, OFIB_ONGOING, OFIB_IDLE},
+        .written = {4, 0, 0},
+        .hold_time = HOLD,
+        .step_time = STEP,
+    };
     // Those of the 15 steps that are needed which are still missing, after each step.
     static const uint8_t missing[] = {14, 13, 13, 12, 11, 10, 9, 8, 8, 8};
-    const uint8_t *steps = file.bytes + 46;
+    const uint8_t *steps = file.bytes + STEPS_AT;
     ofib_record r = fresh;
     for (size_t k = 0; k < sizeof answers; k++) {
         const uint8_t *step = steps + OFIB_STEP * k;
@@ -470,7 +574,7 @@ static void test_refused_steps(void)
     one_refused(r, OFIB_LEARN, 0, 0, OFIB_BAD_RECORD);
     r.states[OFIB_WIDTH - 1] = OFIB_IDLE;
     one_refused(r, 0, 0, 0, OFIB_UNKNOWN_KIND);
-    one_refused(r, OFIB_DELIVER + 1, 0, 0, OFIB_UNKNOWN_KIND);
+    one_refused(r, OFIB_TICK + 1, 0, 0, OFIB_UNKNOWN_KIND);
     one_refused(r, OFIB_LEARN, 3, 0, OFIB_UNKNOWN_ROUTER);
     one_refused(r, OFIB_WRITE, 0, 3, OFIB_UNKNOWN_ROUTER);
     one_refused(r, OFIB_RELEASE, 0, 0, OFIB_WRONG_STATE);
@@ -482,6 +586,71 @@ static void test_refused_steps(void)
     one_refused(r, OFIB_FINISH, 0, 0, OFIB_UNWRITTEN);
     r.states[0] = OFIB_DONE;
     one_refused(r, OFIB_DELIVER, 0, 2, OFIB_NOT_TOLD);
+}
+
+// A step that is answered with OFIB_OK, by itself and as a list.
+static void one_ok(ofib_record *r, uint8_t kind, uint8_t a, uint8_t b)
+{
+    char what[80];
+    ofib_record at_once = *r;
+    snprintf(what, sizeof what, "ofib_step, kind %d of %d and %d at %lu", kind, a, b, (unsigned long)r->clock);
+    number(what, ofib_record_step(r, kind, a, b), OFIB_OK);
+    ofib_record_run(&at_once, (const uint8_t[]){kind, a, b}, OFIB_STEP);
+    records(what, &at_once, r);
+}
+
+// C1 with a hold time of 2 and a step time of 3. Router 1 learns at 1, so it is held until 3, and its due time is 6.
+// It waits for routers 0 and 2, of which router 0 learns at 1 too, and gets done before that.
+static void test_timers(void)
+{
+    ofib_record r = fresh;
+    r.hold_time = 2;
+    r.step_time = 3;
+    one_ok(&r, OFIB_TICK, 255, 255);
+    one_ok(&r, OFIB_LEARN, 0, 0);
+    one_ok(&r, OFIB_LEARN, 1, 0);
+    one_ok(&r, OFIB_TICK, 0, 0);
+    number("ofib_step, the clock", r.clock, 2);
+    number("ofib_step, the learn time", r.learn_times[1], 1);
+    one_refused(r, OFIB_RELEASE, 2, 0, OFIB_WRONG_STATE);
+    one_refused(r, OFIB_RELEASE, 1, 0, OFIB_TOO_EARLY);
+    one_ok(&r, OFIB_TICK, 3, 64);
+    one_ok(&r, OFIB_RELEASE, 1, 0);
+    one_ok(&r, OFIB_RELEASE, 0, 0);
+    one_ok(&r, OFIB_WRITE, 0, 2);
+    one_ok(&r, OFIB_FINISH, 0, 0);
+    one_ok(&r, OFIB_TICK, 0, 0);
+    one_ok(&r, OFIB_TICK, 0, 0);
+    one_refused(r, OFIB_WRITE, 1, 2, OFIB_STILL_WAITING);
+    one_ok(&r, OFIB_TICK, 0, 0);
+    one_refused(r, OFIB_FINISH, 1, 0, OFIB_UNWRITTEN);
+    one_ok(&r, OFIB_WRITE, 1, 2);
+    number("ofib_step, waiting after a write by the timer", r.waiting[1], 5);
+    one_ok(&r, OFIB_DELIVER, 0, 1);
+    one_ok(&r, OFIB_FINISH, 1, 0);
+    number("ofib_step, waiting after a finish by the timer", r.waiting[1], 4);
+    // 9 of the 15 steps, the six ticks not counted.
+    number("ofib_missing, ticks", ofib_record_missing(&r), 6);
+}
+
+// The last tick, and sums that are above 32 bits.
+static void test_clock_end(void)
+{
+    ofib_record r = fresh;
+    r.clock = OFIB_LAST_TIME - 1;
+    one_ok(&r, OFIB_TICK, 255, 255);
+    number("ofib_step, the end of the clock", r.clock, OFIB_LAST_TIME);
+    one_refused(r, OFIB_TICK, 0, 0, OFIB_CLOCK_END);
+    one_ok(&r, OFIB_LEARN, 1, 0);
+    r.hold_time = 1;
+    one_refused(r, OFIB_RELEASE, 1, 0, OFIB_TOO_EARLY);
+    r.hold_time = 0;
+    one_ok(&r, OFIB_RELEASE, 1, 0);
+    r.ranks[1] = 255;
+    r.step_time = 65535;
+    one_refused(r, OFIB_WRITE, 1, 2, OFIB_STILL_WAITING);
+    r.ranks[1] = 0;
+    one_ok(&r, OFIB_WRITE, 1, 2);
 }
 
 // What fresh records need, and records that no plan gives.
@@ -519,6 +688,8 @@ static const ofib_record last_fresh = {
     .waiting = {[62] = BIT(61) | BIT(63)},
     .telling = {[61] = BIT(62), [63] = BIT(62)},
     .due = {[61] = BIT(63), [62] = BIT(63), [63] = BIT(61) | BIT(62)},
+    .hold_time = HOLD,
+    .step_time = STEP,
 };
 
 static void test_last_plan(void)
@@ -527,7 +698,7 @@ static void test_last_plan(void)
     ofib_record r = blank;
     tables = untouched;
     square(tables.old, 61, 3, old_metrics, OFIB_UNUSED);
-    number(what, ofib_record_plan(&r, 64, &tables, last_change, sizeof last_change), OFIB_OK);
+    number(what, ofib_record_plan(&r, 64, HOLD, STEP, &tables, last_change, sizeof last_change), OFIB_OK);
     records(what, &r, &last_fresh);
     number("ofib_needs, routers 61 to 63", ofib_record_needs(&r), 3 * 64 + 4 + 2);
     for (size_t k = 0; k < 9; k++) {
@@ -545,7 +716,7 @@ static void test_last_sheet(void)
     uint8_t routers[OFIB_WIDTH] = {0};
     tables = untouched;
     square(tables.old, 61, 3, old_metrics, OFIB_UNUSED);
-    number(what, ofib_tables_sheet(&tables, 64, last_change, sizeof last_change, routers), OFIB_OK);
+    number(what, ofib_tables_sheet(&tables, 64, HOLD, STEP, last_change, sizeof last_change, routers), OFIB_OK);
     for (size_t k = 0; k < 62; k++)
         number(what, routers[k], k);
     number(what, routers[62], 63);
@@ -643,6 +814,8 @@ static const ofib_record seven_fresh = {
     .waiting = {62, 64, 64, 64, 64, 64, 0},
     .telling = {0, 1, 1, 1, 1, 1, 62},
     .due = {32, 32, 32, 32, 32, 31, 0},
+    .hold_time = HOLD,
+    .step_time = STEP,
 };
 // Router 6 comes first, for it waits for none. Then each of 1 to 5 could come next, and in the end the root.
 static const uint8_t seven_in_order[OFIB_WIDTH] = {6, 1, 2, 3, 4, 5, 0};
@@ -671,7 +844,7 @@ static void test_seven_plan(void)
     uint8_t routers[OFIB_WIDTH] = {0};
     tables = untouched;
     memcpy(tables.old, seven.old, sizeof tables.old);
-    number(what, ofib_record_plan(&r, SEVEN, &tables, seven_change, sizeof seven_change), OFIB_OK);
+    number(what, ofib_record_plan(&r, SEVEN, HOLD, STEP, &tables, seven_change, sizeof seven_change), OFIB_OK);
     records(what, &r, &seven_fresh);
     same_tables(what, &seven);
     // Three of each router, ten messages and ten writes.
@@ -679,7 +852,7 @@ static void test_seven_plan(void)
     tables = untouched;
     memcpy(tables.old, seven.old, sizeof tables.old);
     what = "sheet with five next hops";
-    number(what, ofib_tables_sheet(&tables, SEVEN, seven_change, sizeof seven_change, routers), OFIB_OK);
+    number(what, ofib_tables_sheet(&tables, SEVEN, HOLD, STEP, seven_change, sizeof seven_change, routers), OFIB_OK);
     bytes(what, routers, seven_in_order, OFIB_WIDTH);
     same_tables(what, &seven);
 }
@@ -747,7 +920,8 @@ static void test_text_sizes(const char *what, text_call *call)
 
 static void test_texts(void)
 {
-    static const char too_early[] = "refused 1\n", a_table[] = "refused 8\n", heading[] = "full next-hop sets\n";
+    static const char too_early[] = "refused 1\n", a_table[] = "refused 8\n", heading[] = "full next-hop sets\n",
+                      no_step_time[] = "refused 36\n";
     static uint32_t longer[OFIB_CELLS + 1];
     uint8_t out[sizeof a_table];
     one_text("ofib_rehearse", ofib_tables_rehearse, file.len, rehearsal.bytes, rehearsal.len);
@@ -757,6 +931,9 @@ static void test_texts(void)
     bytes("ofib_routes, the first line", routes.bytes, (const uint8_t *)heading, sizeof heading - 1);
     one_text("ofib_rehearse, an empty file", ofib_tables_rehearse, 0, (const uint8_t *)too_early, 10);
     one_text("ofib_routes, an empty file", ofib_tables_routes, 0, (const uint8_t *)too_early, 10);
+    file.bytes[TIMES_AT + 3] = 0;
+    one_text("ofib_rehearse, no step time", ofib_tables_rehearse, file.len, (const uint8_t *)no_step_time, 11);
+    file.bytes[TIMES_AT + 3] = STEP;
     test_text_sizes("ofib_rehearse, a cell less", ofib_rehearse);
     test_text_sizes("ofib_routes, a cell less", ofib_routes);
     memset(out, 0, sizeof out);
@@ -785,6 +962,8 @@ int main(int argc, char **argv)
     test_plan();
     test_steps();
     test_refused_steps();
+    test_timers();
+    test_clock_end();
     test_counts();
     test_last_plan();
     test_last_sheet();
@@ -793,6 +972,6 @@ int main(int argc, char **argv)
     test_seven_steps();
     test_texts();
     number("OFIB_WIDTH", OFIB_WIDTH, 64);
-    number("OFIB_LARGEST", OFIB_LARGEST, 33084);
+    number("OFIB_LARGEST", OFIB_LARGEST, 33088);
     return failures != 0;
 }

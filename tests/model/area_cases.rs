@@ -9,9 +9,10 @@ use crate::difference::{Difference, case_title, describe_area};
 use crate::flaw::Flaw;
 use crate::ofib::{self, CELLS, Record};
 use crate::paths::{at, pairs, usable};
-use crate::plan::{Change, changes_of, first_fault, raw_moves, root, with_effect};
+use crate::plan::{Change, Request, changes_of, first_fault, raw_moves, root, with_effect};
 use crate::random::Random;
 use crate::steps::{self, Caller};
+use crate::timers;
 
 /// The part's number in the seeds of its cases.
 const PART: u64 = 1;
@@ -21,42 +22,45 @@ pub const KIND: &str = "area";
 pub fn area_case(comparison: &mut Comparison, seed: u64, number: u64) -> Result<(), Difference> {
     let mut random = Random::for_case(seed, PART, number);
     let mut area = areas::area(&mut random);
-    let list = changes::list(&mut random, &mut area);
-    compare_area(comparison, &mut random, &case_title(KIND, seed, number), &area, &list)
+    let list = &changes::list(&mut random, &mut area);
+    let times = timers::of_request(&mut random, 2);
+    let request = Request { n: area.n, times, list };
+    compare_area(comparison, &mut random, &case_title(KIND, seed, number), &area, request)
 }
 
-/// One area, one list and a list of steps that is chosen on the way.
+/// One area, one list, and a list of steps that is chosen on the way.
 pub fn compare_area(
     comparison: &mut Comparison,
     random: &mut Random,
     title: &str,
     area: &Area,
-    list: &[u8],
+    request: Request,
 ) -> Result<(), Difference> {
     let mut calls = Vec::new();
-    let outcome = compare_calls(comparison, random, area, list, &mut calls);
-    outcome.map_err(|what| Difference::in_calls(what, describe_area(title, area, list, &calls)))
+    let Request { times, list, .. } = request;
+    let outcome = compare_calls(comparison, random, area, request, &mut calls);
+    outcome.map_err(|what| Difference::in_calls(what, describe_area(title, area, Some(times), list, &calls)))
 }
 
 fn compare_calls(
     comparison: &mut Comparison,
     random: &mut Random,
     area: &Area,
-    list: &[u8],
+    request: Request,
     calls: &mut Vec<u8>,
 ) -> Result<(), String> {
     comparison.counts.areas += 1;
     comparison.counts.sizes[area.n] += 1;
     comparison.paths(random, area.n, &area.metric, [CELLS; 3])?;
-    let planned = comparison.plan(random, area.n, &area.metric, [CELLS; 7], list)?;
+    let planned = comparison.plan(random, request, &area.metric, [CELLS; 7])?;
     if planned.answer == 0 {
         let new = planned.tables.new.cells();
         comparison.paths(random, area.n, new, [CELLS; 3])?;
         let last = compare_steps(comparison, random, &planned.record, calls)?;
         compare_run(comparison, random, &planned.record, calls, &last)?;
     }
-    count_place(comparison, area, list, planned.answer);
-    count_usable(comparison, area, &changes_of(list), &planned);
+    count_place(comparison, area, request.list, planned.answer);
+    count_usable(comparison, area, &changes_of(request.list), &planned);
     Ok(())
 }
 
@@ -77,10 +81,12 @@ fn compare_steps(
         let call = caller.next(random, &library);
         calls.extend(call);
         let answer = comparison.step(&mut library, &mut model, call);
-        let outcome = answer.and_then(|answer| course.went_on(comparison, answer, &library));
+        let outcome = answer.and_then(|answer| course.went_on(comparison, call[0], answer, &library));
         outcome.map_err(|what| format!("{what}\n{}", before_last(fresh, calls)))?;
     }
-    comparison.counts.progress.finished_runs += u64::from(steps::all_done(&library));
+    let is_finished = steps::all_done(&library);
+    comparison.counts.progress.finished_runs += u64::from(is_finished && steps::waits_for_none(&library));
+    comparison.counts.timers.finished_runs += u64::from(is_finished && !steps::waits_for_none(&library));
     Ok(library)
 }
 

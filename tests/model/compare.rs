@@ -10,14 +10,18 @@ use crate::lent::{Lent, PathTables, PlanTables, RIGHT_SIZES, Sizes};
 use crate::link_state::Input;
 use crate::ofib::{self, Answer, CELLS, Contents, REHEARSAL_ROOM, ROUTES_ROOM, Record, Tables, WIDTH};
 use crate::paths::{self, UNUSED};
+use crate::plan::Request;
 use crate::random::Random;
 use crate::read::Format;
+use crate::step::TICK;
 use crate::{changes, files as bench_files, from_isis, isis, plan, process, read, rewriting, sheet, step, steps, text};
 
 /// The byte that stands in the room before a call; it is in no text.
 const BEFORE: u8 = 0xA5;
 /// Bytes after the room, which no call may touch.
 const AFTER: usize = 64;
+/// More ticks than these are not made one by one where a sheet is followed.
+const SINGLE_TICKS: usize = 100;
 
 pub struct Comparison {
     pub flaw: Flaw,
@@ -82,18 +86,17 @@ impl Comparison {
     pub fn plan(
         &mut self,
         random: &mut Random,
-        n: usize,
+        request: Request,
         old: &[u32],
         sizes: [usize; 7],
-        list: &[u8],
     ) -> Result<Planned, String> {
         let mut all = [0; 8];
         all[1..].copy_from_slice(&sizes);
         let mut tables = PlanTables::filled(random, all);
         tables.old = Lent::holding(random, old);
-        let planned = self.plan_alone(random, n, tables.clone(), list)?;
-        self.other_order(random, n, tables.clone(), list, &planned)?;
-        let routers = self.sheet(random, n, tables, list, &planned)?;
+        let planned = self.plan_alone(random, request, tables.clone())?;
+        self.other_order(random, request, tables.clone(), &planned)?;
+        let routers = self.sheet(random, request, tables, &planned)?;
         if planned.answer == 0 {
             self.counts.accepted(planned.record.n, planned.record.direction);
             self.counts.fours.count(&planned);
@@ -102,19 +105,14 @@ impl Comparison {
         Ok(planned)
     }
 
-    fn plan_alone(
-        &mut self,
-        random: &mut Random,
-        n: usize,
-        mut tables: PlanTables,
-        list: &[u8],
-    ) -> Result<Planned, String> {
+    fn plan_alone(&mut self, random: &mut Random, request: Request, mut tables: PlanTables) -> Result<Planned, String> {
+        let Request { n, times, list } = request;
         let mut model_tables = tables.clone();
         // The record is handed back whole, so nothing that it held before may be left in it.
         let mut record = steps::any_record(random);
         let mut model_record = record.clone();
-        let answer = ofib::plan(n, list, &mut tables.lend(), &mut record);
-        let model = plan::plan(n, list, &mut model_tables.lend(), &mut model_record, self.flaw);
+        let answer = ofib::plan(n, times.hold, times.step, list, &mut tables.lend(), &mut record);
+        let model = plan::plan(request, &mut model_tables.lend(), &mut model_record, self.flaw);
         same("Plan's answer", answer, model)?;
         tables.compare(&model_tables, "Plan")?;
         records("Plan's record", &record, &model_record)?;
@@ -127,16 +125,16 @@ impl Comparison {
     fn other_order(
         &mut self,
         random: &mut Random,
-        n: usize,
+        request: Request,
         tables: PlanTables,
-        list: &[u8],
         planned: &Planned,
     ) -> Result<(), String> {
-        let reordered = changes::in_another_order(random, list);
-        if reordered == list {
+        let reordered = changes::in_another_order(random, request.list);
+        if reordered == request.list {
             return Ok(());
         }
-        let other = self.plan_alone(random, n, tables, &reordered)?;
+        let list = &reordered;
+        let other = self.plan_alone(random, Request { list, ..request }, tables)?;
         self.counts.order(planned.answer, other.answer);
         let of_entries = 4..=7;
         if !of_entries.contains(&planned.answer) || !of_entries.contains(&other.answer) {
@@ -151,14 +149,13 @@ impl Comparison {
     fn sheet(
         &mut self,
         random: &mut Random,
-        n: usize,
+        Request { n, times, list }: Request,
         mut tables: PlanTables,
-        list: &[u8],
         planned: &Planned,
     ) -> Result<[u8; WIDTH], String> {
         let before = std::array::from_fn(|_| random.byte());
         let mut routers = before;
-        let answer = ofib::sheet(n, list, &mut tables.lend(), &mut routers);
+        let answer = ofib::sheet(n, times.hold, times.step, list, &mut tables.lend(), &mut routers);
         same("the sheet's answer", answer, planned.answer)?;
         tables.compare(&planned.tables, "the sheet")?;
         entries("the sheet", &routers, &sheet::sheet(&planned.record, before, self.flaw))?;
@@ -166,20 +163,29 @@ impl Comparison {
         Ok(routers)
     }
 
-    /// Following the sheet, no step is refused or ignored, and in the end every router is done. The sheet has as many
-    /// steps as the plan needs.
+    /// Following the sheet, no step is refused or ignored, and in the end every router is done. These are as many steps
+    /// as the plan needs, and the ticks of the hold time.
     fn follow(&mut self, fresh: &Record, routers: &[u8; WIDTH]) -> Result<(), String> {
         let (mut library, mut model) = (fresh.clone(), fresh.clone());
-        let following = sheet::following(fresh, &routers[..usize::from(fresh.n)]);
+        let following = sheet::following(fresh, &routers[..usize::from(fresh.n)], Flaw::None);
         let mut course = Course {
             needs: self.needs(fresh)?,
             oks: 0,
         };
-        for &call in &following {
-            let answer = self.step(&mut library, &mut model, call)?;
-            course.went_on(self, answer, &library)?;
-            if answer != Answer::Ok {
-                return Err(format!("following the sheet {routers:?}, step {call:?}: {answer:?}"));
+        let wanted = course.needs + usize::from(fresh.hold_time);
+        same("steps of following the sheet", wanted, following.len())?;
+        for calls in following.chunk_by(|call, next| call[0] == TICK && next[0] == TICK) {
+            if calls.len() > SINGLE_TICKS {
+                library = self.run(&library, calls.as_flattened())?;
+                model = library.clone();
+                continue;
+            }
+            for &call in calls {
+                let answer = self.step(&mut library, &mut model, call)?;
+                course.went_on(self, call[0], answer, &library)?;
+                if answer != Answer::Ok {
+                    return Err(format!("following the sheet {routers:?}, step {call:?}: {answer:?}"));
+                }
             }
         }
         let last = self.run(fresh, following.as_flattened())?;
@@ -192,6 +198,7 @@ impl Comparison {
             return Err(format!("following the sheet {routers:?} ends with {last:?}"));
         }
         self.counts.followed += 1;
+        self.counts.timers.sheets += u64::from(fresh.hold_time > 0);
         Ok(())
     }
 
@@ -209,6 +216,7 @@ impl Comparison {
             records(&format!("record after step {call:?}"), library, model)?;
         }
         self.counts.step(kind, answer);
+        self.counts.timers.step(library, call, answer);
         Ok(answer)
     }
 
@@ -276,6 +284,8 @@ impl Comparison {
         same("Read's answer to the printed file", answer, 0)?;
         let counts = (contents.n, contents.changes, contents.steps);
         same("routers, changes and steps of the printed file", counts, (*n, 0, 0))?;
+        let times = (contents.hold_time, contents.step_time);
+        same("times of the printed file", times, (0, 1))?;
         read.compare(&table, "of Read of the printed file")
     }
 
@@ -356,61 +366,86 @@ impl Comparison {
         Ok(text)
     }
 
-    /// Read, rehearsal and routes of one file, with all the room they need, and the file as a stored one.
+    /// Read, rehearsal and routes of one file, with all the room they need.
     pub fn file(&mut self, random: &mut Random, file: &[u8]) -> Result<String, String> {
-        let (answer, _) = self.read(random, file, CELLS)?;
+        self.one_format(random, file)?;
         let text = self.rehearsal(random, file, RIGHT_SIZES, None)?;
         self.routes(random, file, RIGHT_SIZES, None)?;
-        self.stored(random, file, answer)?;
         self.counts.files += 1;
         Ok(text)
     }
 
-    /// The old reader refuses what Read does, but for 30, which it never gives. The file as the model rewrites it is
-    /// accepted by the library's Read and gives the table that the old reader gave; its changes and steps are the old
-    /// ones (02, No. 5).
-    fn stored(&mut self, random: &mut Random, file: &[u8], answer: u8) -> Result<(), String> {
-        let (refused, table) = rewriting::old_reader(file, self.flaw);
+    /// Read's answer. No file is taken by it and by the old reader.
+    fn one_format(&mut self, random: &mut Random, file: &[u8]) -> Result<u8, String> {
+        let (answer, _) = self.read(random, file, CELLS)?;
+        match rewriting::old_reader(file, self.flaw) {
+            (Ok(_), _) if answer == 0 => Err("Read and the old reader take the file".to_string()),
+            _ => Ok(answer),
+        }
+    }
+
+    /// The old reader refuses what Read does of the file with times, but for 30, which it never gives. The file as the
+    /// model rewrites it is accepted by the library's Read and gives the table that the old reader gave; its changes
+    /// and steps are the old ones (02, No. 5), and it has the times of No. 10.
+    pub fn stored(&mut self, random: &mut Random, file: &[u8]) -> Result<(), String> {
+        self.one_format(random, file)?;
+        let timed = rewriting::with_times(file);
+        let answer = self.one_format(random, &timed)?;
+        let (outcome, table) = rewriting::old_reader(file, self.flaw);
+        let refused = outcome.map_or_else(|fault| fault.number, |_| 0);
         if answer != 30 {
             same("Read's answer beside the old reader's", answer, refused)?;
         } else if refused == 30 {
             return Err("the old reader refuses a dead link".to_string());
         }
         self.counts.rewriting[usize::from(refused)] += 1;
-        if refused != 0 {
+        let Ok(contents) = outcome else {
             return Ok(());
-        }
+        };
         let rewritten = rewriting::rewritten(file, self.flaw);
         if !rewriting::has_dead_link(file) {
             self.counts.without_dead_links += 1;
-            return files(
-                "a file without dead links, and as the model rewrites it",
-                file,
-                &rewritten,
-            );
+            let what = "a file without dead links with times, and as the model rewrites it";
+            return files(what, &timed, &rewritten);
         }
         self.counts.with_dead_links += 1;
-        self.rewritten(random, file, &rewritten, &table)
+        self.rewritten(random, &rewritten, &table, &parts_of(file, &contents))
     }
 
-    fn rewritten(&mut self, random: &mut Random, file: &[u8], rewritten: &[u8], table: &[u32]) -> Result<(), String> {
+    fn rewritten(
+        &mut self,
+        random: &mut Random,
+        rewritten: &[u8],
+        table: &[u32],
+        [changes, steps]: &[&[u8]; 2],
+    ) -> Result<(), String> {
         let mut read = Lent::filled(random, CELLS);
         let mut old = read.clone();
         old.cells_mut().copy_from_slice(table);
         let (answer, contents) = ofib::read(rewritten, read.cells_mut());
         same("Read's answer to the rewritten file", answer, 0)?;
         read.compare(&old, "of Read of the rewritten file")?;
-        let behind = &rewritten[contents.changes_at - 1..];
-        let old_behind = &file[file.len() - behind.len()..];
-        files(
-            "the stored file from the change count on, and as rewritten",
-            old_behind,
-            behind,
-        )?;
+        let times = (contents.hold_time, contents.step_time);
+        same("times of the rewritten file", times, (0, 1))?;
+        let [new_changes, new_steps] = parts_of(rewritten, &contents);
+        files("the changes of the stored file, and as rewritten", changes, new_changes)?;
+        files("the steps of the stored file, and as rewritten", steps, new_steps)?;
+        self.one_format(random, rewritten)?;
         self.rehearsal(random, rewritten, RIGHT_SIZES, None)?;
         self.routes(random, rewritten, RIGHT_SIZES, None)?;
         Ok(())
     }
+}
+
+/// The changes and the steps of a file.
+fn parts_of<'a>(file: &'a [u8], contents: &Contents) -> [&'a [u8]; 2] {
+    let Contents {
+        changes_at, steps_at, ..
+    } = *contents;
+    [
+        &file[changes_at..changes_at + 5 * contents.changes],
+        &file[steps_at..steps_at + 3 * contents.steps],
+    ]
 }
 
 /// Two plans of the same changes: both accepted or both refused, and with the same record and tables.
@@ -444,7 +479,11 @@ pub fn records(what: &str, library: &Record, model: &Record) -> Result<(), Strin
     entries(&field("telling"), &library.telling, &model.telling)?;
     entries(&field("due"), &library.due, &model.due)?;
     entries(&field("states"), &library.states, &model.states)?;
-    entries(&field("written"), &library.written, &model.written)
+    entries(&field("written"), &library.written, &model.written)?;
+    same(&field("hold time"), library.hold_time, model.hold_time)?;
+    same(&field("step time"), library.step_time, model.step_time)?;
+    same(&field("clock"), library.clock, model.clock)?;
+    entries(&field("learn times"), &library.learn_times, &model.learn_times)
 }
 
 fn entries<T: PartialEq + Debug>(what: &str, library: &[T], model: &[T]) -> Result<(), String> {

@@ -4,21 +4,12 @@ use crate::fours::Fours;
 use crate::isis::{self, Part};
 use crate::ofib::{Answer, WIDTH};
 use crate::plan::{MOST_CHANGES, RISE};
-use crate::read::{Fault, Section};
+use crate::read::{Fault, SECTIONS};
+use crate::step::TICK;
+use crate::timers::Timers;
 
 /// How often each answer of a call came up; 0 stands for "not refused".
 pub type Numbers = [u64; 256];
-
-pub const SECTIONS: [Section; 8] = [
-    Section::Routers,
-    Section::LinkCount,
-    Section::Links,
-    Section::ChangeCount,
-    Section::Changes,
-    Section::StepCount,
-    Section::Steps,
-    Section::End,
-];
 
 const PARTS: [Part; 6] = [
     Part::Routers,
@@ -29,7 +20,7 @@ const PARTS: [Part; 6] = [
     Part::End,
 ];
 
-pub const STEP_KINDS: [&str; 6] = ["another kind", "learn", "release", "write", "finish", "deliver"];
+pub const STEP_KINDS: [&str; 7] = ["another kind", "learn", "release", "write", "finish", "deliver", "tick"];
 /// The place of "ignored" among a step's answers; no refusal has this number.
 const IGNORED: usize = 255;
 
@@ -63,7 +54,7 @@ const USABLE: [(Usable, &str); 7] = [
 ];
 
 /// What texts of unfinished routers are to have, each somewhere.
-const UNFINISHED: [(&str, &str); 8] = [
+const UNFINISHED: [(&str, &str); 10] = [
     (" idle waits", "router that is idle in the end"),
     (" holding waits", "router that is holding in the end"),
     (" ongoing waits", "router that is ongoing in the end"),
@@ -71,6 +62,8 @@ const UNFINISHED: [(&str, &str); 8] = [
     (" unwritten none\n", "router with nothing left to write"),
     (" 63 unwritten", "router that waits for router 63 in the end"),
     (" 62 63\n", "router that has written neither router 62 nor 63"),
+    (" holds until", "router that has not been released in the end"),
+    (" waits until", "router that waits for its due time in the end"),
     ("missing 0\n", "file whose steps leave nothing missing"),
 ];
 
@@ -90,6 +83,7 @@ pub struct Counts {
     /// Running sheets that were followed to their end.
     pub followed: u64,
     pub files: u64,
+    pub stored_files: u64,
     pub short_texts: u64,
     pub processes: u64,
     /// The old reader's answers to the files, and how many it took with and without dead links.
@@ -108,11 +102,11 @@ pub struct Counts {
     pub read: Numbers,
     pub rehearsal: Numbers,
     pub routes: Numbers,
-    steps: [Numbers; 6],
+    steps: [Numbers; STEP_KINDS.len()],
     /// For each refusal of a change list's entry, how often it came up at each place.
     list_places: [[u64; MOST_CHANGES]; 16],
     /// For each refusal of Read, how often its cause lay in each section.
-    read_sections: [[u64; 8]; 31],
+    read_sections: [[u64; SECTIONS.len()]; 31],
     pub isis: Numbers,
     /// Link-state data that was accepted, by the number of routers.
     pub isis_sizes: [u64; WIDTH + 1],
@@ -125,6 +119,7 @@ pub struct Counts {
     pub sheet_steps: Numbers,
     pub too_many_steps: u64,
     pub progress: Progress,
+    pub timers: Timers,
 }
 
 /// How far runs got (02, No. 8).
@@ -159,12 +154,12 @@ impl Progress {
     /// The program that prints what is unfinished may not be run.
     fn not_seen(&self, missing: &mut Vec<String>) {
         require(missing, self.finished_runs, || {
-            "run in which every router is done".to_string()
+            "run in which every router is done and waits for none".to_string()
         });
         if self.unfinished.iter().all(|&count| count == 0) {
             return;
         }
-        for number in [0, 1, 2, 3, 4, 5, 6, 7, 9, 10, 11, 12, 13, 30] {
+        for number in [0, 1, 2, 3, 4, 5, 6, 7, 9, 10, 11, 12, 13, 30, 36] {
             require(missing, self.unfinished[number], || {
                 format!("program that prints what is unfinished answering {number}")
             });
@@ -175,7 +170,10 @@ impl Progress {
     }
 
     fn print(&self) {
-        println!("runs in which every router got done: {}", self.finished_runs);
+        println!(
+            "runs in which every router got done and waits for none: {}",
+            self.finished_runs
+        );
         println!(
             "asked what is needed: {}, what is missing: {}",
             self.needs, self.missing
@@ -197,6 +195,7 @@ impl Counts {
             fours: Fours::default(),
             followed: 0,
             files: 0,
+            stored_files: 0,
             short_texts: 0,
             processes: 0,
             rewriting: [0; 256],
@@ -212,9 +211,9 @@ impl Counts {
             read: [0; 256],
             rehearsal: [0; 256],
             routes: [0; 256],
-            steps: [[0; 256]; 6],
+            steps: [[0; 256]; STEP_KINDS.len()],
             list_places: [[0; MOST_CHANGES]; 16],
-            read_sections: [[0; 8]; 31],
+            read_sections: [[0; SECTIONS.len()]; 31],
             isis: [0; 256],
             isis_sizes: [0; WIDTH + 1],
             isis_parts: [[0; PARTS.len()]; 34],
@@ -223,6 +222,7 @@ impl Counts {
             sheet_steps: [0; 256],
             too_many_steps: 0,
             progress: Progress::new(),
+            timers: Timers::default(),
         }
     }
 
@@ -247,7 +247,7 @@ impl Counts {
     }
 
     pub fn step(&mut self, kind: u8, answer: Answer) {
-        let kind = if kind > 5 { 0 } else { usize::from(kind) };
+        let kind = if kind > TICK { 0 } else { usize::from(kind) };
         let number = match answer {
             Answer::Ok => 0,
             Answer::Ignored => IGNORED,
@@ -280,6 +280,7 @@ impl Counts {
         self.missing_sheet_steps(&mut missing);
         self.progress.not_seen(&mut missing);
         self.fours.not_seen(&mut missing);
+        self.timers.not_seen(&mut missing);
         for n in 1..=WIDTH {
             require(&mut missing, self.sizes[n], || format!("area of {n} routers"));
         }
@@ -310,8 +311,8 @@ impl Counts {
     }
 
     fn missing_numbers(&self, missing: &mut Vec<String>) {
-        let of_texts: &[usize] = &[0, 1, 2, 3, 4, 5, 6, 7, 8, 9, 10, 11, 12, 13, 30];
-        let of_plan: &[usize] = &[0, 1, 3, 4, 5, 6, 7, 8, 9, 10, 11, 12, 13];
+        let of_texts: &[usize] = &[0, 1, 2, 3, 4, 5, 6, 7, 8, 9, 10, 11, 12, 13, 30, 36];
+        let of_plan: &[usize] = &[0, 1, 3, 4, 5, 6, 7, 8, 9, 10, 11, 12, 13, 36];
         let calls: [(&str, &Numbers, &[usize]); 8] = [
             ("Paths", &self.paths, &[0, 3, 6, 8]),
             ("Plan", &self.plan, of_plan),
@@ -330,13 +331,14 @@ impl Counts {
     }
 
     fn missing_steps(&self, missing: &mut Vec<String>) {
-        let wanted: [&[usize]; 6] = [
+        let wanted: [&[usize]; STEP_KINDS.len()] = [
             &[20, 21],
             &[0, 20, 4, 23],
-            &[0, 20, 4, 23],
+            &[0, 20, 4, 23, 34],
             &[0, 20, 4, 23, 24, 25],
             &[0, 20, 4, 23, 24, 26],
             &[0, IGNORED, 20, 4, 27, 28],
+            &[0, 20, 35],
         ];
         for (kind, numbers) in wanted.into_iter().enumerate() {
             for &number in numbers {
@@ -357,14 +359,14 @@ impl Counts {
             }
         }
         let wanted: [(usize, &[usize]); 9] = [
-            (1, &[0, 1, 2, 3, 4, 5, 6]),
-            (2, &[7]),
+            (1, &[0, 1, 2, 3, 4, 5, 6, 7]),
+            (2, &[8]),
             (3, &[0]),
             (4, &[2]),
             (5, &[2]),
             (6, &[2]),
             (7, &[2]),
-            (9, &[1, 3, 5]),
+            (9, &[1, 3, 6]),
             (30, &[2]),
         ];
         for (number, sections) in wanted {
@@ -419,7 +421,7 @@ impl Counts {
         if self.sheet_steps.iter().all(|&count| count == 0) {
             return;
         }
-        for number in [0, 1, 2, 3, 4, 5, 6, 7, 9, 10, 11, 12, 13, 30] {
+        for number in [0, 1, 2, 3, 4, 5, 6, 7, 9, 10, 11, 12, 13, 30, 36] {
             require(missing, self.sheet_steps[number], || {
                 format!("program that prints the steps of a sheet answering {number}")
             });
@@ -455,6 +457,7 @@ impl Counts {
         for (kind, numbers) in STEP_KINDS.iter().zip(&self.steps) {
             println!("step, {kind}: {}", answers(numbers));
         }
+        self.timers.print();
         println!(
             "files: {}, texts cut short {}, runs of the program {}",
             self.files, self.short_texts, self.processes

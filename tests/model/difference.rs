@@ -8,6 +8,7 @@ use crate::areas::Area;
 use crate::link_state::Input;
 use crate::ofib::{Record, WIDTH};
 use crate::paths::UNUSED;
+use crate::plan::Times;
 
 pub enum Case {
     /// A bench file, byte for byte.
@@ -64,9 +65,13 @@ pub fn case_of(text: &str) -> Option<(&str, u64, u64)> {
     Some((kind, seed.parse().ok()?, number.parse().ok()?))
 }
 
-/// Routers, used links, change list and steps in words, and after them all cells of the metric table.
-pub fn describe_area(title: &str, area: &Area, list: &[u8], steps: &[u8]) -> String {
+/// Routers, times, used links, change list and steps in words, and after them all cells of the metric table. Paths has
+/// no times.
+pub fn describe_area(title: &str, area: &Area, times: Option<Times>, list: &[u8], steps: &[u8]) -> String {
     let mut text = format!("{title}\nn {}\n", area.n);
+    if let Some(Times { hold, step }) = times {
+        add(&mut text, format_args!("hold time {hold}, step time {step}\n"));
+    }
     for (cell, &metric) in area.metric.iter().enumerate() {
         let (i, j) = (cell / WIDTH, cell % WIDTH);
         if i < area.n && j < area.n && i != j && metric < UNUSED {

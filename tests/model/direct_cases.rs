@@ -1,4 +1,4 @@
-//! Calls that no bench file leads to: any n, any table size, any metric, any record.
+//! Calls that no bench file leads to: any n, any times, any table size, any metric, any record.
 
 use crate::area_cases::compare_area;
 use crate::areas::{self, Area};
@@ -7,11 +7,11 @@ use crate::compare::Comparison;
 use crate::difference::{Difference, describe_area, describe_step};
 use crate::files;
 use crate::lent::RIGHT_SIZES;
-use crate::ofib::{CELLS, Record, Set, WIDTH};
+use crate::ofib::{Answer, CELLS, Record, Set, WIDTH};
 use crate::paths::{UNUSED, at, pairs};
-use crate::plan::Change;
+use crate::plan::{Change, Request};
 use crate::random::Random;
-use crate::steps;
+use crate::{clock_cases, steps, timers};
 
 const PART: u64 = 2;
 /// Among them numbers that are 0 to 64 when cut to 8, 16 or 32 bits.
@@ -51,6 +51,7 @@ pub fn direct_cases(comparison: &mut Comparison, seed: u64, count: u64) -> Resul
     every_kind(comparison, &mut random)?;
     wrong_state_at_each_index(comparison, &mut random)?;
     full_and_empty_sets(comparison, &mut random)?;
+    clock_cases::clock_cases(comparison, &mut random)?;
     for number in 1..=count {
         let mut random = Random::for_case(seed, PART, number);
         wrong_at_random(comparison, &mut random)?;
@@ -67,7 +68,7 @@ fn faults_at_each_place(comparison: &mut Comparison, random: &mut Random) -> Res
             let mut spoiled = changes.clone();
             changes::spoil(random, &area, &mut spoiled, fault, place);
             let title = format!("{fault:?} at entry {place}");
-            compare_area(comparison, random, &title, &area, &changes::bytes_of(&spoiled))?;
+            compare_list(comparison, random, &title, &area, &spoiled)?;
         }
     }
     Ok(())
@@ -87,7 +88,7 @@ fn one_effect_at_each_place(comparison: &mut Comparison, random: &mut Random) ->
             *entry = changes[place];
         }
         let title = format!("an effect at entry {place} alone");
-        compare_area(comparison, random, &title, &area, &changes::bytes_of(&list))?;
+        compare_list(comparison, random, &title, &area, &list)?;
     }
     Ok(())
 }
@@ -128,10 +129,23 @@ fn two_faults(comparison: &mut Comparison, random: &mut Random) -> Result<(), Di
             changes::spoil(random, &area, &mut spoiled, first, p);
             changes::spoil(random, &area, &mut spoiled, second, q);
             let title = format!("{first:?} at entry {p}, {second:?} at entry {q}");
-            compare_area(comparison, random, &title, &area, &changes::bytes_of(&spoiled))?;
+            compare_list(comparison, random, &title, &area, &spoiled)?;
         }
     }
     Ok(())
+}
+
+/// One area and one list, with times that are not refused.
+fn compare_list(
+    comparison: &mut Comparison,
+    random: &mut Random,
+    title: &str,
+    area: &Area,
+    changes: &[Change],
+) -> Result<(), Difference> {
+    let times = timers::of_plan(random);
+    let list = &changes::bytes_of(changes);
+    compare_area(comparison, random, title, area, Request { n: area.n, times, list })
 }
 
 fn wrong_n(comparison: &mut Comparison, random: &mut Random) -> Result<(), Difference> {
@@ -194,7 +208,7 @@ fn wrong_metric_at_each_place(comparison: &mut Comparison, random: &mut Random) 
             let metric = random.pick(&WRONG_METRICS);
             let right = std::mem::replace(&mut area.metric[place], metric);
             let outcome = comparison.paths(random, n, &area.metric, [CELLS; 3]);
-            outcome.map_err(|what| Difference::in_calls(what, describe_area("wrong metric", &area, &[], &[])))?;
+            outcome.map_err(|what| Difference::in_calls(what, describe_area("wrong metric", &area, None, &[], &[])))?;
             area.metric[place] = right;
         }
     }
@@ -202,7 +216,7 @@ fn wrong_metric_at_each_place(comparison: &mut Comparison, random: &mut Random) 
 }
 
 /// Some of n, sizes and metrics wrong at once.
-fn wrong_at_random(comparison: &mut Comparison, random: &mut Random) -> Result<(), Difference> {
+pub fn wrong_at_random(comparison: &mut Comparison, random: &mut Random) -> Result<(), Difference> {
     let (mut area, list) = area_and_list(random);
     let mut sizes = [CELLS; 7];
     if random.chance(50) {
@@ -234,7 +248,8 @@ fn area_and_list(random: &mut Random) -> (Area, Vec<u8>) {
     (area, list)
 }
 
-/// Paths and Plan; the sizes are those of the tables that Plan fills, and Paths gets those of the old topology.
+/// Paths and Plan, with or without a step time; the sizes are those of the tables that Plan fills, and Paths gets those
+/// of the old topology.
 fn compare_both(
     comparison: &mut Comparison,
     random: &mut Random,
@@ -242,12 +257,14 @@ fn compare_both(
     sizes: [usize; 7],
     list: &[u8],
 ) -> Result<(), Difference> {
+    let times = timers::of_request(random, 20);
     let mut compare = || {
         comparison.paths(random, area.n, &area.metric, [sizes[1], sizes[2], sizes[3]])?;
-        comparison.plan(random, area.n, &area.metric, sizes, list)
+        let request = Request { n: area.n, times, list };
+        comparison.plan(random, request, &area.metric, sizes)
     };
     let title = format!("direct calls with table sizes {sizes:?}");
-    compare().map_err(|what| Difference::in_calls(what, describe_area(&title, area, list, &[])))?;
+    compare().map_err(|what| Difference::in_calls(what, describe_area(&title, area, Some(times), list, &[])))?;
     Ok(())
 }
 
@@ -304,11 +321,10 @@ fn compare_counts(comparison: &mut Comparison, record: &Record) -> Result<(), St
     Ok(())
 }
 
-fn compare_one_step(comparison: &mut Comparison, record: &Record, call: [u8; 3]) -> Result<(), Difference> {
+pub fn compare_one_step(comparison: &mut Comparison, record: &Record, call: [u8; 3]) -> Result<Answer, Difference> {
     let (mut library, mut model) = (record.clone(), record.clone());
     let outcome = compare_counts(comparison, record).and_then(|()| comparison.step(&mut library, &mut model, call));
-    outcome.map_err(|what| Difference::in_calls(what, describe_step(record, &call)))?;
-    Ok(())
+    outcome.map_err(|what| Difference::in_calls(what, describe_step(record, &call)))
 }
 
 /// Steps on a record that no plan gives, one after the other and as one list, and what the record needs and is short

@@ -9,9 +9,9 @@ use crate::difference::Difference;
 use crate::files::{self, LINK_FAULTS, LONG_SHEETS, Parts};
 use crate::lent::RIGHT_SIZES;
 use crate::ofib::{ROUTES_ROOM, WIDTH};
-use crate::process;
 use crate::random::Random;
-use crate::read::LARGEST;
+use crate::read::{Format, LARGEST, LARGEST_STORED};
+use crate::{process, rewriting};
 
 const PART: u64 = 3;
 /// Files up to this size are cut after every byte.
@@ -52,7 +52,9 @@ impl Amount {
 
 pub fn file_cases(comparison: &mut Comparison, seed: u64, amount: &Amount) -> Result<(), Difference> {
     let mut random = Random::for_case(seed, PART, u64::MAX);
-    largest_file(comparison, &mut random, amount)?;
+    for largest in [(Format::New, LARGEST), (Format::Old, LARGEST_STORED)] {
+        largest_file(comparison, &mut random, largest, amount)?;
+    }
     dead_links(comparison, &mut random, amount)?;
     long_sheets(comparison, &mut random, amount)?;
     stopped(comparison, &mut random, amount)?;
@@ -65,33 +67,26 @@ pub fn file_cases(comparison: &mut Comparison, seed: u64, amount: &Amount) -> Re
     Ok(())
 }
 
-/// One file that the old reader takes, sometimes with all that can be cut off it, or one file with faults.
+/// One file that Read or the old reader takes, sometimes with all that can be cut off it, or one file with faults.
 pub fn file_case(comparison: &mut Comparison, seed: u64, number: u64, amount: &Amount) -> Result<(), Difference> {
     let mut random = Random::for_case(seed, PART, number);
     let most_routers = random.pick(&[2, 3, 4, 8, 8, 16, 16, WIDTH]);
-    match random.below(40) {
+    let format = random.pick(&[Format::New, Format::New, Format::Old]);
+    let file = match random.below(40) {
         0 => {
             let parts = files::stored(&mut random, most_routers);
-            cut_and_lengthened(comparison, &mut random, &parts, amount)
+            return cut_and_lengthened(comparison, &mut random, &parts, format, amount);
         }
-        1..=24 => {
-            let file = files::stored(&mut random, most_routers).bytes();
-            compare_file(comparison, &mut random, &file, amount)
-        }
-        25..=33 => {
-            let file = files::faulty(&mut random, most_routers);
-            compare_file(comparison, &mut random, &file, amount)
-        }
+        1..=24 => files::stored(&mut random, most_routers).in_format(format),
+        25..=33 => files::faulty(&mut random, most_routers, format),
         34..=37 => {
-            let mut file = files::stored(&mut random, most_routers).bytes();
+            let mut file = files::stored(&mut random, most_routers).in_format(format);
             files::alter(&mut random, &mut file);
-            compare_file(comparison, &mut random, &file, amount)
+            file
         }
-        _ => {
-            let file = files::any_bytes(&mut random);
-            compare_file(comparison, &mut random, &file, amount)
-        }
-    }
+        _ => files::any_bytes(&mut random),
+    };
+    compare_in(comparison, &mut random, &file, format, amount)
 }
 
 /// The file itself, the file with bytes after its end, and its beginnings.
@@ -99,26 +94,27 @@ fn cut_and_lengthened(
     comparison: &mut Comparison,
     random: &mut Random,
     parts: &Parts,
+    format: Format,
     amount: &Amount,
 ) -> Result<(), Difference> {
-    let file = parts.bytes();
-    compare_file(comparison, random, &file, amount)?;
+    let file = parts.in_format(format);
+    compare_in(comparison, random, &file, format, amount)?;
     let mut longer = file.clone();
     let more = random.pick(&[1, 1, 2, 3, 5, 100]);
     longer.extend(random.bytes(more));
-    compare_file(comparison, random, &longer, amount)?;
-    for length in lengths(random, parts, file.len()) {
-        compare_file(comparison, random, &file[..length], amount)?;
+    compare_in(comparison, random, &longer, format, amount)?;
+    for length in lengths(random, parts, format, file.len()) {
+        compare_in(comparison, random, &file[..length], format, amount)?;
     }
     Ok(())
 }
 
 /// Every length of a small file; of a larger one those at the borders of the sections and a few others.
-fn lengths(random: &mut Random, parts: &Parts, size: usize) -> Vec<usize> {
+fn lengths(random: &mut Random, parts: &Parts, format: Format, size: usize) -> Vec<usize> {
     if size <= SMALL {
         return (0..size).collect();
     }
-    let borders = parts.borders();
+    let borders = parts.borders(format);
     let mut lengths: Vec<usize> = borders
         .iter()
         .flat_map(|&border| [border.saturating_sub(1), border, border + 1])
@@ -130,19 +126,24 @@ fn lengths(random: &mut Random, parts: &Parts, size: usize) -> Vec<usize> {
     lengths
 }
 
-/// The largest file, one byte more, many bytes more, and its beginnings.
-fn largest_file(comparison: &mut Comparison, random: &mut Random, amount: &Amount) -> Result<(), Difference> {
+/// The largest file of a format, one byte more, many bytes more, and its beginnings.
+fn largest_file(
+    comparison: &mut Comparison,
+    random: &mut Random,
+    (format, size): (Format, usize),
+    amount: &Amount,
+) -> Result<(), Difference> {
     let parts = files::largest(random);
-    let file = parts.bytes();
-    assert_eq!(file.len(), LARGEST, "size of the largest file");
+    let file = parts.in_format(format);
+    assert_eq!(file.len(), size, "size of the largest file");
     let always = amount.with_each_file();
-    for more in [0, 1, 2, 3, 20_000] {
+    for more in [0, 1, 2, 3, 4, 5, 20_000] {
         let mut longer = file.clone();
         longer.extend(random.bytes(more));
-        compare_file(comparison, random, &longer, &always)?;
+        compare_in(comparison, random, &longer, format, &always)?;
     }
-    for length in lengths(random, &parts, file.len()) {
-        compare_file(comparison, random, &file[..length], &always)?;
+    for length in lengths(random, &parts, format, file.len()) {
+        compare_in(comparison, random, &file[..length], format, &always)?;
     }
     Ok(())
 }
@@ -170,7 +171,7 @@ fn stopped(comparison: &mut Comparison, random: &mut Random, amount: &Amount) ->
 fn dead_links(comparison: &mut Comparison, random: &mut Random, amount: &Amount) -> Result<(), Difference> {
     for n in [2, 3, 5, 33, WIDTH] {
         for parts in files::dead_on_purpose(random, n) {
-            compare_file(comparison, random, &parts.bytes(), &amount.with_each_file())?;
+            compare_both(comparison, random, &parts, &amount.with_each_file())?;
         }
     }
     Ok(())
@@ -194,8 +195,65 @@ fn link_faults(
             if random.chance(30) {
                 files::spoil(random, &mut spoiled);
             }
-            compare_file(comparison, random, &spoiled.bytes(), amount)?;
+            compare_both(comparison, random, &spoiled, amount)?;
         }
+    }
+    Ok(())
+}
+
+/// The parts as a bench file, and as a stored one.
+fn compare_both(
+    comparison: &mut Comparison,
+    random: &mut Random,
+    parts: &Parts,
+    amount: &Amount,
+) -> Result<(), Difference> {
+    for format in [Format::New, Format::Old] {
+        compare_in(comparison, random, &parts.in_format(format), format, amount)?;
+    }
+    Ok(())
+}
+
+fn compare_in(
+    comparison: &mut Comparison,
+    random: &mut Random,
+    file: &[u8],
+    format: Format,
+    amount: &Amount,
+) -> Result<(), Difference> {
+    match format {
+        Format::New => compare_file(comparison, random, file, amount),
+        Format::Old => compare_stored(comparison, random, file, amount),
+    }
+}
+
+/// All comparisons of a stored file, and sometimes of what it is rewritten to, which is rewritten once more.
+pub fn compare_stored(
+    comparison: &mut Comparison,
+    random: &mut Random,
+    file: &[u8],
+    amount: &Amount,
+) -> Result<(), Difference> {
+    let mut compare = || {
+        comparison.stored(random, file)?;
+        comparison.counts.stored_files += 1;
+        rewrite(comparison, random, file, amount)?;
+        if random.chance(10) {
+            let rewritten = rewriting::rewritten(file, comparison.flaw);
+            rewrite(comparison, random, &rewritten, amount)?;
+        }
+        Ok(())
+    };
+    compare().map_err(|what: String| Difference::in_file(format!("a stored file: {what}"), file))
+}
+
+/// The program that rewrites stored files, with some of them.
+fn rewrite(comparison: &mut Comparison, random: &mut Random, file: &[u8], amount: &Amount) -> Result<(), String> {
+    if let Some(program) = &amount.rewrite
+        && comparison.counts.stored_files % amount.rewrite_stride == 0
+    {
+        comparison.counts.rewrites += 1;
+        process::compare_rewriting(random, program, file, comparison.flaw)?;
     }
     Ok(())
 }
@@ -228,12 +286,6 @@ fn run_programs(comparison: &mut Comparison, random: &mut Random, file: &[u8], a
     {
         comparison.counts.processes += 1;
         process::compare(random, program, file)?;
-    }
-    if let Some(program) = &amount.rewrite
-        && number % amount.rewrite_stride == 0
-    {
-        comparison.counts.rewrites += 1;
-        process::compare_rewriting(random, program, file, comparison.flaw)?;
     }
     if let Some(program) = &amount.sheet_steps
         && number % amount.sheet_stride == 0

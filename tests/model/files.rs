@@ -1,4 +1,4 @@
-//! Bench files: faultless ones, and ones with faults at chosen places.
+//! Bench files and stored ones: faultless, and with faults at chosen places.
 
 use crate::areas::{self, Area};
 use crate::changes;
@@ -7,11 +7,12 @@ use crate::lent::{PlanTables, RIGHT_SIZES};
 use crate::needs::needs;
 use crate::ofib::{CELLS, Record, WIDTH};
 use crate::paths::{UNUSED, at, pairs};
-use crate::plan::{Change, MOST_CHANGES, plan};
+use crate::plan::{Change, MOST_CHANGES, Request, Times, WITHOUT_TIMERS, plan};
 use crate::random::Random;
-use crate::read::MOST_STEPS;
+use crate::read::{Format, MOST_STEPS};
 use crate::step::step;
 use crate::steps::Caller;
+use crate::timers;
 
 /// The parts of a file. The counts stand by themselves, so that they can be wrong.
 #[derive(Clone)]
@@ -21,11 +22,14 @@ pub struct Parts {
     pub links: Vec<Change>,
     pub change_count: usize,
     pub changes: Vec<u8>,
+    /// A stored file has none.
+    pub times: Times,
     pub step_count: usize,
     pub steps: Vec<u8>,
 }
 
 impl Parts {
+    /// With the times that go without ticks.
     pub fn new(n: usize, links: Vec<Change>, changes: Vec<u8>, steps: Vec<u8>) -> Parts {
         Parts {
             n: n as u8,
@@ -33,28 +37,43 @@ impl Parts {
             links,
             change_count: changes.len() / 5,
             changes,
+            times: WITHOUT_TIMERS,
             step_count: steps.len() / 3,
             steps,
         }
     }
 
     pub fn bytes(&self) -> Vec<u8> {
-        let mut file = vec![self.n];
-        file.extend((self.link_count as u16).to_be_bytes());
-        file.extend(changes::bytes_of(&self.links));
-        file.push(self.change_count as u8);
-        file.extend(&self.changes);
-        file.extend((self.step_count as u16).to_be_bytes());
-        file.extend(&self.steps);
-        file
+        self.in_format(Format::New)
+    }
+
+    pub fn in_format(&self, format: Format) -> Vec<u8> {
+        self.sections(format).concat()
+    }
+
+    fn sections(&self, format: Format) -> Vec<Vec<u8>> {
+        let two = |number: u16| number.to_be_bytes().to_vec();
+        let times = match format {
+            Format::Old => Vec::new(),
+            Format::New => [two(self.times.hold), two(self.times.step)].concat(),
+        };
+        vec![
+            vec![self.n],
+            two(self.link_count as u16),
+            changes::bytes_of(&self.links),
+            vec![self.change_count as u8],
+            self.changes.clone(),
+            times,
+            two(self.step_count as u16),
+            self.steps.clone(),
+        ]
     }
 
     /// Where each section begins and ends.
-    pub fn borders(&self) -> Vec<usize> {
-        let sizes = [1, 2, 5 * self.links.len(), 1, self.changes.len(), 2, self.steps.len()];
+    pub fn borders(&self, format: Format) -> Vec<usize> {
         let mut borders = vec![0];
-        for size in sizes {
-            borders.push(borders[borders.len() - 1] + size);
+        for section in self.sections(format) {
+            borders.push(borders[borders.len() - 1] + section.len());
         }
         borders
     }
@@ -65,8 +84,8 @@ pub fn faultless(random: &mut Random, most_routers: usize) -> Parts {
     with_dead_links(random, most_routers, 0)
 }
 
-/// A file without a fault of the old reader's, now and then with dead links: of pairs that were not used anyway, or of
-/// pairs that were.
+/// A file without a fault of the old reader's if it has no times, now and then with dead links: of pairs that were not
+/// used anyway, or of pairs that were.
 pub fn stored(random: &mut Random, most_routers: usize) -> Parts {
     let percent = random.pick(&[0, 0, 0, 0, 0, 0, 20, 100]);
     let mut parts = with_dead_links(random, most_routers, percent);
@@ -88,8 +107,12 @@ fn with_dead_links(random: &mut Random, most_routers: usize, percent: usize) -> 
     let mut area = areas::area_of_size(random, n);
     let mut list = changes::list(random, &mut area);
     list.truncate(list.len().min(5 * MOST_CHANGES) / 5 * 5);
-    let steps = steps_for(random, &area, &list);
-    Parts::new(n, links_of(random, &area, percent), list, steps)
+    let times = timers::of_request(random, 2);
+    let steps = steps_for(random, &area, times, &list);
+    Parts {
+        times,
+        ..Parts::new(n, links_of(random, &area, percent), list, steps)
+    }
 }
 
 /// The largest file that can be accepted: all links, all changes of a router, all steps.
@@ -97,7 +120,7 @@ pub fn largest(random: &mut Random) -> Parts {
     let area = areas::full_mesh(random, WIDTH);
     let router = random.below(WIDTH);
     let list = changes::bytes_of(&changes::router_down(&area, router));
-    let steps = calls(random, &area, &list, MOST_STEPS);
+    let steps = calls(random, &area, WITHOUT_TIMERS, &list, MOST_STEPS);
     Parts::new(WIDTH, links_of(random, &area, 0), list, steps)
 }
 
@@ -115,17 +138,26 @@ const STOPS: usize = 50;
 const FEWEST: usize = 3 * WIDTH + 2 * (WIDTH - 1) + (WIDTH - 1);
 
 /// All links of router 0, over which any two others reach each other at 2, go down. Two others write to each other,
-/// unless their own link is better, so by the number of better ones the sheet has as many steps as wanted.
+/// unless their own link is better, so by the number of better ones the sheet has as many steps as wanted, or by it and
+/// the hold time.
 pub fn long_sheet(random: &mut Random, steps: usize) -> Parts {
+    let most = steps - FEWEST;
+    let hold = random.pick(&[0, most.min(1), most / 2, most]);
     let mut others: Vec<(usize, usize)> = pairs(WIDTH).filter(|&(i, j)| i > 0 && j > 0).collect();
     random.shuffle(&mut others);
     let mut metric = vec![1; CELLS];
-    for &(i, j) in &others[..steps - FEWEST] {
+    for &(i, j) in &others[..most - hold] {
         metric[at(i, j)] = random.pick(&[2, 3, 9]);
     }
     let area = Area { n: WIDTH, metric };
     let list = changes::bytes_of(&changes::router_down(&area, 0));
-    Parts::new(WIDTH, links_of(random, &area, 0), list, Vec::new())
+    Parts {
+        times: Times {
+            hold: hold as u16,
+            step: 1,
+        },
+        ..Parts::new(WIDTH, links_of(random, &area, 0), list, Vec::new())
+    }
 }
 
 /// A router of a full mesh goes down: a run that brings every router to its end, stopped after each step, or after each
@@ -133,10 +165,18 @@ pub fn long_sheet(random: &mut Random, steps: usize) -> Parts {
 pub fn stopped(random: &mut Random, n: usize) -> Vec<Parts> {
     let area = areas::full_mesh(random, n);
     let list = changes::bytes_of(&changes::router_down(&area, random.below(n)));
-    let record = fresh(random, &area, &list).expect("a router that goes down is planned");
-    let (count, caller) = (needs(&record, Flaw::None), Caller::orderly(random));
+    let times = Times {
+        hold: random.below(4) as u16,
+        step: random.between(1, 9) as u16,
+    };
+    let record = fresh(random, &area, times, &list).expect("a router that goes down is planned");
+    let count = needs(&record, Flaw::None) + usize::from(times.hold);
+    let caller = Caller::orderly(random);
     let steps = chosen(random, record, caller, count);
-    let whole = Parts::new(n, links_of(random, &area, 0), list, steps);
+    let whole = Parts {
+        times,
+        ..Parts::new(n, links_of(random, &area, 0), list, steps)
+    };
     let stops = (0..count).step_by(count.div_ceil(STOPS)).chain([count]);
     let stopped = |stop: usize| Parts {
         step_count: stop,
@@ -159,15 +199,15 @@ pub fn links_of(random: &mut Random, area: &Area, percent: usize) -> Vec<Change>
     links
 }
 
-fn steps_for(random: &mut Random, area: &Area, list: &[u8]) -> Vec<u8> {
+fn steps_for(random: &mut Random, area: &Area, times: Times, list: &[u8]) -> Vec<u8> {
     let most = random.pick(&[0, 3, 20, 20, 100, 300]);
     let count = random.between(0, most);
-    calls(random, area, list, count)
+    calls(random, area, times, list, count)
 }
 
 /// Calls chosen along the run of the area's plan; any bytes where there is no plan.
-fn calls(random: &mut Random, area: &Area, list: &[u8], count: usize) -> Vec<u8> {
-    let Some(record) = fresh(random, area, list) else {
+fn calls(random: &mut Random, area: &Area, times: Times, list: &[u8], count: usize) -> Vec<u8> {
+    let Some(record) = fresh(random, area, times, list) else {
         return random.bytes(3 * count);
     };
     let caller = Caller::new(random);
@@ -175,11 +215,12 @@ fn calls(random: &mut Random, area: &Area, list: &[u8], count: usize) -> Vec<u8>
 }
 
 /// The fresh record of the area's plan, where there is one.
-fn fresh(random: &mut Random, area: &Area, list: &[u8]) -> Option<Record> {
+fn fresh(random: &mut Random, area: &Area, times: Times, list: &[u8]) -> Option<Record> {
     let mut tables = PlanTables::filled(random, RIGHT_SIZES);
     tables.old.cells_mut().copy_from_slice(&area.metric);
     let mut record = Record::default();
-    let answer = plan(area.n, list, &mut tables.lend(), &mut record, Flaw::None);
+    let request = Request { n: area.n, times, list };
+    let answer = plan(request, &mut tables.lend(), &mut record, Flaw::None);
     (answer == 0).then_some(record)
 }
 
@@ -279,12 +320,12 @@ pub fn spoil_link(random: &mut Random, parts: &mut Parts, fault: LinkFault, plac
 }
 
 /// A file with one to three faults, sometimes cut or lengthened as well.
-pub fn faulty(random: &mut Random, most_routers: usize) -> Vec<u8> {
+pub fn faulty(random: &mut Random, most_routers: usize, format: Format) -> Vec<u8> {
     let mut parts = stored(random, most_routers);
     for _ in 0..random.between(1, 3) {
         spoil(random, &mut parts);
     }
-    let mut file = parts.bytes();
+    let mut file = parts.in_format(format);
     match random.below(10) {
         0 | 1 => file.truncate(random.below(file.len())),
         2 => {

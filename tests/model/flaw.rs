@@ -214,6 +214,84 @@ pub enum Flaw {
     HeadingLeftOut,
     /// They do so also where the file is refused.
     HeadingThoughRefused,
+    /// A step time of 0 is taken.
+    NoStepTimeTaken,
+    /// 36 is tested before 3.
+    NoStepTimeFirst,
+    /// 36 is tested after 8.
+    NoStepTimeAfterSizes,
+    /// The record has the hold time and the step time in each other's place.
+    TimesExchanged,
+    /// There is no kind 6.
+    TickUnknown,
+    /// A tick refuses an a that is no router.
+    TickReadsA,
+    /// A tick refuses a b that is no router.
+    TickReadsB,
+    /// A tick at the end of the clock is answered ok and starts it anew.
+    ClockStartsAnew,
+    /// Learn does not note the clock.
+    LearnTimeNotNoted,
+    /// The learn time is noted at the release, so that the due time is counted from there.
+    LearnTimeAtRelease,
+    /// 34 is tested before 23.
+    EarlyBeforeState,
+    /// A router may be released one tick before its hold time is over.
+    ReleaseTickEarly,
+    /// A router may be released only one tick after its hold time is over.
+    ReleaseTickLate,
+    /// A router's due time comes one tick before.
+    DueTickEarly,
+    /// A router's due time has come only one tick after it.
+    DueTickLate,
+    /// The due time is counted without the hold time.
+    DueWithoutHold,
+    /// The due time is counted without the step time, as if that were 1.
+    RankWithoutStepTime,
+    /// The hold time is added in 32 bits.
+    HeldOf32Bits,
+    /// The due time is counted in 32 bits.
+    DueTimeOf32Bits,
+    /// A router may write by its timer, but not finish.
+    TimerForWritesOnly,
+    /// A router that writes or finishes by its timer waits for none from then on.
+    TimerEndsWaiting,
+    /// A router whose due time has come takes no message.
+    TimerEndsListening,
+    /// A tick's ok is counted.
+    TickCounted,
+    /// As many calls as are needed must have been answered ok where all routers are done, though some still wait.
+    ExactThoughWaiting,
+    /// A time of a file has its low byte first.
+    TimesLowByteFirst,
+    /// A file has the step time before the hold time.
+    FileTimesExchanged,
+    /// Read refuses a step time of 0.
+    NoStepTimeInRead,
+    /// Read hands back a step time with a refusal.
+    TimesThoughRefused,
+    /// A file is planned without its times.
+    FileTimesNotUsed,
+    /// The old reader takes files with times.
+    OldReaderTimed,
+    /// A rewritten file has no times.
+    RewrittenWithoutTimes,
+    /// The step time of a rewritten file is 0.
+    RewrittenNoStepTime,
+    /// The steps of a sheet have no ticks.
+    SheetWithoutTicks,
+    /// The ticks of a sheet come after the releases.
+    SheetTicksLate,
+    /// What is printed as unfinished has no times.
+    TimesNotPrinted,
+    /// An ongoing router is printed with the time until which it was held.
+    HoldsThoughOngoing,
+    /// An idle router is printed with times.
+    IdleWithTimes,
+    /// A router that waits for none is printed with its due time.
+    WaitsUntilThoughNone,
+    /// A holding router is printed with its learn time, without the hold time.
+    HoldsWithoutHold,
 }
 
 impl Flaw {
@@ -239,8 +317,8 @@ impl Flaw {
     }
 }
 
-/// Those that areas, files and arbitrary records show.
-pub const FLAWS: [Flaw; 69] = [
+/// Those that areas, files, wrong input and arbitrary records show.
+pub const FLAWS: [Flaw; 101] = [
     Flaw::ReadTwoForOne,
     Flaw::ReadKeepsLinks,
     Flaw::DeadAfterRepeated,
@@ -310,6 +388,38 @@ pub const FLAWS: [Flaw; 69] = [
     Flaw::RoutesOfFours,
     Flaw::HeadingLeftOut,
     Flaw::HeadingThoughRefused,
+    Flaw::NoStepTimeTaken,
+    Flaw::NoStepTimeFirst,
+    Flaw::NoStepTimeAfterSizes,
+    Flaw::TimesExchanged,
+    Flaw::TickUnknown,
+    Flaw::TickReadsA,
+    Flaw::TickReadsB,
+    Flaw::ClockStartsAnew,
+    Flaw::LearnTimeNotNoted,
+    Flaw::LearnTimeAtRelease,
+    Flaw::EarlyBeforeState,
+    Flaw::ReleaseTickEarly,
+    Flaw::ReleaseTickLate,
+    Flaw::DueTickEarly,
+    Flaw::DueTickLate,
+    Flaw::DueWithoutHold,
+    Flaw::RankWithoutStepTime,
+    Flaw::HeldOf32Bits,
+    Flaw::DueTimeOf32Bits,
+    Flaw::TimerForWritesOnly,
+    Flaw::TimerEndsWaiting,
+    Flaw::TimerEndsListening,
+    Flaw::TickCounted,
+    Flaw::ExactThoughWaiting,
+    Flaw::TimesLowByteFirst,
+    Flaw::FileTimesExchanged,
+    Flaw::NoStepTimeInRead,
+    Flaw::TimesThoughRefused,
+    Flaw::FileTimesNotUsed,
+    Flaw::OldReaderTimed,
+    Flaw::RewrittenWithoutTimes,
+    Flaw::RewrittenNoStepTime,
 ];
 
 /// Those that link-state data shows.
@@ -344,20 +454,39 @@ pub const ISIS_FLAWS: [Flaw; 24] = [
 pub const PRINTED_FLAWS: [Flaw; 3] = [Flaw::WholeListsCounted, Flaw::OneByteMoreTaken, Flaw::LargestNotListed];
 
 /// Those that what is printed as unfinished shows.
-pub const UNFINISHED_FLAWS: [Flaw; 9] = [
+pub const UNFINISHED_FLAWS: [Flaw; 15] = [
     Flaw::NeedsTwoEach,
     Flaw::DueOnceForAll,
     Flaw::MissingByCalls,
     Flaw::MissingByIgnored,
+    Flaw::TickCounted,
     Flaw::MissingLineLeftOut,
     Flaw::UnwrittenAsDue,
     Flaw::WaitsOfFresh,
     Flaw::DonePrinted,
     Flaw::SetsAsNumbers,
+    Flaw::TimesNotPrinted,
+    Flaw::HoldsThoughOngoing,
+    Flaw::IdleWithTimes,
+    Flaw::WaitsUntilThoughNone,
+    Flaw::HoldsWithoutHold,
 ];
+
+/// Those that what is printed of the steps of sheets shows.
+pub const SHEET_FLAWS: [Flaw; 3] = [Flaw::AnySheetPrinted, Flaw::SheetWithoutTicks, Flaw::SheetTicksLate];
 
 /// Those that the calls answered ok show, on the records that small plans can get to.
 pub const COURSE_FLAWS: [Flaw; 3] = [Flaw::NothingDueNothingTold, Flaw::FinishUnordered, Flaw::WriteTwice];
 
+/// Those by which a loop forms though the record is timely.
+pub const TIMER_FLAWS: [Flaw; 3] = [Flaw::DueTickEarly, Flaw::DueWithoutHold, Flaw::RankWithoutStepTime];
+
 /// Those that what is written for a stored file shows.
-pub const REWRITING_FLAWS: [Flaw; 3] = [Flaw::OldReaderDead, Flaw::CountNotCorrected, Flaw::DeadAtEndOnly];
+pub const REWRITING_FLAWS: [Flaw; 6] = [
+    Flaw::OldReaderDead,
+    Flaw::OldReaderTimed,
+    Flaw::CountNotCorrected,
+    Flaw::DeadAtEndOnly,
+    Flaw::RewrittenWithoutTimes,
+    Flaw::RewrittenNoStepTime,
+];

@@ -1,7 +1,8 @@
 //! Each mistake that the model can be given must show: in the comparison, where it breaks the order of the writes also
-//! in the walks along the pointers, where it makes a run stick or end early also in the calls answered ok, where the
-//! plan hangs on the order of the changes also beside another order, and where a stored file is rewritten, or an area,
-//! the steps of a sheet or what is unfinished printed, also beside the program that does it.
+//! in the walks along the pointers, after lists without a tick or with ticks, where it makes a run stick or end early
+//! also in the calls answered ok, where the plan hangs on the order of the changes also beside another order, and where
+//! a stored file is rewritten, or an area, the steps of a sheet or what is unfinished printed, also beside the program
+//! that does it. And a loop must show where F + S is as large as the step time.
 
 use std::path::Path;
 
@@ -10,19 +11,23 @@ use crate::areas::Area;
 use crate::changes::in_another_order;
 use crate::compare::{Comparison, Planned, same_plan};
 use crate::difference::Difference;
-use crate::direct_cases::any_record;
+use crate::direct_cases::{any_record, wrong_at_random};
 use crate::file_cases::{self, file_case};
 use crate::files::{self, LONG_SHEETS};
-use crate::flaw::{COURSE_FLAWS, FLAWS, Flaw, ISIS_FLAWS, PRINTED_FLAWS, REWRITING_FLAWS, UNFINISHED_FLAWS};
+use crate::flaw::{
+    COURSE_FLAWS, FLAWS, Flaw, ISIS_FLAWS, PRINTED_FLAWS, REWRITING_FLAWS, SHEET_FLAWS, TIMER_FLAWS, UNFINISHED_FLAWS,
+};
 use crate::isis_cases::{isis_case, printed_case, printed_on_purpose};
 use crate::lent::{PlanTables, RIGHT_SIZES};
 use crate::needs::{missing, needs};
 use crate::ofib::Record;
-use crate::plan::plan;
+use crate::plan::{Request, Times, WITHOUT_TIMERS, plan};
 use crate::process;
 use crate::random::Random;
 use crate::reachable::{Visit, five_next_hops, judge_pointers, judge_progress, search, small_area, unchanged_between};
+use crate::read::Format;
 use crate::step::step;
+use crate::timely::{Lists, Supposed, short_times};
 
 const PART: u64 = 5;
 /// So many areas and as many files are compared before a mistake counts as not seen.
@@ -45,6 +50,7 @@ pub fn flaw_cases(seed: u64, programs: &file_cases::Amount, from_isis: Option<&P
         println!("flaw {flaw:?}: caught at lists {cases} ({what})");
     }
     record_flaws(seed)?;
+    timer_flaws(seed)?;
     let flaw = Flaw::RootFarEnd;
     let (plans, what) = first_other_plan(flaw, seed).ok_or(format!("flaw {flaw:?}: no other order showed it"))?;
     println!("flaw {flaw:?}: caught by another order at plan {plans} ({what})");
@@ -55,6 +61,8 @@ pub fn flaw_cases(seed: u64, programs: &file_cases::Amount, from_isis: Option<&P
     let without = |judge: Judge| first_bad_record(Flaw::None, seed, judge);
     match without(walks)
         .or(without(progress))
+        .or(first_bad_by_ticks(Flaw::None, seed, walks, 0))
+        .or(first_bad_by_ticks(Flaw::None, seed, progress, 0))
         .or(first_other_plan(Flaw::None, seed))
     {
         None => Ok(()),
@@ -85,12 +93,29 @@ fn record_flaws(seed: u64) -> Result<(), String> {
     Ok(())
 }
 
+/// The timely records of small plans, by the model alone, show the mistakes by which a timer goes off too early, or a
+/// hold time does not end. Where F + S is as large as the step time, a loop forms without a mistake.
+fn timer_flaws(seed: u64) -> Result<(), String> {
+    let early = TIMER_FLAWS.map(|flaw| (flaw, walks as Judge, 0));
+    let others = [(Flaw::ReleaseTickLate, progress as Judge, 0), (Flaw::None, walks, 1)];
+    for (flaw, judge, more) in early.into_iter().chain(others) {
+        let (plans, what) = first_bad_by_ticks(flaw, seed, judge, more)
+            .ok_or(format!("flaw {flaw:?}, F and S {more} too large: no record showed it"))?;
+        let what = what.split(" with ").next().unwrap_or_default();
+        match more {
+            0 => println!("flaw {flaw:?}: caught by ticks at plan {plans} ({what})"),
+            _ => println!("F + S as large as the step time: a loop at plan {plans} ({what})"),
+        }
+    }
+    Ok(())
+}
+
 fn program_flaws(seed: u64, programs: &file_cases::Amount) -> Result<(), String> {
     if let Some(program) = &programs.rewrite {
         rewriting_flaws(seed, program)?;
     }
     if let Some(program) = &programs.sheet_steps {
-        sheet_flaw(seed, program)?;
+        sheet_flaws(seed, program)?;
     }
     if let Some(program) = &programs.unfinished {
         unfinished_flaws(seed, program)?;
@@ -98,7 +123,8 @@ fn program_flaws(seed: u64, programs: &file_cases::Amount) -> Result<(), String>
     Ok(())
 }
 
-/// Areas, files and arbitrary records in turn; after how many cases library and flawed model differ, and in what.
+/// Areas, files, wrong input and arbitrary records in turn; after how many cases library and flawed model differ, and
+/// in what.
 fn first_difference(flaw: Flaw, seed: u64) -> Option<(u64, String)> {
     let mut comparison = Comparison::new(flaw);
     let amount = file_cases::Amount {
@@ -117,7 +143,9 @@ fn first_difference(flaw: Flaw, seed: u64) -> Option<(u64, String)> {
         let outcome = area_case(&mut comparison, seed, number);
         let outcome = outcome.and_then(|()| file_case(&mut comparison, seed, number, &amount));
         let mut random = Random::for_case(seed, PART, number);
-        let outcome = outcome.and_then(|()| any_record(&mut comparison, &mut random));
+        let outcome = outcome
+            .and_then(|()| wrong_at_random(&mut comparison, &mut random))
+            .and_then(|()| any_record(&mut comparison, &mut random));
         if let Err(Difference { what, .. }) = outcome {
             return Some((comparison.counts.areas + comparison.counts.files, what));
         }
@@ -139,7 +167,7 @@ fn first_isis_difference(flaw: Flaw, seed: u64) -> Option<(u64, String)> {
 fn rewriting_flaws(seed: u64, program: &Path) -> Result<(), String> {
     for flaw in REWRITING_FLAWS {
         let mut random = Random::for_case(seed, PART, 0);
-        let stored = (1..=MOST_CASES).map(|number| (number, files::stored(&mut random, 8).bytes()));
+        let stored = (1..=MOST_CASES).map(|number| (number, files::stored(&mut random, 8).in_format(Format::Old)));
         let mut other = Random::for_case(seed, PART, 1);
         let differs = |(number, file): (u64, Vec<u8>)| {
             let outcome = process::compare_rewriting(&mut other, program, &file, flaw);
@@ -154,19 +182,26 @@ fn rewriting_flaws(seed: u64, program: &Path) -> Result<(), String> {
     Ok(())
 }
 
-/// The steps that the program prints of long sheets show that they are counted.
-fn sheet_flaw(seed: u64, program: &Path) -> Result<(), String> {
-    let flaw = Flaw::AnySheetPrinted;
-    let mut random = Random::for_case(seed, PART, 3);
-    let mut comparison = Comparison::new(flaw);
-    for steps in LONG_SHEETS {
-        let file = files::long_sheet(&mut random, steps).bytes();
-        if let Err(what) = comparison.sheet_steps(&mut random, program, &file) {
-            println!("flaw {flaw:?}: caught by the program at a sheet of {steps} steps ({what})");
-            return Ok(());
-        }
+/// The steps that the program prints of long sheets, and of any, show that they are counted, and where the ticks are.
+fn sheet_flaws(seed: u64, program: &Path) -> Result<(), String> {
+    for flaw in SHEET_FLAWS {
+        let mut random = Random::for_case(seed, PART, 3);
+        let mut comparison = Comparison::new(flaw);
+        let long = LONG_SHEETS.map(|steps| files::long_sheet(&mut random, steps).bytes());
+        let any: Vec<Vec<u8>> = (0..MOST_CASES / 10)
+            .map(|_| files::faultless(&mut random, 8).bytes())
+            .collect();
+        let mut numbered = (1..).zip(long.iter().chain(&any));
+        let differs = |(number, file): (u64, &Vec<u8>)| {
+            let outcome = comparison.sheet_steps(&mut random, program, file);
+            outcome.err().map(|what| (number, what))
+        };
+        let (sheets, what) = numbered
+            .find_map(differs)
+            .ok_or(format!("flaw {flaw:?}: the program did not show it"))?;
+        println!("flaw {flaw:?}: caught by the program at sheet {sheets} ({what})");
     }
-    Err(format!("flaw {flaw:?}: the program did not show it"))
+    Ok(())
 }
 
 /// What the program prints as unfinished shows the mistakes of its text.
@@ -226,7 +261,23 @@ fn first_bad_record(flaw: Flaw, seed: u64, judge: Judge) -> Option<(u64, String)
         } else {
             small_area(&mut random, n)
         };
-        if let Err(what) = judge_all(&mut random, &area, &list, flaw, judge) {
+        if let Err(what) = judge_all(&mut random, &area, &list, UNTIMED, (flaw, judge)) {
+            return Some((number, what));
+        }
+    }
+    None
+}
+
+/// The same of the records after timely lists with ticks, where F is so much more than it may be.
+fn first_bad_by_ticks(flaw: Flaw, seed: u64, judge: Judge, more: u64) -> Option<(u64, String)> {
+    let is_sound = flaw == Flaw::None && more == 0;
+    for number in 1..=if is_sound { 50 } else { MOST_SEARCHES } {
+        let mut random = Random::for_case(seed, PART, number);
+        let n = random.between(2, 3);
+        let (area, list) = small_area(&mut random, n);
+        let (times, Supposed { s, f }) = random.pick(&short_times());
+        let sought = (times, Lists::Timely(Supposed { s, f: f + more }));
+        if let Err(what) = judge_all(&mut random, &area, &list, sought, (flaw, judge)) {
             return Some((number, what));
         }
     }
@@ -237,21 +288,31 @@ fn first_bad_record(flaw: Flaw, seed: u64, judge: Judge) -> Option<(u64, String)
 fn first_bad_walk(flaw: Flaw, seed: u64) -> Option<(u64, String)> {
     let mut random = Random::for_case(seed, PART, 0);
     for (number, (area, list)) in (1..).zip(five_next_hops()) {
-        if let Err(what) = judge_all(&mut random, &area, &list, flaw, walks) {
+        if let Err(what) = judge_all(&mut random, &area, &list, UNTIMED, (flaw, walks)) {
             return Some((number, what));
         }
     }
     None
 }
 
+/// The times of a plan, and the lists by which its records are sought.
+type Sought = (Times, Lists);
+const UNTIMED: Sought = (WITHOUT_TIMERS, Lists::WithoutTicks);
+
 /// Every record that the flawed model gets to from its plan, if that is accepted.
-fn judge_all(random: &mut Random, area: &Area, list: &[u8], flaw: Flaw, judge: Judge) -> Result<(), String> {
-    let planned = model_plan(area, list, PlanTables::filled(random, RIGHT_SIZES), flaw);
+fn judge_all(
+    random: &mut Random,
+    area: &Area,
+    list: &[u8],
+    (times, lists): Sought,
+    (flaw, judge): (Flaw, Judge),
+) -> Result<(), String> {
+    let planned = model_plan(area, times, list, PlanTables::filled(random, RIGHT_SIZES), flaw);
     if planned.answer != 0 {
         return Ok(());
     }
     let step = |record: &mut Record, call| Ok(step(record, call, flaw));
-    search(&planned.record, step, |visit| judge(&planned, visit)).map(|_| ())
+    search(&planned.record, lists, step, |visit| judge(&planned, visit)).map(|_| ())
 }
 
 /// The flawed model by itself on the same changes in two orders: after how many plans these differ, and in what.
@@ -262,8 +323,8 @@ fn first_other_plan(flaw: Flaw, seed: u64) -> Option<(u64, String)> {
         let (area, list) = small_area(&mut random, n);
         let reordered = in_another_order(&mut random, &list);
         let tables = PlanTables::filled(&mut random, RIGHT_SIZES);
-        let first = model_plan(&area, &list, tables.clone(), flaw);
-        let other = model_plan(&area, &reordered, tables, flaw);
+        let first = model_plan(&area, WITHOUT_TIMERS, &list, tables.clone(), flaw);
+        let other = model_plan(&area, WITHOUT_TIMERS, &reordered, tables, flaw);
         if let Err(what) = same_plan(&other, &first) {
             return Some((number, what));
         }
@@ -271,9 +332,10 @@ fn first_other_plan(flaw: Flaw, seed: u64) -> Option<(u64, String)> {
     None
 }
 
-fn model_plan(area: &Area, list: &[u8], mut tables: PlanTables, flaw: Flaw) -> Planned {
+fn model_plan(area: &Area, times: Times, list: &[u8], mut tables: PlanTables, flaw: Flaw) -> Planned {
     tables.old.cells_mut().copy_from_slice(&area.metric);
     let mut record = Record::default();
-    let answer = plan(area.n, list, &mut tables.lend(), &mut record, flaw);
+    let request = Request { n: area.n, times, list };
+    let answer = plan(request, &mut tables.lend(), &mut record, flaw);
     Planned { answer, record, tables }
 }

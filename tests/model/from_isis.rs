@@ -2,8 +2,8 @@
 //! have it. Its input is the length of the identity table in two bytes, high byte first, the table, and the lists.
 //!
 //! A line has the digits of the bytes, spaces, and from its 15th character on a comment: n; the number of links; each
-//! link by its routers, with both in decimal again; no changes; no steps. Links are in the order of the table, and dead
-//! ones are not listed.
+//! link by its routers, with both in decimal again; no changes; the times; no steps. Links are in the order of the
+//! table, and dead ones are not listed.
 
 use crate::flaw::Flaw;
 use crate::isis::isis;
@@ -72,6 +72,7 @@ fn area_text(n: usize, table: &[u32], flaw: Flaw) -> String {
         lines.push((format!("{i:02X}{j:02X}{metric:06X}"), format!("{i} to {j} at {metric}")));
     }
     lines.push(("00".to_string(), "changes".to_string()));
+    lines.push(("00000001".to_string(), "hold time 0, step time 1".to_string()));
     lines.push(("0000".to_string(), "steps".to_string()));
     let line = |(digits, words): &(String, String)| format!("{digits:<14}# {words}\n");
     lines.iter().map(line).collect()

@@ -3,6 +3,7 @@
 mod area_cases;
 mod areas;
 mod changes;
+mod clock_cases;
 mod compare;
 mod counts;
 mod course;
@@ -38,6 +39,9 @@ mod sheet;
 mod step;
 mod steps;
 mod text;
+mod timely;
+mod timers;
+mod timers_worked;
 mod worked;
 
 use std::path::Path;
@@ -80,6 +84,7 @@ fn compare_all(options: &Options) -> Result<String, String> {
     println!("model: seed {seed}");
     let worked = worked::check_model()
         .and_then(|()| fours_worked::check_model())
+        .and_then(|()| timers_worked::check_model())
         .and_then(|()| isis_worked::check_model());
     worked.map_err(|what| format!("the model contradicts the papers: {what}"))?;
     flaw_cases::flaw_cases(seed, &options.files, options.isis.program.as_deref())?;
@@ -103,6 +108,7 @@ fn compare_all(options: &Options) -> Result<String, String> {
 fn compare_parts(comparison: &mut Comparison, options: &Options) -> Result<(), Difference> {
     let seed = options.seed;
     worked::compare_library(comparison, &options.files)?;
+    timers_worked::compare_library(comparison)?;
     isis_worked::compare_library(comparison)?;
     timed("areas", || {
         (0..options.areas).try_for_each(|number| area_cases::area_case(comparison, seed, number))
@@ -116,6 +122,9 @@ fn compare_parts(comparison: &mut Comparison, options: &Options) -> Result<(), D
     })?;
     timed("reachable records", || {
         reachable::small_areas(comparison, seed, &options.small)
+    })?;
+    timed("reachable records, with ticks", || {
+        timely::small_areas(comparison, seed, &options.small)
     })
 }
 
@@ -137,7 +146,7 @@ fn saved(options: &Options, difference: &Difference) -> String {
     }
 }
 
-/// Compares one saved case again: the text of an area case, or a bench file.
+/// Compares one saved case again: the text of an area case, or a bench file, which is taken as a stored one too.
 fn replay(options: &Options, path: &Path) -> Result<String, String> {
     let bytes = std::fs::read(path).map_err(|error| format!("{}: {error}", path.display()))?;
     let mut comparison = Comparison::new(Flaw::None);
@@ -155,7 +164,9 @@ fn replay(options: &Options, path: &Path) -> Result<String, String> {
         }
         _ => {
             let mut random = Random::for_case(options.seed, 0, 0);
-            file_cases::compare_file(&mut comparison, &mut random, &bytes, &options.files.with_each_file())
+            let amount = options.files.with_each_file();
+            let outcome = file_cases::compare_file(&mut comparison, &mut random, &bytes, &amount);
+            outcome.and_then(|()| file_cases::compare_stored(&mut comparison, &mut random, &bytes, &amount))
         }
     };
     outcome.map_err(|difference| format!("difference: {}", difference.what))?;

@@ -1,4 +1,5 @@
-//! How many calls answered ok bring a plan to its end (02, No. 8), and how many of them a record is short of.
+//! How many calls answered ok bring a plan to its end (02, No. 8), and how many of them a record is short of. Ticks are
+//! not among them (No. 10).
 
 use crate::flaw::Flaw;
 use crate::ofib::{Record, Set, WIDTH};

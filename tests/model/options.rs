@@ -47,6 +47,7 @@ impl Options {
             small: reachable::Amount {
                 stride: 1,
                 records: 8_000_000,
+                timely_records: 4_000_000,
                 has_seven: true,
             },
         }
@@ -61,6 +62,7 @@ impl Options {
         self.small = reachable::Amount {
             stride: 5,
             records: 1_000_000,
+            timely_records: 400_000,
             has_seven: false,
         };
     }

@@ -1,5 +1,5 @@
 //! Plan: the new metrics, both topologies' paths and the fresh record (01, "The plan"; 02, No. 2, for the root, No. 4
-//! for rise, fall and refusal 11, and No. 9 for what is due).
+//! for rise, fall and refusal 11, No. 9 for what is due, and No. 10 for the times).
 
 use crate::flaw::Flaw;
 use crate::ofib::{CELLS, Record, Set, Tables, WIDTH};
@@ -50,9 +50,28 @@ pub fn changes_of(list: &[u8]) -> Vec<Change> {
     list.chunks_exact(5).map(Change::from_bytes).collect()
 }
 
-pub fn plan(n: usize, list: &[u8], t: &mut Tables, record: &mut Record, flaw: Flaw) -> u8 {
+/// The hold time and the step time of a plan, in ticks (02, No. 10).
+#[derive(Clone, Copy, Debug, PartialEq, Eq)]
+pub struct Times {
+    pub hold: u16,
+    pub step: u16,
+}
+
+/// With these and without a tick, a plan goes as it did before there were times. A stored file gets them.
+pub const WITHOUT_TIMERS: Times = Times { hold: 0, step: 1 };
+
+/// What Plan is asked, beside its tables.
+#[derive(Clone, Copy)]
+pub struct Request<'a> {
+    pub n: usize,
+    pub times: Times,
+    pub list: &'a [u8],
+}
+
+pub fn plan(request: Request, t: &mut Tables, record: &mut Record, flaw: Flaw) -> u8 {
+    let Request { n, times, list } = request;
     *record = Record::default();
-    let refused = refusal(n, list, t, flaw);
+    let refused = refusal(request, t, flaw);
     if refused != 0 {
         return refused;
     }
@@ -64,11 +83,15 @@ pub fn plan(n: usize, list: &[u8], t: &mut Tables, record: &mut Record, flaw: Fl
     paths::fill(n, t.old, t.old_dist, t.old_hops, t.old_fours, flaw);
     paths::fill(n, t.new, t.new_dist, t.new_hops, t.new_fours, flaw);
     *record = fresh_record(n, &changes, t, flaw);
+    (record.hold_time, record.step_time) = match flaw {
+        Flaw::TimesExchanged => (times.step, times.hold),
+        _ => (times.hold, times.step),
+    };
     0
 }
 
-/// The number of the first refusal in the order of 01, or 0.
-fn refusal(n: usize, list: &[u8], t: &Tables, flaw: Flaw) -> u8 {
+/// The number of the first refusal in the order of 01 and of 02, No. 10, or 0.
+fn refusal(Request { n, times, list }: Request, t: &Tables, flaw: Flaw) -> u8 {
     let sizes = [
         t.new.len(),
         t.old_dist.len(),
@@ -79,6 +102,14 @@ fn refusal(n: usize, list: &[u8], t: &Tables, flaw: Flaw) -> u8 {
         t.new_fours.len(),
     ];
     let common = paths::refusal(n, t.old, &sizes, flaw);
+    let before_36: &[u8] = match flaw {
+        Flaw::NoStepTimeFirst => &[],
+        Flaw::NoStepTimeAfterSizes => &[3, 8],
+        _ => &[3],
+    };
+    if times.step == 0 && !before_36.contains(&common) && flaw != Flaw::NoStepTimeTaken {
+        return 36;
+    }
     if common != 0 {
         return common;
     }

@@ -1,6 +1,6 @@
-//! Small areas: every record that a plan can get to. On each of them all walks along the pointers (01, "The steps",
-//! what demand 3 is about), which are sets of four (02, No. 9), whether some call is answered ok, and how many were
-//! (No. 8).
+//! Small areas: every record that a plan can get to by calls without a tick; `timely.rs` has those with ticks. On each
+//! of them all walks along the pointers (01, "The steps", what demand 3 is about), which are sets of four (02, No. 9),
+//! whether some call is answered ok, and how many were (No. 8).
 
 use std::collections::HashMap;
 use std::hash::{BuildHasherDefault, Hasher};
@@ -8,17 +8,19 @@ use std::hash::{BuildHasherDefault, Hasher};
 use crate::areas::{self, Area};
 use crate::changes::{self, bytes_of};
 use crate::compare::Comparison;
-use crate::course::Course;
+use crate::course::{Course, is_counted};
 use crate::difference::{Difference, describe_area};
+use crate::flaw::Flaw;
 use crate::fours_worked;
 use crate::lent::{PathTables, PlanTables};
 use crate::ofib::{self, Answer, CELLS, Record, Set};
 use crate::paths::{UNREACHED, UNUSED, at, pairs};
-use crate::plan::Change;
+use crate::plan::{Change, Request, Times, WITHOUT_TIMERS};
 use crate::random::Random;
 use crate::sets::{has, members};
-use crate::step::{DELIVER, FINISH, LEARN, RELEASE, WRITE};
+use crate::step::{DELIVER, FINISH, LEARN, RELEASE, TICK, WRITE};
 use crate::steps::all_done;
+use crate::timely::Lists;
 
 const PART: u64 = 4;
 /// The metrics of the areas that are listed completely.
@@ -29,6 +31,8 @@ pub struct Amount {
     pub stride: u64,
     /// Areas with four routers are searched until there are this many records.
     pub records: u64,
+    /// Areas are searched by calls with ticks until there are this many records.
+    pub timely_records: u64,
     /// Whether the plans with seven routers are searched, of which some have 400,000 records.
     pub has_seven: bool,
 }
@@ -36,15 +40,16 @@ pub struct Amount {
 /// A record that a search has come to.
 pub struct Visit<'a> {
     pub record: &'a Record,
-    /// How many calls on the way to it were answered ok.
+    /// How many calls on the way to it were answered ok, ticks not counted.
     pub oks: usize,
-    /// Whether some call on it is answered ok.
+    /// Whether some call on it that is no tick is answered ok, or would be after the ticks of a hold time at most.
     pub goes_on: bool,
 }
 
 pub fn small_areas(comparison: &mut Comparison, seed: u64, amount: &Amount) -> Result<(), Difference> {
-    listed_areas(comparison, 2, 1)?;
-    listed_areas(comparison, 3, amount.stride)?;
+    let mut search = |random: &mut Random, area: &Area, list: &[u8]| search_area(comparison, random, area, list);
+    listed_areas(2, 1, &mut search)?;
+    listed_areas(3, amount.stride, &mut search)?;
     let (area, list) = unchanged_between();
     search_area(comparison, &mut Random::for_case(seed, PART, 0), &area, &list)?;
     search_all(comparison, seed, five_next_hops())?;
@@ -150,8 +155,13 @@ pub fn small_area(random: &mut Random, n: usize) -> (Area, Vec<u8>) {
     (area, list)
 }
 
-/// All areas of n routers with metrics from the list above, and all changes of each with metrics from it.
-fn listed_areas(comparison: &mut Comparison, n: usize, stride: u64) -> Result<(), Difference> {
+/// All areas of n routers with metrics from the list above, and all changes of each with metrics from it; or of these
+/// by the stride.
+pub fn listed_areas(
+    n: usize,
+    stride: u64,
+    mut search: impl FnMut(&mut Random, &Area, &[u8]) -> Result<(), Difference>,
+) -> Result<(), Difference> {
     let links: Vec<(usize, usize)> = pairs(n).collect();
     let mut random = Random::for_case(0, PART, u64::MAX);
     let mut number = 0;
@@ -166,7 +176,7 @@ fn listed_areas(comparison: &mut Comparison, n: usize, stride: u64) -> Result<()
         for list in all_changes(&area) {
             number += 1;
             if number % stride == 0 {
-                search_area(comparison, &mut random, &area, &list)?;
+                search(&mut random, &area, &list)?;
             }
         }
     }
@@ -208,37 +218,62 @@ fn changes_by_code(area: &Area, links: &[(usize, usize)], code: usize) -> Vec<Ch
     list
 }
 
-/// Plans the change with the library and searches all records from there, if the plan is accepted.
+/// Searches the records of one change by calls without a tick.
 fn search_area(comparison: &mut Comparison, random: &mut Random, area: &Area, list: &[u8]) -> Result<(), Difference> {
+    let found = search_plan(comparison, random, area, list, (WITHOUT_TIMERS, Lists::WithoutTicks))?;
+    comparison.counts.small_plans[area.n] += u64::from(found.records > 0);
+    comparison.counts.records += found.records;
+    comparison.counts.walks += found.walks;
+    Ok(())
+}
+
+/// How many records a search has come to, and how many walks there are on them.
+#[derive(Default)]
+pub struct Found {
+    pub records: u64,
+    pub walks: u64,
+}
+
+/// Plans the change with the library and searches all records that such lists lead to from there, if the plan is
+/// accepted.
+pub fn search_plan(
+    comparison: &mut Comparison,
+    random: &mut Random,
+    area: &Area,
+    list: &[u8],
+    (times, lists): (Times, Lists),
+) -> Result<Found, Difference> {
     let mut compare = || {
-        let planned = comparison.plan(random, area.n, &area.metric, [CELLS; 7], list)?;
+        let request = Request { n: area.n, times, list };
+        let planned = comparison.plan(random, request, &area.metric, [CELLS; 7])?;
+        let mut found = Found::default();
         if planned.answer != 0 {
-            return Ok(());
+            return Ok(found);
         }
-        comparison.counts.small_plans[area.n] += 1;
         let needs = comparison.needs(&planned.record)?;
-        let mut walks = 0;
         let step = |record: &mut Record, call| {
             let mut model = record.clone();
             comparison.step(record, &mut model, call)
         };
         let judge = |visit: &Visit| {
-            walks += judge_pointers(&planned.tables, visit.record)?;
+            if lists.are_covered() {
+                found.walks += judge_pointers(&planned.tables, visit.record)?;
+            }
             judge_progress(needs, ofib::missing(visit.record), visit)
         };
-        let records = search(&planned.record, step, judge)?;
-        comparison.counts.records += records;
-        comparison.counts.progress.missing += records;
-        comparison.counts.walks += walks;
-        Ok(())
+        found.records = search(&planned.record, lists, step, judge)?;
+        comparison.counts.progress.missing += found.records;
+        Ok(found)
     };
-    compare().map_err(|what: String| Difference::in_calls(what, describe_area("reachable records", area, list, &[])))
+    let title = format!("reachable records, {lists:?}");
+    compare().map_err(|what: String| Difference::in_calls(what, describe_area(&title, area, Some(times), list, &[])))
 }
 
-/// Visits every record that calls lead to from the fresh one, and judges each. On every way to a record as many calls
-/// are answered ok. The number of records.
+/// Visits every record that such lists lead to from the fresh one, and judges each. On every way to a record as many
+/// calls are answered ok. The number of records.
 pub fn search(
     fresh: &Record,
+    lists: Lists,
     mut step: impl FnMut(&mut Record, [u8; 3]) -> Result<Answer, String>,
     mut judge: impl FnMut(&Visit) -> Result<(), String>,
 ) -> Result<u64, String> {
@@ -250,27 +285,47 @@ pub fn search(
         records += 1;
         let mut goes_on = false;
         let mut next = record.clone();
-        for call in all_calls(record.n, records as u8) {
+        let any = records as u8;
+        for call in untimed_calls(record.n, any).chain([[TICK, any, any]]) {
             let answer = step(&mut next, call).map_err(|what| format!("from {record:?}: {what}"))?;
             if answer != Answer::Ok && key(&next) == key(&record) {
                 continue;
             }
-            goes_on |= answer == Answer::Ok;
+            let is_counted = is_counted(call[0], answer, Flaw::None);
+            goes_on |= is_counted;
             let reached = std::mem::replace(&mut next, record.clone());
-            let oks = oks + usize::from(answer == Answer::Ok);
-            if seen.is_new(&reached, oks)? {
+            let oks = oks + usize::from(is_counted);
+            if lists.lead_on(&reached) && seen.is_new(&reached, oks)? {
                 open.push((reached, oks));
             }
         }
         let record = &record;
+        goes_on = goes_on || all_done(record) || goes_on_later(record, &mut step)?;
         judge(&Visit { record, oks, goes_on })?;
     }
     Ok(records)
 }
 
+/// Whether some call that is no tick is answered ok after as many ticks as the hold time says, or fewer.
+fn goes_on_later(
+    record: &Record,
+    step: &mut impl FnMut(&mut Record, [u8; 3]) -> Result<Answer, String>,
+) -> Result<bool, String> {
+    let mut later = record.clone();
+    for _ in 0..record.hold_time {
+        step(&mut later, [TICK, 0, 0])?;
+        for call in untimed_calls(record.n, 0) {
+            if step(&mut later.clone(), call)? == Answer::Ok {
+                return Ok(true);
+            }
+        }
+    }
+    Ok(false)
+}
+
 /// The records that a search has come to, each with how many calls were answered ok on the way.
 #[derive(Default)]
-struct Seen(HashMap<u128, usize, BuildHasherDefault<KeyHasher>>);
+struct Seen(HashMap<Key, usize, BuildHasherDefault<KeyHasher>>);
 
 impl Seen {
     fn is_new(&mut self, record: &Record, oks: usize) -> Result<bool, String> {
@@ -290,28 +345,32 @@ pub fn judge_progress(needs: usize, missing: usize, visit: &Visit) -> Result<(),
         return Err(format!("no call is answered ok with {record:?}"));
     }
     let course = Course { needs, oks };
-    course.judge(record)?;
+    course.judge(record, Flaw::None)?;
     course.judge_missing(missing)
 }
 
-/// All calls of the five kinds with routers of the area. Three kinds do not read b, which is then any byte.
-fn all_calls(n: u8, any: u8) -> impl Iterator<Item = [u8; 3]> {
+/// All calls of the first five kinds with routers of the area. Three kinds do not read b, which is then any byte.
+fn untimed_calls(n: u8, any: u8) -> impl Iterator<Item = [u8; 3]> {
     let of_one = (0..n).flat_map(move |a| [[LEARN, a, any], [RELEASE, a, any], [FINISH, a, any]]);
     let of_two = (0..n).flat_map(move |a| (0..n).flat_map(move |b| [[WRITE, a, b], [DELIVER, a, b]]));
     of_one.chain(of_two)
 }
 
-/// States, waiting and written sets of up to seven routers. A step changes nothing else of a record, as the comparison
-/// of every field has shown before.
-fn key(record: &Record) -> u128 {
+/// States, waiting and written sets of up to seven routers, and their learn times and the clock, which searches keep
+/// below 256. A step changes nothing else of a record, as the comparison of every field has shown before.
+type Key = (u128, u64);
+
+fn key(record: &Record) -> Key {
     let routers = 0..usize::from(record.n).min(7);
-    routers.fold(0, |key, r| {
+    let start = (0, u64::from(record.clock));
+    routers.fold(start, |(sets, times), r| {
         let of_router = u64::from(record.states[r]) << 14 | record.waiting[r] << 7 | record.written[r];
-        key << 16 | u128::from(of_router)
+        let learn_time = u64::from(record.learn_times[r]);
+        (sets << 16 | u128::from(of_router), times << 8 | learn_time)
     })
 }
 
-/// The key is one number, so mixing its bits is enough.
+/// The key is two numbers, so mixing their bits is enough.
 #[derive(Default)]
 struct KeyHasher(u64);
 
@@ -322,18 +381,18 @@ impl Hasher for KeyHasher {
 
     fn write(&mut self, bytes: &[u8]) {
         for &byte in bytes {
-            self.write_u64(self.0.rotate_left(8) ^ u64::from(byte));
+            self.write_u64(byte.into());
         }
     }
 
     fn write_u64(&mut self, key: u64) {
-        let mixed = key.wrapping_mul(0x9E37_79B9_7F4A_7C15);
+        let mixed = (self.0 ^ key).wrapping_mul(0x9E37_79B9_7F4A_7C15);
         self.0 = mixed ^ (mixed >> 32);
     }
 
     fn write_u128(&mut self, key: u128) {
         self.write_u64((key >> 64) as u64);
-        self.write_u64(self.0 ^ key as u64);
+        self.write_u64(key as u64);
     }
 }
 

@@ -1,4 +1,5 @@
-//! Read: the bench file (01, "The bench file"), and the old reader of stored files (02, No. 5).
+//! Read: the bench file (01, "The bench file", with the times of 02, No. 10), and the old reader of stored files
+//! (No. 5).
 
 use crate::flaw::Flaw;
 use crate::ofib::{CELLS, Contents};
@@ -6,10 +7,11 @@ use crate::paths::{UNUSED, at};
 use crate::plan::Change;
 
 pub const MOST_STEPS: usize = 4096;
-/// The size of the largest file.
-pub const LARGEST: usize = 33_084;
+/// The size of the largest file, and of the largest stored one.
+pub const LARGEST: usize = 33_088;
+pub const LARGEST_STORED: usize = 33_084;
 
-/// Whose file it is: that of the old reader, which takes dead links, or that of Read.
+/// Whose file it is: that of the old reader, which takes dead links and has no times, or that of Read.
 #[derive(Clone, Copy, Debug, PartialEq, Eq)]
 pub enum Format {
     Old,
@@ -24,10 +26,23 @@ pub enum Section {
     Links,
     ChangeCount,
     Changes,
+    Times,
     StepCount,
     Steps,
     End,
 }
+
+pub const SECTIONS: [Section; 9] = [
+    Section::Routers,
+    Section::LinkCount,
+    Section::Links,
+    Section::ChangeCount,
+    Section::Changes,
+    Section::Times,
+    Section::StepCount,
+    Section::Steps,
+    Section::End,
+];
 
 /// A refusal's number, and where its cause lies.
 #[derive(Clone, Copy, Debug, PartialEq, Eq)]
@@ -61,6 +76,24 @@ impl<'a> Reader<'a> {
             Ok(count)
         }
     }
+
+    /// The hold time and the step time, in two bytes each, high byte first. A stored file has none.
+    fn times(&mut self, format: Format, flaw: Flaw) -> Result<[u16; 2], Fault> {
+        let section = Section::Times;
+        if format == Format::Old && flaw != Flaw::OldReaderTimed {
+            return Ok([0, 0]);
+        }
+        let bytes = [self.take(2, section)?, self.take(2, section)?];
+        let [hold, step] = bytes.map(|two| match flaw {
+            Flaw::TimesLowByteFirst => u16::from_le_bytes([two[0], two[1]]),
+            _ => u16::from_be_bytes([two[0], two[1]]),
+        });
+        match flaw {
+            Flaw::NoStepTimeInRead if step == 0 => Err(Fault { number: 36, section }),
+            Flaw::FileTimesExchanged => Ok([step, hold]),
+            _ => Ok([hold, step]),
+        }
+    }
 }
 
 pub fn read(file: &[u8], table: &mut [u32], flaw: Flaw) -> (u8, Contents) {
@@ -79,7 +112,12 @@ pub fn read(file: &[u8], table: &mut [u32], flaw: Flaw) -> (u8, Contents) {
             } else {
                 fault.number
             };
-            (number, Contents::default())
+            let step_time = u16::from(flaw == Flaw::TimesThoughRefused);
+            let contents = Contents {
+                step_time,
+                ..Contents::default()
+            };
+            (number, contents)
         }
     }
 }
@@ -104,6 +142,7 @@ pub fn judge(file: &[u8], table: &mut [u32], format: Format, flaw: Flaw) -> Resu
     let changes = reader.count(1, most_changes, Section::ChangeCount)?;
     let changes_at = reader.at;
     reader.take(5 * changes, Section::Changes)?;
+    let [hold_time, step_time] = reader.times(format, flaw)?;
     let steps = reader.count(2, MOST_STEPS, Section::StepCount)?;
     let steps_at = reader.at;
     reader.take(3 * steps, Section::Steps)?;
@@ -120,6 +159,8 @@ pub fn judge(file: &[u8], table: &mut [u32], format: Format, flaw: Flaw) -> Resu
         changes_at,
         steps,
         steps_at,
+        hold_time,
+        step_time,
     })
 }
 

@@ -3,7 +3,7 @@
 use crate::flaw::Flaw;
 use crate::ofib::{Record, WIDTH};
 use crate::sets::members;
-use crate::step::{DELIVER, FINISH, LEARN, RELEASE, WRITE};
+use crate::step::{DELIVER, FINISH, LEARN, RELEASE, TICK, WRITE};
 
 /// Each router of the plan's record stands after all that it waits for, and of those that could come next the one with
 /// the lowest number is taken. All other entries are 0; after a refusal the record has no router, so all are.
@@ -36,11 +36,18 @@ fn order(record: &Record, flaw: Flaw) -> Vec<u8> {
     order
 }
 
-/// The steps of following a sheet: every router learns and is released, then each in turn writes all that it has due,
-/// finishes, and has its message delivered to each router it tells.
-pub fn following(record: &Record, sheet: &[u8]) -> Vec<[u8; 3]> {
-    let mut steps: Vec<[u8; 3]> = (0..record.n).map(|router| [LEARN, router, 0]).collect();
-    steps.extend((0..record.n).map(|router| [RELEASE, router, 0]));
+/// The steps of following a sheet: every router learns, the hold time goes by (02, No. 10), and every router is
+/// released. Then each in turn writes all that it has due, finishes, and has its message delivered to each router it
+/// tells.
+pub fn following(record: &Record, sheet: &[u8], flaw: Flaw) -> Vec<[u8; 3]> {
+    let of_all = |kind| (0..record.n).map(move |router| [kind, router, 0]);
+    let ticks = vec![[TICK, 0, 0]; record.hold_time.into()];
+    let mut steps: Vec<[u8; 3]> = of_all(LEARN).collect();
+    match flaw {
+        Flaw::SheetWithoutTicks => steps.extend(of_all(RELEASE)),
+        Flaw::SheetTicksLate => steps.extend(of_all(RELEASE).chain(ticks)),
+        _ => steps.extend(ticks.into_iter().chain(of_all(RELEASE))),
+    }
     for &router in sheet {
         let of = usize::from(router);
         steps.extend(members(record.due[of]).map(|destination| [WRITE, router, destination as u8]));

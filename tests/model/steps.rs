@@ -1,18 +1,27 @@
-//! Lists of steps: orderly runs, random calls, repeated and late messages, and any bytes.
+//! Lists of steps: orderly runs, also with ticks and lost messages, random calls, repeated and late messages, and any
+//! bytes.
 
 use crate::flaw::Flaw;
 use crate::needs::needs;
 use crate::ofib::{Record, Set, WIDTH};
 use crate::random::Random;
 use crate::sets::{has, members};
-use crate::step::{DELIVER, DONE, FINISH, HOLDING, IDLE, LEARN, ONGOING, RELEASE, WRITE};
+use crate::step::{DELIVER, DONE, FINISH, HOLDING, IDLE, LEARN, ONGOING, RELEASE, TICK, WRITE, due_time, held_until};
+use crate::timers;
+
+/// No list has more ticks than these that wait for timers.
+const MOST_TICKS: u64 = 300;
 
 /// Chooses calls one after the other, each from the record as it then is.
 pub struct Caller {
     orderly_percent: usize,
     any_bytes_percent: usize,
+    /// How often the clock ticks though a router can go on without it.
+    tick_percent: usize,
     /// Routers that learn of the change only when no other router can go on, so that messages find them idle.
     late_learners: Set,
+    /// Routers to which messages are lost, so that they go by their timers.
+    unreached: Set,
     last: [u8; 3],
 }
 
@@ -23,17 +32,21 @@ impl Caller {
         Caller {
             orderly_percent,
             any_bytes_percent,
+            tick_percent: random.pick(&[0, 0, 5, 20]),
             late_learners: random.set(),
+            unreached: if random.chance(50) { 0 } else { random.set() },
             last: [0; 3],
         }
     }
 
-    /// Every call brings some router forward, as long as not all are done.
+    /// Every call brings some router forward, as long as not all are done. Where the hold time is 0, there is no tick.
     pub fn orderly(random: &mut Random) -> Caller {
         Caller {
             orderly_percent: 100,
             any_bytes_percent: 0,
+            tick_percent: 0,
             late_learners: random.set(),
+            unreached: 0,
             last: [0; 3],
         }
     }
@@ -42,7 +55,7 @@ impl Caller {
         self.last = if random.chance(self.any_bytes_percent) {
             [random.byte(), random.byte(), random.byte()]
         } else if random.chance(self.orderly_percent) {
-            useful(random, record, self.late_learners).unwrap_or_else(|| late(random, record))
+            self.orderly_call(random, record)
         } else {
             match random.below(10) {
                 0 | 1 => self.last,
@@ -54,11 +67,77 @@ impl Caller {
         };
         self.last
     }
+
+    /// A call that brings some router forward, or a tick where there is none; a late message when all are done.
+    fn orderly_call(&self, random: &mut Random, record: &Record) -> [u8; 3] {
+        if all_done(record) {
+            return late(random, record);
+        }
+        let tick = [TICK, random.byte(), random.byte()];
+        if random.chance(self.tick_percent) {
+            return tick;
+        }
+        self.useful(random, record).unwrap_or(tick)
+    }
+
+    /// A call that brings some router forward without a tick.
+    fn useful(&self, random: &mut Random, record: &Record) -> Option<[u8; 3]> {
+        let n = usize::from(record.n);
+        let first = random.below(n);
+        let routers = (0..n).map(|k| (first + k) % n);
+        let (later, sooner): (Vec<usize>, Vec<usize>) =
+            routers.partition(|&r| record.states[r] == IDLE && has(self.late_learners, r));
+        sooner
+            .into_iter()
+            .chain(later)
+            .find_map(|r| self.useful_for(random, record, r))
+    }
+
+    /// Learn, release and finish do not read b, so it is any byte.
+    fn useful_for(&self, random: &mut Random, record: &Record, r: usize) -> Option<[u8; 3]> {
+        let a = r as u8;
+        let has_come = |time: u64| time <= record.clock.into();
+        let can_be_released = has_come(held_until(record, r, Flaw::None));
+        let can_write = record.waiting[r] == 0 || has_come(due_time(record, r, Flaw::None));
+        match record.states[r] {
+            IDLE => Some([LEARN, a, random.byte()]),
+            HOLDING if can_be_released && random.chance(50) => Some([RELEASE, a, random.byte()]),
+            HOLDING => match self.message_to(random, record, r) {
+                None if can_be_released => Some([RELEASE, a, random.byte()]),
+                message => message,
+            },
+            ONGOING if can_write && random.chance(80) => Some(write_or_finish(random, record, r)),
+            ONGOING => match self.message_to(random, record, r) {
+                None if can_write => Some(write_or_finish(random, record, r)),
+                message => message,
+            },
+            _ => None,
+        }
+    }
+
+    /// A message that router r waits for and that is not lost.
+    fn message_to(&self, random: &mut Random, record: &Record, r: usize) -> Option<[u8; 3]> {
+        if has(self.unreached, r) {
+            return None;
+        }
+        let told = members(record.waiting[r]).filter(|&other| record.states[other] == DONE);
+        let senders = told.fold(0, |set: Set, other| set | 1 << other);
+        Some([DELIVER, member(random, senders)?, r as u8])
+    }
+}
+
+fn write_or_finish(random: &mut Random, record: &Record, r: usize) -> [u8; 3] {
+    match member(random, record.due[r] & !record.written[r]) {
+        Some(destination) => [WRITE, r as u8, destination],
+        None => [FINISH, r as u8, random.byte()],
+    }
 }
 
 /// How many calls a list has: none, a few, or enough for a whole run of most plans.
 pub fn length(random: &mut Random, record: &Record) -> usize {
-    let whole = needs(record, Flaw::None);
+    let routers = 0..usize::from(record.n);
+    let last_due = routers.map(|r| due_time(record, r, Flaw::None)).max().unwrap_or(0);
+    let whole = needs(record, Flaw::None) + last_due.min(MOST_TICKS) as usize;
     match random.below(10) {
         0 => 0,
         1 | 2 => random.between(1, 40),
@@ -73,13 +152,17 @@ pub fn all_done(record: &Record) -> bool {
         .all(|&state| state == DONE)
 }
 
+pub fn waits_for_none(record: &Record) -> bool {
+    record.waiting.iter().all(|&set| set == 0)
+}
+
 /// A random call with routers of the area; the kind may be one that does not exist.
 pub fn within(random: &mut Random, record: &Record) -> [u8; 3] {
     let n = usize::from(record.n).max(1);
     let kind = if random.chance(3) {
         random.byte()
     } else {
-        random.between(1, 5) as u8
+        random.between(LEARN.into(), TICK.into()) as u8
     };
     [kind, random.below(n) as u8, random.below(n) as u8]
 }
@@ -136,37 +219,6 @@ fn hasty(random: &mut Random, record: &Record) -> [u8; 3] {
     }
 }
 
-/// A call that brings some router forward; none when all are done.
-fn useful(random: &mut Random, record: &Record, late_learners: Set) -> Option<[u8; 3]> {
-    let n = usize::from(record.n);
-    let first = random.below(n);
-    let routers = (0..n).map(|k| (first + k) % n);
-    let (later, sooner): (Vec<usize>, Vec<usize>) =
-        routers.partition(|&r| record.states[r] == IDLE && has(late_learners, r));
-    sooner
-        .into_iter()
-        .chain(later)
-        .find_map(|r| useful_for(random, record, r))
-}
-
-/// Learn, release and finish do not read b, so it is any byte.
-fn useful_for(random: &mut Random, record: &Record, r: usize) -> Option<[u8; 3]> {
-    let a = r as u8;
-    let told = members(record.waiting[r]).filter(|&other| record.states[other] == DONE);
-    let senders = told.fold(0, |set: Set, other| set | 1 << other);
-    match record.states[r] {
-        IDLE => Some([LEARN, a, random.byte()]),
-        HOLDING if senders != 0 && random.chance(50) => Some([DELIVER, member(random, senders)?, a]),
-        HOLDING => Some([RELEASE, a, random.byte()]),
-        ONGOING if record.waiting[r] != 0 => Some([DELIVER, member(random, senders)?, a]),
-        ONGOING => match member(random, record.due[r] & !record.written[r]) {
-            Some(destination) => Some([WRITE, a, destination]),
-            None => Some([FINISH, a, random.byte()]),
-        },
-        _ => None,
-    }
-}
-
 /// A random member of the set.
 fn member(random: &mut Random, set: Set) -> Option<u8> {
     let start = random.below(WIDTH);
@@ -176,7 +228,7 @@ fn member(random: &mut Random, set: Set) -> Option<u8> {
         .map(|router| router as u8)
 }
 
-/// A record that no plan gives: any bytes, with enough right ones that every refusal of Step comes up.
+/// A record that no plan gives: any numbers, with enough right ones that every refusal of Step comes up.
 pub fn any_record(random: &mut Random) -> Record {
     let mut record = Record {
         n: random.between(1, WIDTH) as u8,
@@ -189,7 +241,8 @@ pub fn any_record(random: &mut Random) -> Record {
     record.direction = random.byte();
     let favoured = random.below(4) as u8;
     for r in 0..WIDTH {
-        record.ranks[r] = random.byte();
+        let any = random.byte();
+        record.ranks[r] = random.pick(&[0, 1, 2, 63, 255, any]);
         record.waiting[r] = random.set();
         record.telling[r] = random.set();
         record.due[r] = random.set();
@@ -210,5 +263,6 @@ pub fn any_record(random: &mut Random) -> Record {
     if random.chance(2) {
         record.states.fill_with(|| random.byte());
     }
+    timers::set_any(random, &mut record);
     record
 }

@@ -3,15 +3,16 @@
 
 use std::fmt::Write;
 
+use crate::course::is_counted;
 use crate::flaw::Flaw;
 use crate::needs::needs;
 use crate::ofib::{Answer, Contents, Record, Set, Tables, WIDTH};
 use crate::paths::{UNREACHED, at, pairs};
-use crate::plan::plan;
+use crate::plan::{Request, Times, WITHOUT_TIMERS, plan};
 use crate::read::{MOST_STEPS, read};
 use crate::sets::{members, set_of};
 use crate::sheet;
-use crate::step::{DONE, run, step};
+use crate::step::{DONE, HOLDING, IDLE, ONGOING, due_time, held_until, run, step};
 
 /// What the text of a sheet with too many steps begins with; their number follows.
 pub const TOO_MANY_STEPS: &str = "too many steps: ";
@@ -52,8 +53,9 @@ fn counted(fresh: &Record, steps: &[u8], t: &Tables, flaw: Flaw) -> Record {
     record
 }
 
-/// After the last step, a line for each router that is not done: its state, those that it still waits for, and what is
-/// due and not written. Then how many calls are missing: as many as the plan needs but for those answered ok.
+/// After the last step, a line for each router that is not done: its state, those that it still waits for, what is due
+/// and not written, the end of its hold time where it is holding, and its due time where it is holding or ongoing and
+/// waits. Then how many calls are missing: as many as the plan needs but for those answered ok, ticks not counted.
 pub fn unfinished(file: &[u8], t: &mut Tables, flaw: Flaw) -> String {
     let (contents, fresh) = match prepare(file, t, flaw) {
         Err(number) => return format!("refused {number}\n"),
@@ -65,8 +67,8 @@ pub fn unfinished(file: &[u8], t: &mut Tables, flaw: Flaw) -> String {
         let answer = step(&mut last, [call[0], call[1], call[2]], flaw);
         oks += i64::from(match flaw {
             Flaw::MissingByCalls => true,
-            Flaw::MissingByIgnored => matches!(answer, Answer::Ok | Answer::Ignored),
-            _ => answer == Answer::Ok,
+            Flaw::MissingByIgnored if answer == Answer::Ignored => true,
+            _ => is_counted(call[0], answer, flaw),
         });
     }
     let missing = needs(&fresh, flaw) as i64 - oks;
@@ -93,12 +95,37 @@ fn unfinished_lines(fresh: &Record, last: &Record, flaw: Flaw) -> String {
             _ => last.due[r] & !last.written[r],
         };
         let (waits, unwritten) = (members_or_none(waits, flaw), members_or_none(unwritten, flaw));
+        let times = times_of(last, r, flaw);
         line(
             &mut text,
-            format_args!("router {r} {state} waits {waits} unwritten {unwritten}"),
+            format_args!("router {r} {state} waits {waits} unwritten {unwritten}{times}"),
         );
     }
     text
+}
+
+/// Until when the router holds, and until when it waits at most where it waits for others.
+fn times_of(record: &Record, r: usize, flaw: Flaw) -> String {
+    let state = match (record.states[r], flaw) {
+        (ONGOING, Flaw::HoldsThoughOngoing) | (IDLE, Flaw::IdleWithTimes) => HOLDING,
+        (state, _) => state,
+    };
+    let held = match flaw {
+        Flaw::HoldsWithoutHold => record.learn_times[r].into(),
+        _ => held_until(record, r, flaw),
+    };
+    let waits = record.waiting[r] != 0 || flaw == Flaw::WaitsUntilThoughNone;
+    let mut text = String::new();
+    if state == HOLDING {
+        text += &format!(" holds until {held}");
+    }
+    if matches!(state, HOLDING | ONGOING) && waits {
+        text += &format!(" waits until {}", due_time(record, r, flaw));
+    }
+    match flaw {
+        Flaw::TimesNotPrinted => String::new(),
+        _ => text,
+    }
 }
 
 fn members_or_none(set: Set, flaw: Flaw) -> String {
@@ -159,7 +186,7 @@ pub fn sheet_steps(file: &[u8], t: &mut Tables, flaw: Flaw) -> String {
         Ok((_, record)) => record,
     };
     let sheet = sheet::sheet(&record, [0; WIDTH], flaw);
-    let steps = sheet::following(&record, &sheet[..usize::from(record.n)]);
+    let steps = sheet::following(&record, &sheet[..usize::from(record.n)], flaw);
     if steps.len() > MOST_STEPS && flaw != Flaw::AnySheetPrinted {
         return format!("{TOO_MANY_STEPS}{}\n", steps.len());
     }
@@ -176,9 +203,19 @@ pub fn prepare(file: &[u8], t: &mut Tables, flaw: Flaw) -> Result<(Contents, Rec
     if refused != 0 {
         return Err(refused);
     }
-    let list = &file[contents.changes_at..contents.changes_at + 5 * contents.changes];
+    let request = Request {
+        n: contents.n,
+        times: match flaw {
+            Flaw::FileTimesNotUsed => WITHOUT_TIMERS,
+            _ => Times {
+                hold: contents.hold_time,
+                step: contents.step_time,
+            },
+        },
+        list: &file[contents.changes_at..contents.changes_at + 5 * contents.changes],
+    };
     let mut record = Record::default();
-    match plan(contents.n, list, t, &mut record, flaw) {
+    match plan(request, t, &mut record, flaw) {
         0 => Ok((contents, record)),
         refused => Err(refused),
     }

@@ -1,35 +1,37 @@
 //! The printed rehearsal and the small areas C1 to C13 of 01, by the root of 02, No. 2, with the other directions of
 //! No. 4, running sheets of them, links that are up at one end only, dead links, how many calls some plans need, and
-//! what is unfinished after some steps: the model must give what is worked out by hand, and the library the same.
+//! what is unfinished after some steps: the model must give what is worked out by hand, and the library the same. Files
+//! have the times of No. 10, hold time 0 and step time 1.
 
 use crate::areas::Area;
 use crate::changes::bytes_of;
 use crate::compare::{Comparison, same};
 use crate::difference::Difference;
-use crate::file_cases::{Amount, compare_file};
+use crate::file_cases::{Amount, compare_file, compare_stored};
 use crate::files::{Parts, bytes};
 use crate::flaw::Flaw;
-use crate::fours_worked;
 use crate::lent::{PathTables, PlanTables, RIGHT_SIZES};
 use crate::needs::needs;
 use crate::ofib::{Answer, CELLS, Record, Set, WIDTH};
 use crate::paths::{UNUSED, at, paths};
-use crate::plan::{Change, FALL, RISE, plan};
+use crate::plan::{Change, FALL, RISE, Request, Times, WITHOUT_TIMERS, plan};
 use crate::random::Random;
 use crate::read::read;
-use crate::rewriting::rewritten;
+use crate::rewriting::{old_reader, rewritten};
 use crate::sheet::sheet;
 use crate::step::step;
 use crate::text::{rehearsal, unfinished};
+use crate::{fours_worked, timers_worked};
 
 /// From, to and metric.
 pub type Link = (u8, u8, u32);
 
 const INPUT: &str = "03 0006 0001000001 0100000001 0102000001 0201000001 0002000003 0200000003 \
-    02 0102FFFFFF 0201FFFFFF 000A 010100 020100 030102 010000 020000 030002 040000 050001 050001 030102";
+    02 0102FFFFFF 0201FFFFFF 0000 0001 \
+    000A 010100 020100 030102 010000 020000 030002 040000 050001 050001 030102";
 
 /// Where in it the step count stands.
-const STEP_COUNT_AT: usize = 44;
+const STEP_COUNT_AT: usize = 48;
 
 const OUTPUT: &str = "\
 router 0 rank 0 waits 0 tells 2 due 4
@@ -64,8 +66,8 @@ missing 15
     (
         4,
         "\
-router 0 holding waits none unwritten 2
-router 1 ongoing waits 0 2 unwritten 2
+router 0 holding waits none unwritten 2 holds until 0
+router 1 ongoing waits 0 2 unwritten 2 waits until 1
 router 2 idle waits none unwritten 0 1
 missing 12
 ",
@@ -74,7 +76,7 @@ missing 12
         6,
         "\
 router 0 ongoing waits none unwritten none
-router 1 ongoing waits 0 2 unwritten 2
+router 1 ongoing waits 0 2 unwritten 2 waits until 1
 router 2 idle waits none unwritten 0 1
 missing 10
 ",
@@ -82,7 +84,7 @@ missing 10
     (
         10,
         "\
-router 1 ongoing waits 2 unwritten 2
+router 1 ongoing waits 2 unwritten 2 waits until 1
 router 2 idle waits none unwritten 0 1
 missing 8
 ",
@@ -92,8 +94,8 @@ missing 8
 /// What brings the printed rehearsal to its end after its own steps.
 const THE_REST: &str = "010200 020200 030200 030201 040200 050201 030102 040100";
 
-const FIRST_LINKS: [Link; 6] = [(0, 1, 1), (1, 0, 1), (1, 2, 1), (2, 1, 1), (0, 2, 3), (2, 0, 3)];
-const FIRST_CHANGES: [Link; 2] = [(1, 2, UNUSED), (2, 1, UNUSED)];
+pub const FIRST_LINKS: [Link; 6] = [(0, 1, 1), (1, 0, 1), (1, 2, 1), (2, 1, 1), (0, 2, 3), (2, 0, 3)];
+pub const FIRST_CHANGES: [Link; 2] = [(1, 2, UNUSED), (2, 1, UNUSED)];
 const SECOND_LINKS: [Link; 4] = [(0, 1, 1), (1, 0, 1), (0, 2, 3), (2, 0, 3)];
 const SECOND_CHANGES: [Link; 2] = [(1, 2, 1), (2, 1, 1)];
 const SIXTH_LINKS: [Link; 2] = [(0, 1, UNUSED - 1), (1, 0, 1)];
@@ -135,7 +137,7 @@ fn needed() -> Result<(), String> {
         ("C2", &SECOND_LINKS, SECOND_CHANGES, 2),
     ] {
         for (flaw, root) in [(Flaw::None, 1), (Flaw::RootFarEnd, far_end)] {
-            let (_, record, _) = planned_with(3, links, &changes, flaw);
+            let (_, record, _) = planned_with((3, links, &changes), WITHOUT_TIMERS, flaw);
             let found = (record.root, needs(&record, Flaw::None));
             same(&format!("{name}, root and needs"), found, (root, 9 + 2 + 4))?;
         }
@@ -206,8 +208,20 @@ pub fn compare_library(comparison: &mut Comparison, amount: &Amount) -> Result<(
         compare_rooms(comparison, &file).map_err(|what| Difference::in_file(what, &file))?;
     }
     let of_fours = [fours_worked::files(), fours_worked::large_files()].concat();
-    for file in files().into_iter().chain(large_files()).chain(of_fours) {
+    let of_timers = timers_worked::files();
+    for file in files()
+        .into_iter()
+        .chain(large_files())
+        .chain(of_fours)
+        .chain(of_timers)
+    {
         compare_file(comparison, &mut random, &file, &amount.with_each_file())?;
+    }
+    for (file, ..) in DEAD_LINKS {
+        compare_stored(comparison, &mut random, &without_times(file), &amount.with_each_file())?;
+    }
+    for (file, ..) in FILE_TIMES {
+        compare_stored(comparison, &mut random, &bytes(file), &amount.with_each_file())?;
     }
     Ok(())
 }
@@ -227,15 +241,16 @@ fn input() -> Vec<u8> {
 }
 
 pub fn planned(n: usize, links: &[Link], changes: &[Link]) -> (u8, Record, PlanTables) {
-    planned_with(n, links, changes, Flaw::None)
+    planned_with((n, links, changes), WITHOUT_TIMERS, Flaw::None)
 }
 
-fn planned_with(n: usize, links: &[Link], changes: &[Link], flaw: Flaw) -> (u8, Record, PlanTables) {
+pub fn planned_with((n, links, changes): Example, times: Times, flaw: Flaw) -> (u8, Record, PlanTables) {
     let mut random = Random::for_case(0, 0, 2);
     let mut tables = PlanTables::filled(&mut random, RIGHT_SIZES);
     tables.old.cells_mut().copy_from_slice(&area(n, links).metric);
     let mut record = Record::default();
-    let answer = plan(n, &bytes_of(&entries(changes)), &mut tables.lend(), &mut record, flaw);
+    let list = &bytes_of(&entries(changes));
+    let answer = plan(Request { n, times, list }, &mut tables.lend(), &mut record, flaw);
     (answer, record, tables)
 }
 
@@ -445,45 +460,77 @@ fn printed_steps() -> Result<(), String> {
     same("C12", (answers[7], answers[8]), (Answer::Ok, Answer::Ignored))
 }
 
-/// A file, Read's answer to it, and what is written for it as a stored file: the rewritten file, or the number of the
-/// old reader's refusal (02, No. 5).
-const DEAD_LINKS: [(&str, u8, Result<&str, u8>); 12] = [
-    ("02 0001 0001FFFFFF 00 0000", 30, Ok("02 0000 00 0000")),
-    ("02 0001 0001FFFFFE 00 0000", 0, Ok("02 0001 0001FFFFFE 00 0000")),
-    ("02 0000 01 0001FFFFFF 0000", 0, Ok("02 0000 01 0001FFFFFF 0000")),
+/// A file with `|` where the times are, Read's answer to it, and what is written for it as a stored file, which has no
+/// times: the rewritten file, or the number of the old reader's refusal (02, No. 5).
+const DEAD_LINKS: [(&str, u8, Result<&str, u8>); 13] = [
+    ("02 0001 0001FFFFFF 00 | 0000", 30, Ok("02 0000 00 | 0000")),
+    ("02 0001 0001FFFFFE 00 | 0000", 0, Ok("02 0001 0001FFFFFE 00 | 0000")),
+    ("02 0000 01 0001FFFFFF | 0000", 0, Ok("02 0000 01 0001FFFFFF | 0000")),
     (
-        "03 0003 0001FFFFFF 0102000001 0200FFFFFF 01 0102FFFFFF 0001 010100",
+        "03 0003 0001FFFFFF 0102000001 0200FFFFFF 01 0102FFFFFF | 0001 010100",
         30,
-        Ok("03 0001 0102000001 01 0102FFFFFF 0001 010100"),
+        Ok("03 0001 0102000001 01 0102FFFFFF | 0001 010100"),
     ),
     (
-        "03 0003 0001000001 0102FFFFFF 0200000003 00 0000",
+        "03 0003 0001000001 0102FFFFFF 0200000003 00 | 0000",
         30,
-        Ok("03 0002 0001000001 0200000003 00 0000"),
+        Ok("03 0002 0001000001 0200000003 00 | 0000"),
     ),
-    ("02 0002 0001FFFFFF 0001FFFFFF 00 0000", 30, Err(7)),
-    ("02 0002 0001000001 0001FFFFFF 00 0000", 30, Err(7)),
-    ("02 0002 0001FFFFFF 0100000000 00 0000", 30, Err(6)),
-    ("02 0002 0001000000 0100FFFFFF 00 0000", 6, Err(6)),
-    ("02 0001 0002FFFFFF 00 0000", 4, Err(4)),
-    ("02 0001 0101FFFFFF 00 0000", 5, Err(5)),
+    ("02 0002 0001FFFFFF 0001FFFFFF 00 | 0000", 30, Err(7)),
+    ("02 0002 0001000001 0001FFFFFF 00 | 0000", 30, Err(7)),
+    ("02 0002 0001FFFFFF 0100000000 00 | 0000", 30, Err(6)),
+    ("02 0002 0001000000 0100FFFFFF 00 | 0000", 6, Err(6)),
+    ("02 0001 0002FFFFFF 00 | 0000", 4, Err(4)),
+    ("02 0001 0101FFFFFF 00 | 0000", 5, Err(5)),
     ("02 0001 0001FFFFFF", 30, Err(1)),
+    ("02 0000 00 | 0001", 1, Err(1)),
 ];
+
+/// A file of these with the times, and without.
+fn with_times(file: &str) -> Vec<u8> {
+    bytes(&file.replace('|', "0000 0001"))
+}
+
+fn without_times(file: &str) -> Vec<u8> {
+    bytes(&file.replace('|', ""))
+}
 
 fn dead_links() -> Result<(), String> {
     for (file, answer, written) in DEAD_LINKS {
         let mut table = [0; CELLS];
-        let (number, _) = read(&bytes(file), &mut table, Flaw::None);
+        let (number, _) = read(&with_times(file), &mut table, Flaw::None);
         same(&format!("Read of {file}"), number, answer)?;
         let written = match written {
-            Ok(other) => bytes(other),
+            Ok(other) => with_times(other),
             Err(number) => format!("refused {number}\n").into_bytes(),
         };
-        same(
-            &format!("{file} rewritten"),
-            rewritten(&bytes(file), Flaw::None),
-            written,
-        )?;
+        let found = rewritten(&without_times(file), Flaw::None);
+        same(&format!("{file} rewritten"), found, written)?;
+    }
+    times_of_files()
+}
+
+/// A file, Read's answer to it, its times, and the old reader's answer to it. A file with times is too long for the old
+/// reader, or too short: its hold time is taken for the number of steps.
+const FILE_TIMES: [(&str, u8, (u16, u16), u8); 7] = [
+    ("02 0000 00 0102 0304 0000", 0, (0x0102, 0x0304), 1),
+    ("02 0000 00 FFFF FFFF 0000", 0, (0xFFFF, 0xFFFF), 9),
+    ("02 0000 00 0000 0001 0000", 0, (0, 1), 2),
+    ("02 0000 00 0001 0000 0000", 0, (1, 0), 2),
+    ("02 0000 00 0000", 1, (0, 0), 0),
+    ("02 0000 00 0001 060000", 1, (0, 0), 0),
+    ("02 0000 00 0000 0001 000000", 2, (0, 0), 2),
+];
+
+fn times_of_files() -> Result<(), String> {
+    for (file, answer, times, old_answer) in FILE_TIMES {
+        let mut table = [0; CELLS];
+        let (number, contents) = read(&bytes(file), &mut table, Flaw::None);
+        let found = (number, (contents.hold_time, contents.step_time));
+        same(&format!("Read of {file}, and times"), found, (answer, times))?;
+        let (outcome, _) = old_reader(&bytes(file), Flaw::None);
+        let found = outcome.map_or_else(|fault| fault.number, |_| 0);
+        same(&format!("the old reader of {file}"), found, old_answer)?;
     }
     Ok(())
 }
@@ -546,7 +593,8 @@ fn files() -> Vec<Vec<u8>> {
         (3, &LAST_LINKS, &[(0, 1, 2)]),
     ];
     let mut files: Vec<Vec<u8>> = examples.into_iter().map(file_of).collect();
-    files.extend(DEAD_LINKS.map(|(file, ..)| bytes(file)));
+    files.extend(DEAD_LINKS.map(|(file, ..)| with_times(file)));
+    files.extend(FILE_TIMES.map(|(file, ..)| bytes(file)));
     files.extend((0..=10).map(stopped));
     files.push(finished());
     files.push(file_of((5, &star(5, 1), &star(5, UNUSED))));

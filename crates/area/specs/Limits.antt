@@ -17,6 +17,14 @@ unreached = 4294967295
 abbrev pub mostChanges : ℕ
 mostChanges = 2 * (width - 1)
 
+-- A hold time is at most so many ticks, and so is a step time (02, No. 10).
+abbrev pub longestTime : ℕ
+longestTime = 65535
+
+-- the last time that the clock can show
+abbrev pub lastTime : ℕ
+lastTime = 4294967295
+
 -- a bench file has at most so many steps (01, "The bench file")
 abbrev pub mostSteps : ℕ
 mostSteps = 4096

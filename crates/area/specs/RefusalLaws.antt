@@ -14,6 +14,7 @@ use Rattle.area.specs.declared.refusal.Refusal.the-variants.{TableSize, 
 use Rattle.area.specs.declared.refusal.Refusal.the-variants.{Mixed, NoCommonRouter, Record, Kind, State}
 use Rattle.area.specs.declared.refusal.Refusal.the-variants.{Waiting, NotDue, Unwritten, NotDone, NotTold}
 use Rattle.area.specs.declared.refusal.Refusal.the-variants.{DeadLink, PastList, LongSubTlvs, UnknownIdentity}
+use Rattle.area.specs.declared.refusal.Refusal.the-variants.{TooEarly, ClockEnd, NoStepTime}
 use Rattle.area.specs.declared.refusal.Verdict.{Verdict}
 use Rattle.area.specs.declared.refusal.Verdict.the-variants.{Accepted, Refused}
 use Rattle.area.specs.Tests.{pick}
@@ -21,7 +22,7 @@ use Rattle.area.specs.Refusals.{refusalNumber, verdictNumber}
 use Rattle.area.specs.Refusals.{incomplete, trailing, routerCount, unknownRouter, selfLink, badMetric, repeated}
 use Rattle.area.specs.Refusals.{tableSize, tooMany, noChange, sameMetric, mixed, noCommonRouter, badRecord}
 use Rattle.area.specs.Refusals.{unknownKind, wrongState, stillWaiting, notDue, unwritten, notDone, notTold}
-use Rattle.area.specs.Refusals.{deadLink, pastList, longSubTlvs}
+use Rattle.area.specs.Refusals.{deadLink, pastList, longSubTlvs, unknownIdentity, tooEarly, clockEnd}
 
 -- the refusal of a number
 abbrev numbered : ℕ → Refusal
@@ -50,7 +51,10 @@ numbered n =
     (pick (eqb n deadLink) DeadLink
     (pick (eqb n pastList) PastList
     (pick (eqb n longSubTlvs) LongSubTlvs
-    UnknownIdentity)))))))))))))))))))))))
+    (pick (eqb n unknownIdentity) UnknownIdentity
+    (pick (eqb n tooEarly) TooEarly
+    (pick (eqb n clockEnd) ClockEnd
+    NoStepTime))))))))))))))))))))))))))
 
 of-number : (k : Refusal) → numbered (refusalNumber k) ≡ k
 of-number Incomplete = refl
@@ -78,6 +82,9 @@ of-number DeadLink = refl
 of-number PastList = refl
 of-number LongSubTlvs = refl
 of-number UnknownIdentity = refl
+of-number TooEarly = refl
+of-number ClockEnd = refl
+of-number NoStepTime = refl
 
 pub refusal-positive : (k : Refusal) → 1 ≤ refusalNumber k
 refusal-positive Incomplete = omega arith
@@ -105,6 +112,9 @@ refusal-positive DeadLink = omega arith
 refusal-positive PastList = omega arith
 refusal-positive LongSubTlvs = omega arith
 refusal-positive UnknownIdentity = omega arith
+refusal-positive TooEarly = omega arith
+refusal-positive ClockEnd = omega arith
+refusal-positive NoStepTime = omega arith
 
 pub same-refusal : (j k : Refusal) → refusalNumber j ≡ refusalNumber k → j ≡ k
 same-refusal j k e = sym (of-number j) ∙ ap numbered e ∙ of-number k

@@ -8,6 +8,7 @@ use Rattle.area.specs.declared.refusal.Refusal.the-variants.{TableSize, 
 use Rattle.area.specs.declared.refusal.Refusal.the-variants.{Mixed, NoCommonRouter, Record, Kind, State}
 use Rattle.area.specs.declared.refusal.Refusal.the-variants.{Waiting, NotDue, Unwritten, NotDone, NotTold}
 use Rattle.area.specs.declared.refusal.Refusal.the-variants.{DeadLink, PastList, LongSubTlvs, UnknownIdentity}
+use Rattle.area.specs.declared.refusal.Refusal.the-variants.{TooEarly, ClockEnd, NoStepTime}
 use Rattle.area.specs.declared.refusal.Verdict.{Verdict}
 use Rattle.area.specs.declared.refusal.Verdict.the-variants.{Accepted, Refused}
 
@@ -117,6 +118,19 @@ longSubTlvs = 32
 abbrev pub unknownIdentity : ℕ
 unknownIdentity = 33
 
+-- ---- of the rank timers (02, No. 10)
+-- a release comes before the router's hold time is over
+abbrev pub tooEarly : ℕ
+tooEarly = 34
+
+-- a tick finds the clock at the last time that it can show
+abbrev pub clockEnd : ℕ
+clockEnd = 35
+
+-- of Plan: the step time is 0
+abbrev pub noStepTime : ℕ
+noStepTime = 36
+
 -- ---- of an answer of the code
 -- the number of a refusal; `Refusal` and `Verdict` are the enums of src/refusal.rt
 abbrev pub refusalNumber : (k : Refusal) → ℕ
@@ -145,6 +159,9 @@ refusalNumber DeadLink = deadLink
 refusalNumber PastList = pastList
 refusalNumber LongSubTlvs = longSubTlvs
 refusalNumber UnknownIdentity = unknownIdentity
+refusalNumber TooEarly = tooEarly
+refusalNumber ClockEnd = clockEnd
+refusalNumber NoStepTime = noStepTime
 
 -- the number of an answer: the refusal's, and 0 where the input is accepted
 abbrev pub verdictNumber : (v : Verdict) → ℕ

@@ -21,15 +21,18 @@ pub const ENTRY: usize = 5;
 // Changes of a list: those of one router with each of the others, both ways.
 pub const MOST_CHANGES: usize = 2 * (WIDTH - 1);
 
+// The last time that the clock of a record can show.
+pub const LAST_TIME: u32 = 4294967295;
+
 // Bytes of a step: kind, a, b.
 pub const STEP: usize = 3;
 
 // Steps of a bench file.
 pub const MOST_STEPS: usize = 4096;
 
-// Bytes of the largest bench file: n, the three counts, and as many links, changes and steps as may be. Only programs
-// use it, for their buffers, and no contract; report_test runs a file of this size.
-pub const LARGEST: usize = 6
+// Bytes of the largest bench file: n, the three counts, the two times, and as many links, changes and steps as may be.
+// Only programs use it, for their buffers, and no contract; report_test runs a file of this size.
+pub const LARGEST: usize = 10
     + ENTRY * WIDTH * (WIDTH - 1)
     + ENTRY * MOST_CHANGES
     + STEP * MOST_STEPS;

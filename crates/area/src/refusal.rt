@@ -34,6 +34,11 @@ pub enum Refusal {
     PastList,
     LongSubTlvs,
     UnknownIdentity,
+    // Of Step: the timers.
+    TooEarly,
+    ClockEnd,
+    // Of Plan: the step time.
+    NoStepTime,
 }
 
 // What a call says of the input that it was handed.
@@ -73,6 +78,9 @@ impl Refusal {
             Refusal::PastList => 31,
             Refusal::LongSubTlvs => 32,
             Refusal::UnknownIdentity => 33,
+            Refusal::TooEarly => 34,
+            Refusal::ClockEnd => 35,
+            Refusal::NoStepTime => 36,
         }
     }
 }

@@ -1,5 +1,6 @@
--- The bench file of an area of n routers with the metric table m: its links, no change and no step (01, "The bench
--- file"); as bytes, and as a text in hexadecimal with a comment in each line.
+-- The bench file of an area of n routers with the metric table m: its links, no change, the hold time 0 and the step
+-- time 1, and no step (01, "The bench file"; 02, No. 10); as bytes, and as a text in hexadecimal with a comment in each
+-- line.
 use Prim.Native.Nat.{ℕ, zero, suc, _*_, _/_, _%_}
 use mathlib.Core.Bool.{Bool, not, _&&_}
 use mathlib.Core.List.{List, [], _∷_, _++_}
@@ -48,20 +49,26 @@ unfoldable pub bytesOf : (links : List Entry) → List ℕ
 bytesOf [] = []
 bytesOf (x ∷ l) = linkBytes x ++ bytesOf l
 
--- n, the count of the links, the links, and that there are no changes and no steps
+-- the hold time and the step time that the file is given, in two bytes each
+abbrev pub times : List ℕ
+times = 0 ∷ (0 ∷ (0 ∷ (1 ∷ [])))
+
+-- n, the count of the links, the links, that there are no changes, the times, and that there are no steps
 unfoldable pub fileOf : (n : ℕ) (m : List ℕ) → List ℕ
 fileOf n m =
     (n ∷ []) ++
     (countBytes (length (linksOf n m)) ++
     (bytesOf (linksOf n m) ++
     ((0 ∷ []) ++
-    countBytes 0)))
+    (times ++
+    countBytes 0))))
 
 -- ---- as a text: the same bytes in their order, and behind each part what it says, all comments in one column
 --     03            # routers 3
 --     0001          # links 1
 --     0001000005    # 0 to 1 at 5
 --     00            # changes
+--     00000001      # hold time 0, step time 1
 --     0000          # steps
 unfoldable pub routersLine : (n : ℕ) → List ℕ
 routersLine n = hexed (n ∷ []) ++ line (word "            # routers ") n
@@ -80,12 +87,15 @@ unfoldable pub linkLines : (links : List Entry) → List ℕ
 linkLines [] = []
 linkLines (x ∷ l) = linkLine x ++ linkLines l
 
+-- bytes, and a comment without numbers
+abbrev pub wordsLine : (bytes words : List ℕ) → List ℕ
+wordsLine bytes words = hexed bytes ++ words
+
 unfoldable pub lastLines : List ℕ
 lastLines =
-    hexed (0 ∷ []) ++
-    (word "            # changes\n" ++
-    (hexed (countBytes 0) ++
-    word "          # steps\n"))
+    wordsLine (0 ∷ []) (word "            # changes\n") ++
+    (wordsLine times (word "      # hold time 0, step time 1\n") ++
+    wordsLine (countBytes 0) (word "          # steps\n"))
 
 unfoldable pub allLines : (n : ℕ) (m : List ℕ) → List ℕ
 allLines n m =

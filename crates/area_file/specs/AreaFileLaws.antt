@@ -23,7 +23,7 @@ use Rattle.hex.specs.Hex.{most, unhexed}
 use Rattle.hex.specs.HexLaws.{length-hexed}
 use Rattle.hex.specs.PairLaws.{Says, says-none, says-then, bytes-say, says-whole}
 use Rattle.hex.specs.CommentLaws.{isOneLine, joined-line, field-line, comment, says-words, says-named}
-use Rattle.area_file.specs.AreaFile.{linksOf, countBytes, linkBytes, bytesOf, fileOf}
+use Rattle.area_file.specs.AreaFile.{linksOf, countBytes, linkBytes, bytesOf, times, fileOf}
 use Rattle.area_file.specs.AreaFile.{routersLine, countLine, linkLine, linkLines, lastLines, allLines}
 use Rattle.area_file.specs.AreaFile.{isSized, areaText}
 use Rattle.area_file.specs.LinkLaws.{All, all-listed, listed-most}
@@ -99,20 +99,28 @@ unfolding linkLines bytesOf
 links-say [] h = says-none
 links-say (x ∷ l) h = says-then (link-says x (h .0)) (links-say l (h .1))
 
-last-say : Says lastLines ((0 ∷ []) ++ countBytes 0)
+last-say : Says lastLines ((0 ∷ []) ++ (times ++ countBytes 0))
 unfolding lastLines isOneLine
 last-say =
-    says-then (bytes-say (0 ∷ []) zeros) (says-then (says-words 12 (word " changes") refl)
+    says-then (says-then (bytes-say (0 ∷ []) zeros) (says-words 12 (word " changes") refl))
+    (says-then (says-then (bytes-say times small) (says-words 6 (word " hold time 0, step time 1") refl))
     (says-then (bytes-say (countBytes 0) (count-byte 0 (omega arith))) (says-words 10 (word " steps") refl)))
   where
+    small : (k : ℕ) → getD times k 0 < 256
+    small zero = omega arith
+    small (suc zero) = omega arith
+    small (suc (suc zero)) = omega arith
+    small (suc (suc (suc zero))) = omega arith
+    small (suc (suc (suc (suc k)))) = omega arith
+
     zeros : (k : ℕ) → getD (0 ∷ []) k 0 < 256
     zeros zero = omega arith
     zeros (suc k) = omega arith
 
 -- ---- how long the lines are: a router has two digits at most, a metric of a used link eight, and a count four
--- so many bytes have room for the text of any area: a line for each cell, and the other four lines
+-- so many bytes have room for the text of any area: a line for each cell, and the other five lines
 abbrev pub room : ℕ
-room = 37 * (width * width) + 100
+room = 37 * (width * width) + 150
 
 link-length : (x : Entry) → InBytes x → length (linkLine x) ≤ 37
 unfolding linkLine
@@ -140,9 +148,10 @@ count-length count h =
     let line = line-below 4 count (omega arith) (omega arith) (word "          # links ") in
     simp length-append (omega (arith, length-hexed (countBytes count)))
 
-last-length : length lastLines ≤ 46
+last-length : length lastLines ≤ 96
 unfolding lastLines
-last-length = simp length-append (omega (arith, length-hexed (0 ∷ []), length-hexed (countBytes 0)))
+last-length =
+    simp length-append (omega (arith, length-hexed (0 ∷ []), length-hexed times, length-hexed (countBytes 0)))
 
 fits : (n : ℕ) (m : List ℕ) → n ≤ width → All InBytes (linksOf n m)
 fits n m h = all-listed n m InBytes (width * n) (λ d b x. (omega arith, omega arith, x .used))

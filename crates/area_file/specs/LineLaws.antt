@@ -4,7 +4,7 @@
 --     listed-beyond, listed-own, listed-told   whether a cell is a link
 --     listed-used                              a link is used
 --     counted-none, counted-more, counted-less the links, counted cell by cell
---     routers-appended, count-appended, link-appended, last-appended       a line
+--     routers-appended, count-appended, link-appended, words-appended, last-appended       a line
 --     cell-listed, cell-none                   the line of a cell, and none
 --     lines-start, lines-next                  the lines of the first cells
 --     area-sized                               the sizes of an area
@@ -28,7 +28,7 @@ use Rattle.entries.specs.declared.Entry.{Entry}
 use Rattle.text.specs.Text.{Appended, word, field, line}
 use Rattle.text.specs.TextLaws.{appended-none, appended-then}
 use Rattle.hex.specs.Digits.{hexed}
-use Rattle.area_file.specs.AreaFile.{link, isListed, linkOf, listed, linksOf, linkBytes}
+use Rattle.area_file.specs.AreaFile.{times, wordsLine, link, isListed, linkOf, listed, linksOf, linkBytes}
 use Rattle.area_file.specs.AreaFile.{routersLine, countLine, linkLine, linkLines, lastLines, allLines}
 use Rattle.area_file.specs.AreaFile.{isSized, areaText}
 use Rattle.area_file.specs.LinkLaws.{listed-is}
@@ -109,15 +109,21 @@ pub link-appended :
 unfolding linkLine
 link-appended i j v w x y z = appended-then w (appended-then x (appended-then y z))
 
+pub words-appended :
+    (bytes words : List ℕ) {o p q : List ℕ} {a b c : ℕ}
+    → Appended o a (hexed bytes) p b
+    → Appended p b words q c
+    → Appended o a (wordsLine bytes words) q c
+words-appended bytes words x y = appended-then x y
+
 pub last-appended :
-    {o p q s t : List ℕ} {a b c d e : ℕ}
-    → Appended o a (hexed (0 ∷ [])) p b
-    → Appended p b (word "            # changes\n") q c
-    → Appended q c (hexed (0 ∷ (0 ∷ []))) s d
-    → Appended s d (word "          # steps\n") t e
-    → Appended o a lastLines t e
+    {o p q s : List ℕ} {a b c d : ℕ}
+    → Appended o a (wordsLine (0 ∷ []) (word "            # changes\n")) p b
+    → Appended p b (wordsLine times (word "      # hold time 0, step time 1\n")) q c
+    → Appended q c (wordsLine (0 ∷ (0 ∷ [])) (word "          # steps\n")) s d
+    → Appended o a lastLines s d
 unfolding lastLines
-last-appended w x y z = appended-then w (appended-then x (appended-then y z))
+last-appended x y z = appended-then x (appended-then y z)
 
 -- ---- the lines of the links
 pub lines-joined : (l m : List Entry) → linkLines (l ++ m) ≡ linkLines l ++ linkLines m

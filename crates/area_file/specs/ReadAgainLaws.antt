@@ -34,7 +34,7 @@ use Rattle.bench_file.specs.FaultLaws.{most-links-is, live-passes, Link, Accept
 use Rattle.bench_file.specs.Read.{readRefusal, metricsOf}
 use Rattle.bench_file.specs.ReadLaws.{read-file, metrics-accepted, linked-is}
 use Rattle.hex.specs.Hex.{unhexed}
-use Rattle.area_file.specs.AreaFile.{link, linksOf, countBytes, linkBytes, bytesOf, fileOf, areaText}
+use Rattle.area_file.specs.AreaFile.{link, linksOf, countBytes, linkBytes, bytesOf, times, fileOf, areaText}
 use Rattle.area_file.specs.AreaFileLaws.{sized-true, text-read}
 use Rattle.area_file.specs.LinkLaws.{Listed, all-at, all-listed, links-most, key, listed-less, listed-found}
 
@@ -82,9 +82,9 @@ module _ (n : ℕ) (m : List ℕ) where
   abbrev count : ℕ
   count = length (linksOf n m)
 
-  -- no changes and no steps
+  -- no changes, the times, and no steps
   abbrev rest : List ℕ
-  rest = (0 ∷ []) ++ countBytes 0
+  rest = (0 ∷ []) ++ (times ++ countBytes 0)
 
   pub file-routers : routers (fileOf n m) ≡ n
   unfolding fileOf
@@ -111,13 +111,13 @@ module _ (n : ℕ) (m : List ℕ) where
   file-changes : changeCount (fileOf n m) ≡ 0
   file-changes = behind 0 _ (omega arith)
 
-  file-steps : stepCount (fileOf n m) ≡ 0
+  file-steps : stepCount New (fileOf n m) ≡ 0
   file-steps =
       ap₂ (λ (x y : ℕ). 256 * x + y)
-      (behind 1 _ (omega (arith, file-changes)))
-      (behind 2 _ (omega (arith, file-changes)))
+      (behind 5 _ (omega (arith, file-changes)))
+      (behind 6 _ (omega (arith, file-changes)))
 
-  file-length : length (fileOf n m) ≡ 6 + 5 * count
+  file-length : length (fileOf n m) ≡ 10 + 5 * count
   unfolding fileOf
   file-length =
       let size = length-append (bytesOf (linksOf n m)) rest in

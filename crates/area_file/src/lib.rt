@@ -23,11 +23,11 @@ ghost use Rattle.area.specs.Limits.{width, unused};
 ghost use Rattle.text.specs.Text.{Appended};
 ghost use Rattle.hex.specs.Digits.{hexed};
 ghost use Rattle.area_file.specs.AreaFile.{link, isListed, linkOf, linksOf, linkBytes};
-ghost use Rattle.area_file.specs.AreaFile.{routersLine, countLine, linkLine, linkLines, lastLines};
+ghost use Rattle.area_file.specs.AreaFile.{routersLine, countLine, linkLine, linkLines, wordsLine, lastLines};
 ghost use Rattle.area_file.specs.AreaFile.{isSized, areaText};
 
-// As many bytes as have room for the text of any area: a line for each cell, and the other four lines.
-pub const ROOM: usize = 37 * CELLS + 100;
+// As many bytes as have room for the text of any area: a line for each cell, and the other five lines.
+pub const ROOM: usize = 37 * CELLS + 150;
 
 // Appends the text of an area of n routers with these metrics; nothing where there is no such area.
 pub fn append_area(n: usize, metrics: &[u32], out: &mut [u8], at: usize) -> usize
@@ -154,12 +154,26 @@ fn link_digits(from: usize, to: usize, metric: u32, out: &mut [u8], at: usize) -
     hex_bytes(&bytes, out, at)
 }
 
-// No changes and no steps.
+// No changes, the times that a file is given, and no steps.
 fn last_lines(out: &mut [u8], at: usize) -> usize
     ensures { λ r. ⌜ Appended (now (out .entry)) at lastLines (now (out .exit)) r ⌝ }
 {
-    let at = hex_bytes(&[0], out, at);
-    let at = append(out, at, b"            # changes\n");
-    let at = hex_bytes(&[0, 0], out, at);
-    append(out, at, b"          # steps\n")
+    let at = words_line(&[0], b"            # changes\n", out, at);
+    let at = words_line(
+        &[0, 0, 0, 1],
+        b"      # hold time 0, step time 1\n",
+        out,
+        at,
+    );
+    words_line(&[0, 0], b"          # steps\n", out, at)
+}
+
+// The digits of these bytes, and a comment without numbers.
+fn words_line(bytes: &[u8], words: &[u8], out: &mut [u8], at: usize) -> usize
+    ensures { λ r. ⌜
+        Appended (now (out .entry)) at
+        (wordsLine (now (bytes .entry)) (now (words .entry))) (now (out .exit)) r ⌝ }
+{
+    let at = hex_bytes(bytes, out, at);
+    append(out, at, words)
 }

@@ -151,7 +151,7 @@ fn entry(list: &[u8], e: usize) {
     );
 }
 
-// The numbers of all refusals, in the order in which the paper first names them.
+// The numbers of all refusals, in the order in which the papers first name them.
 fn refusals() {
     print::text(b"accepted ");
     print::number(Verdict::Accepted.number() as u64);
@@ -163,6 +163,8 @@ fn refusals() {
     of_tables();
     of_entries();
     of_steps();
+    of_files();
+    of_timers();
     print::byte(b'\n');
 }
 
@@ -199,4 +201,18 @@ fn of_steps() {
     refused(Refusal::Unwritten);
     refused(Refusal::NotDone);
     refused(Refusal::NotTold);
+}
+
+// Of files with dead links, and of areas from IS-IS.
+fn of_files() {
+    refused(Refusal::DeadLink);
+    refused(Refusal::PastList);
+    refused(Refusal::LongSubTlvs);
+    refused(Refusal::UnknownIdentity);
+}
+
+fn of_timers() {
+    refused(Refusal::TooEarly);
+    refused(Refusal::ClockEnd);
+    refused(Refusal::NoStepTime);
 }

@@ -1,5 +1,5 @@
 -- Laws of the faults: those by which the code is proved, and what is known of a file that has none.
---     read-changes, read-steps                 the counts that code has read
+--     read-changes, times-place, read-steps    the counts that code has read, and the place of the times
 --     dead-taken, dead-told, live-passes       the refusal of a dead link, by the format
 --     link-cut, link-whole, link-passes        the refusals of a link
 --     link-sound, link-same                    what is known of a link that is not refused; the same link elsewhere
@@ -30,9 +30,9 @@ use Rattle.entries.specs.declared.Entry.{Entry}
 use Rattle.entries.specs.Entries.{entryCount, entryOf, from, to, isFree, isFirst, entryRefusal}
 use Rattle.entries.specs.EntryLaws.{Faultless, faultless, faultless-of, free-same}
 use Rattle.bench_file.specs.declared.Format.{Format}
-use Rattle.bench_file.specs.Formats.{takesDead}
+use Rattle.bench_file.specs.Formats.{takesDead, timesSize}
 use Rattle.bench_file.specs.Sections.{routers, linkCount, links}
-use Rattle.bench_file.specs.Sections.{changeCount, changesAt, stepCount, stepsAt, end}
+use Rattle.bench_file.specs.Sections.{changeCount, changesAt, timesAt, stepCount, stepsAt, end}
 use Rattle.bench_file.specs.Faults.{mostLinks, isDead, deadRefusal, linkRefusal, linksRefusal, restRefusal}
 use Rattle.bench_file.specs.Faults.{fileRefusal}
 
@@ -41,8 +41,15 @@ module _ (f : List ℕ) {k : ℕ} (is : k ≡ linkCount f) {x : ℕ} (told : x �
   pub read-changes : x ≡ changeCount f
   read-changes = told ∙ ap (λ (i : ℕ). getD f (3 + 5 * i) 0) is
 
-  pub read-steps : {y : ℕ} → y ≡ two f (3 + 5 * k + 1 + 5 * x) → y ≡ stepCount f
-  read-steps e = e ∙ ap (two f) (omega (arith, is, read-changes))
+  pub times-place : 3 + 5 * k + 1 + 5 * x ≡ timesAt f
+  times-place = omega (arith, is, read-changes)
+
+  pub read-steps :
+      (format : Format) {z y : ℕ}
+      → z ≡ timesSize format
+      → y ≡ two f (3 + 5 * k + 1 + 5 * x + z)
+      → y ≡ stepCount format f
+  read-steps format times e = e ∙ ap (two f) (omega (arith, is, read-changes, times))
 
 -- ---- dead links
 -- the format of stored files takes them
@@ -126,8 +133,8 @@ link-same format n l m e a b same =
     ∙ sym (link-whole format n m e b)
 
 -- ---- what follows the links
-module _ (f : List ℕ) where
-  pub rest-cut-count : length f < changesAt f → restRefusal f ≡ incomplete
+module _ (format : Format) (f : List ℕ) where
+  pub rest-cut-count : length f < changesAt f → restRefusal format f ≡ incomplete
   unfolding restRefusal
   rest-cut-count a = rw (lt-ltb (length f) (changesAt f) a) refl
 
@@ -135,7 +142,7 @@ module _ (f : List ℕ) where
     count-there : ltb (length f) (changesAt f) ≡ false
     count-there = le-ltb (length f) (changesAt f) a
 
-    pub rest-many-changes : mostChanges < changeCount f → restRefusal f ≡ tooMany
+    pub rest-many-changes : mostChanges < changeCount f → restRefusal format f ≡ tooMany
     unfolding restRefusal
     rest-many-changes b = rw (count-there, lt-ltb mostChanges (changeCount f) b) refl
 
@@ -143,40 +150,42 @@ module _ (f : List ℕ) where
       few-changes : ltb mostChanges (changeCount f) ≡ false
       few-changes = le-ltb mostChanges (changeCount f) b
 
-      pub rest-cut-changes : length f < stepsAt f → restRefusal f ≡ incomplete
+      pub rest-cut-changes : length f < stepsAt format f → restRefusal format f ≡ incomplete
       unfolding restRefusal
-      rest-cut-changes c = rw (count-there, few-changes, lt-ltb (length f) (stepsAt f) c) refl
+      rest-cut-changes c = rw (count-there, few-changes, lt-ltb (length f) (stepsAt format f) c) refl
 
-      module _ (c : stepsAt f ≤ length f) where
-        changes-there : ltb (length f) (stepsAt f) ≡ false
-        changes-there = le-ltb (length f) (stepsAt f) c
+      module _ (c : stepsAt format f ≤ length f) where
+        changes-there : ltb (length f) (stepsAt format f) ≡ false
+        changes-there = le-ltb (length f) (stepsAt format f) c
 
-        pub rest-many-steps : mostSteps < stepCount f → restRefusal f ≡ tooMany
+        pub rest-many-steps : mostSteps < stepCount format f → restRefusal format f ≡ tooMany
         unfolding restRefusal
-        rest-many-steps d = rw (count-there, few-changes, changes-there, lt-ltb mostSteps (stepCount f) d) refl
+        rest-many-steps d = rw (count-there, few-changes, changes-there, lt-ltb mostSteps (stepCount format f) d) refl
 
-        module _ (d : stepCount f ≤ mostSteps) where
-          few-steps : ltb mostSteps (stepCount f) ≡ false
-          few-steps = le-ltb mostSteps (stepCount f) d
+        module _ (d : stepCount format f ≤ mostSteps) where
+          few-steps : ltb mostSteps (stepCount format f) ≡ false
+          few-steps = le-ltb mostSteps (stepCount format f) d
 
-          pub rest-cut-steps : length f < end f → restRefusal f ≡ incomplete
+          pub rest-cut-steps : length f < end format f → restRefusal format f ≡ incomplete
           unfolding restRefusal
           rest-cut-steps e =
-              rw (count-there, few-changes, changes-there, few-steps, lt-ltb (length f) (end f) e) refl
+              rw (count-there, few-changes, changes-there, few-steps, lt-ltb (length f) (end format f) e) refl
 
-          module _ (e : end f ≤ length f) where
-            steps-there : ltb (length f) (end f) ≡ false
-            steps-there = le-ltb (length f) (end f) e
+          module _ (e : end format f ≤ length f) where
+            steps-there : ltb (length f) (end format f) ≡ false
+            steps-there = le-ltb (length f) (end format f) e
 
-            pub rest-more : end f < length f → restRefusal f ≡ trailing
+            pub rest-more : end format f < length f → restRefusal format f ≡ trailing
             unfolding restRefusal
             rest-more g =
-                rw (count-there, few-changes, changes-there, few-steps, steps-there, lt-ltb (end f) (length f) g) refl
+                rw (count-there, few-changes, changes-there, few-steps, steps-there)
+                (rw (lt-ltb (end format f) (length f) g) refl)
 
-            pub rest-passes : length f ≤ end f → restRefusal f ≡ 0
+            pub rest-passes : length f ≤ end format f → restRefusal format f ≡ 0
             unfolding restRefusal
             rest-passes g =
-                rw (count-there, few-changes, changes-there, few-steps, steps-there, le-ltb (end f) (length f) g) refl
+                rw (count-there, few-changes, changes-there, few-steps, steps-there)
+                (rw (le-ltb (end format f) (length f) g) refl)
 
 -- ---- the file
 pub most-links-is : (n : ℕ) → mostLinks n ≡ n * (n - 1)
@@ -219,11 +228,11 @@ module _ (format : Format) (f : List ℕ) where
 
           pub file-link : linksRefusal format f ≢ 0 → fileRefusal format f ≡ linksRefusal format f
           unfolding fileRefusal
-          file-link e = rw (some-byte, b, three-bytes, few-links) (then-some _ (restRefusal f) e)
+          file-link e = rw (some-byte, b, three-bytes, few-links) (then-some _ (restRefusal format f) e)
 
-          pub file-rest : linksRefusal format f ≡ 0 → fileRefusal format f ≡ restRefusal f
+          pub file-rest : linksRefusal format f ≡ 0 → fileRefusal format f ≡ restRefusal format f
           unfolding fileRefusal
-          file-rest e = rw (some-byte, b, three-bytes, few-links) (then-none _ (restRefusal f) e)
+          file-rest e = rw (some-byte, b, three-bytes, few-links) (then-none _ (restRefusal format f) e)
 
 -- ---- a file that is not refused
 pub record Accepted (format : Format) (f : List ℕ) : Type 0 where
@@ -231,45 +240,46 @@ pub record Accepted (format : Format) (f : List ℕ) : Type 0 where
   pub most-links : linkCount f ≤ mostLinks (routers f)
   pub each-link : (e : ℕ) → e < linkCount f → Link format (routers f) (links f) e
   pub most-changes : changeCount f ≤ mostChanges
-  pub most-steps : stepCount f ≤ mostSteps
-  pub size : length f ≡ end f
+  pub most-steps : stepCount format f ≤ mostSteps
+  pub size : length f ≡ end format f
 
 -- what is known where the rest is not refused
-abbrev RestAccepted : (f : List ℕ) → Type 0
-RestAccepted f = (changeCount f ≤ mostChanges) × (stepCount f ≤ mostSteps) × (length f ≡ end f)
+abbrev RestAccepted : (format : Format) (f : List ℕ) → Type 0
+RestAccepted format f = (changeCount f ≤ mostChanges) × (stepCount format f ≤ mostSteps) × (length f ≡ end format f)
 
-rest-of : (f : List ℕ) → restRefusal f ≡ 0 → RestAccepted f
-rest-of f z =
+rest-of : (format : Format) (f : List ℕ) → restRefusal format f ≡ 0 → RestAccepted format f
+rest-of format f z =
     by-tests
     (decLt (length f) (changesAt f))
     (decLt mostChanges (changeCount f))
-    (decLt (length f) (stepsAt f))
-    (decLt mostSteps (stepCount f))
-    (decLt (length f) (end f))
-    (decLt (end f) (length f))
+    (decLt (length f) (stepsAt format f))
+    (decLt mostSteps (stepCount format f))
+    (decLt (length f) (end format f))
+    (decLt (end format f) (length f))
   where
-    never : {A : Type 0} (k : ℕ) → 1 ≤ k → restRefusal f ≡ k → A
+    never : {A : Type 0} (k : ℕ) → 1 ≤ k → restRefusal format f ≡ k → A
     never k p q = absurd (let x : ⊥ = omega arith in x)
 
     by-tests :
         Dec (length f < changesAt f)
         → Dec (mostChanges < changeCount f)
-        → Dec (length f < stepsAt f)
-        → Dec (mostSteps < stepCount f)
-        → Dec (length f < end f)
-        → Dec (end f < length f)
-        → RestAccepted f
-    by-tests (yes a) b c d e g = never incomplete (omega arith) (rest-cut-count f a)
-    by-tests (no a) (yes b) c d e g = never tooMany (omega arith) (rest-many-changes f (omega arith) b)
+        → Dec (length f < stepsAt format f)
+        → Dec (mostSteps < stepCount format f)
+        → Dec (length f < end format f)
+        → Dec (end format f < length f)
+        → RestAccepted format f
+    by-tests (yes a) b c d e g = never incomplete (omega arith) (rest-cut-count format f a)
+    by-tests (no a) (yes b) c d e g = never tooMany (omega arith) (rest-many-changes format f (omega arith) b)
     by-tests (no a) (no b) (yes c) d e g =
-        never incomplete (omega arith) (rest-cut-changes f (omega arith) (omega arith) c)
+        never incomplete (omega arith) (rest-cut-changes format f (omega arith) (omega arith) c)
     by-tests (no a) (no b) (no c) (yes d) e g =
-        never tooMany (omega arith) (rest-many-steps f (omega arith) (omega arith) (omega arith) d)
+        never tooMany (omega arith) (rest-many-steps format f (omega arith) (omega arith) (omega arith) d)
     by-tests (no a) (no b) (no c) (no d) (yes e) g =
-        never incomplete (omega arith) (rest-cut-steps f (omega arith) (omega arith) (omega arith) (omega arith) e)
+        never incomplete (omega arith)
+        (rest-cut-steps format f (omega arith) (omega arith) (omega arith) (omega arith) e)
     by-tests (no a) (no b) (no c) (no d) (no e) (yes g) =
         never trailing (omega arith)
-        (rest-more f (omega arith) (omega arith) (omega arith) (omega arith) (omega arith) g)
+        (rest-more format f (omega arith) (omega arith) (omega arith) (omega arith) (omega arith) g)
     by-tests (no a) (no b) (no c) (no d) (no e) (no g) = (omega arith, omega arith, omega arith)
 
 pub accepted-of : (format : Format) (f : List ℕ) → fileRefusal format f ≡ 0 → Accepted format f
@@ -298,12 +308,12 @@ accepted-of format f z =
       routers-in = b;
       most-links = omega arith;
       each-link = λ e h. link-sound format (routers f) (links f) e (none-first _ (linkCount f) (both .0) e h);
-      most-changes = rest-of f (both .1) .0;
-      most-steps = rest-of f (both .1) .1;
-      size = rest-of f (both .1) .2;
+      most-changes = rest-of format f (both .1) .0;
+      most-steps = rest-of format f (both .1) .1;
+      size = rest-of format f (both .1) .2;
     }
       where
-        both : (linksRefusal format f ≡ 0) × (restRefusal f ≡ 0)
+        both : (linksRefusal format f ≡ 0) × (restRefusal format f ≡ 0)
         both =
             elim (ℕ-discrete (linksRefusal format f) 0) [
               | yes e ↦ (e, sym (file-rest format f (omega arith) b (omega arith) (omega arith) e) ∙ z)
@@ -314,7 +324,8 @@ pub of-accepted : (format : Format) (f : List ℕ) → Accepted format f → fil
 of-accepted format f good =
     let size = good .size in
     file-rest format f (omega arith) (good .routers-in) (omega arith) (good .most-links) each-passes
-    ∙ rest-passes f (omega arith) (good .most-changes) (omega arith) (good .most-steps) (omega arith) (omega arith)
+    ∙ rest-passes format f (omega arith) (good .most-changes) (omega arith) (good .most-steps) (omega arith)
+    (omega arith)
   where
     each-passes : linksRefusal format f ≡ 0
     each-passes =

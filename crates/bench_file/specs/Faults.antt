@@ -44,14 +44,14 @@ abbrev pub linksRefusal : (format : Format) (f : List ℕ) → ℕ
 linksRefusal format f = first (linkCount f) (linkRefusal format (routers f) (links f))
 
 -- What follows the links: each count is there, and is tested before what it counts; nothing follows the last step.
-unfoldable pub restRefusal : (f : List ℕ) → ℕ
-restRefusal f =
+unfoldable pub restRefusal : (format : Format) (f : List ℕ) → ℕ
+restRefusal format f =
     pick (ltb (length f) (changesAt f)) incomplete
     (pick (ltb mostChanges (changeCount f)) tooMany
-    (pick (ltb (length f) (stepsAt f)) incomplete
-    (pick (ltb mostSteps (stepCount f)) tooMany
-    (pick (ltb (length f) (end f)) incomplete
-    (pick (ltb (end f) (length f)) trailing
+    (pick (ltb (length f) (stepsAt format f)) incomplete
+    (pick (ltb mostSteps (stepCount format f)) tooMany
+    (pick (ltb (length f) (end format f)) incomplete
+    (pick (ltb (end format f) (length f)) trailing
     0)))))
 
 -- The file: n, the link count, each link, and what follows them; 0 where it has no fault.
@@ -62,7 +62,7 @@ fileRefusal format f =
     (pick (ltb (length f) 3) incomplete
     (pick (ltb (mostLinks (routers f)) (linkCount f)) tooMany
     (orThen (linksRefusal format f)
-    (restRefusal f)))))
+    (restRefusal format f)))))
 
 -- ---- what the code computes for a link
 -- The refusal of the entry x, where set i of `seen` holds every j of an earlier link from i to j.

@@ -1,13 +1,14 @@
 -- Laws of Read and of the old reader, for their callers and their readers.
---     links-most, accepted-largest, second-byte, links-among
+--     links-most, accepted-most, accepted-largest, second-byte, links-among
 --                                                      a file that is accepted in either format: how many links and
 --                                                      bytes it has at most, its second byte, and how many links
 --                                                      between few routers
+--     one-format                                       and it is in one of them only
 --     table-sized, file-passed, file-accepted          what is known where Read refuses nothing
 --     link-cell, other-cell, cell-link                 then the table holds the listed links, and nothing else
 --     file-size, file-largest                          the length of the file, by its counts, and at most
 --     changes-length, steps-length, changes-count      the parts that Plan and Step get
---     contents-n, .. contents-steps                    what the file says of itself
+--     contents-n, .. contents-times                    what the file says of itself
 --     no-contents-n, no-contents-changes               and what is handed back with a refusal
 --     long-refused     a file that is longer than the largest is refused
 --     first-refusal    the first bytes of a file, one more than the largest has, decide how it is refused
@@ -38,9 +39,11 @@ use Rattle.entries.specs.EntryLaws.{entry-count-is, entry-count-least, entry-by
 use Rattle.entries.specs.EntryLaws.{given-none, given-cases, given-at}
 use Rattle.entries.specs.DifferentLaws.{different-most}
 use Rattle.bench_file.specs.Sections.{routers, linkCount, links, changeCountAt, changeCount, changesAt}
-use Rattle.bench_file.specs.Sections.{changes, stepCountAt, stepCount, stepsAt, steps, largest}
+use Rattle.bench_file.specs.Sections.{changes, holdTime, stepTime, stepCountAt, stepCount, stepsAt, steps}
+use Rattle.bench_file.specs.Sections.{largest}
+use Rattle.bench_file.specs.Formats.{timesSize}
 use Rattle.bench_file.specs.declared.Format.{Format}
-use Rattle.bench_file.specs.declared.Format.the-variants.{New}
+use Rattle.bench_file.specs.declared.Format.the-variants.{Old, New}
 use Rattle.bench_file.specs.Faults.{mostLinks, linkRefusal, linksRefusal, restRefusal, fileRefusal}
 use Rattle.bench_file.specs.FaultLaws.{most-links-is, pairs-most, Accepted, accepted-of, link-same}
 use Rattle.bench_file.specs.FaultLaws.{rest-many-changes, rest-many-steps, rest-more}
@@ -60,10 +63,22 @@ links-most f a b =
     let most = pairs-most (routers f) (router-count-most (routers f) a) in
     omega (arith, most-links-is (routers f))
 
-pub accepted-largest : (format : Format) (f : List ℕ) → Accepted format f → length f ≤ largest
-accepted-largest format f good =
+-- the old format is without the times
+times-most : (format : Format) → timesSize format ≤ 4
+times-most Old = omega arith
+times-most New = omega arith
+
+pub accepted-most : (format : Format) (f : List ℕ) → Accepted format f → length f + 4 ≤ largest + timesSize format
+accepted-most format f good =
     let few-links = links-most f (good .routers-in) (good .most-links) in
     omega (arith, good .size, good .most-changes, good .most-steps, few-links)
+
+pub accepted-largest : (format : Format) (f : List ℕ) → Accepted format f → length f ≤ largest
+accepted-largest format f good = omega (arith, accepted-most format f good, times-most format)
+
+-- No file is accepted in both formats (02, No. 10): the times would make four bytes more of it, and steps have three.
+pub one-format : (f : List ℕ) → Accepted Old f → Accepted New f → ⊥
+one-format f old new = omega (arith, old .size, new .size)
 
 -- the high byte of the link count
 pub second-byte : (format : Format) (f : List ℕ) → Accepted format f → getD f 1 0 ≤ width * (width - 1) / 256
@@ -160,7 +175,7 @@ module _ (f t : List ℕ) (z : readRefusal f t ≡ 0) where
       (given-cases (links f) (linkCount f) i j unused)
 
   -- the length is what the counts say
-  pub file-size : length f ≡ 6 + 5 * linkCount f + 5 * changeCount f + 3 * stepCount f
+  pub file-size : length f ≡ 10 + 5 * linkCount f + 5 * changeCount f + 3 * stepCount New f
   file-size = omega (arith, file-accepted .size)
 
   pub file-largest : length f ≤ largest
@@ -172,35 +187,41 @@ module _ (f t : List ℕ) (z : readRefusal f t ≡ 0) where
       let room = length-drop (changesAt f) f in
       length-take-le (5 * changeCount f) (drop (changesAt f) f) (omega (arith, file-size, room))
 
-  pub steps-length : length (steps f) ≡ 3 * stepCount f
+  pub steps-length : length (steps New f) ≡ 3 * stepCount New f
   steps-length =
-      let room = length-drop (stepsAt f) f in
-      length-take-le (3 * stepCount f) (drop (stepsAt f) f) (omega (arith, file-size, room))
+      let room = length-drop (stepsAt New f) f in
+      length-take-le (3 * stepCount New f) (drop (stepsAt New f) f) (omega (arith, file-size, room))
 
   pub changes-count : entryCount (changes f) ≡ changeCount f
   changes-count = entry-count-is (changes f) (changeCount f) changes-length
 
 -- ---- what an accepted file says of itself
-module _ (f : List ℕ) where
-  pub contents-n : contents f .n ≡ routers f
+module _ (format : Format) (f : List ℕ) where
+  pub contents-n : contents format f .n ≡ routers f
   unfolding contents
   contents-n = refl
 
-  pub contents-links : contents f .links ≡ linkCount f
+  pub contents-links : contents format f .links ≡ linkCount f
   unfolding contents
   contents-links = refl
 
   pub contents-changes :
-      (contents f .changes .at ≡ changesAt f)
-      × (contents f .changes .count ≡ changeCount f)
+      (contents format f .changes .at ≡ changesAt f)
+      × (contents format f .changes .count ≡ changeCount f)
   unfolding contents
   contents-changes = (refl, refl)
 
   pub contents-steps :
-      (contents f .steps .at ≡ stepsAt f)
-      × (contents f .steps .count ≡ stepCount f)
+      (contents format f .steps .at ≡ stepsAt format f)
+      × (contents format f .steps .count ≡ stepCount format f)
   unfolding contents
   contents-steps = (refl, refl)
+
+  pub contents-times :
+      (contents format f .«hold_time» ≡ holdTime format f)
+      × (contents format f .«step_time» ≡ stepTime format f)
+  unfolding contents
+  contents-times = (refl, refl)
 
 -- what is handed back with a refusal
 pub no-contents-n : noContents .n ≡ 0
@@ -264,29 +285,35 @@ module _
       same-changes : changeCount f ≡ changeCount g
       same-changes = same (changeCountAt f) (omega arith) ∙ ap (λ (k : ℕ). getD g (3 + 5 * k) 0) same-count
 
-      same-steps : changeCount f ≤ mostChanges → stepCount f ≡ stepCount g
-      same-steps b = same-two (stepCountAt f) (omega arith) ∙ ap (two g) (omega (arith, same-count, same-changes))
+      same-steps : changeCount f ≤ mostChanges → stepCount format f ≡ stepCount format g
+      same-steps b =
+          same-two (stepCountAt format f) (omega (arith, times-most format))
+          ∙ ap (two g) (omega (arith, same-count, same-changes))
 
-      same-rest : restRefusal f ≡ restRefusal g
-      same-rest = by-tests same-count same-changes (decLt mostChanges (changeCount f)) (decLt mostSteps (stepCount f))
+      same-rest : restRefusal format f ≡ restRefusal format g
+      same-rest =
+          by-tests same-count same-changes (decLt mostChanges (changeCount f)) (decLt mostSteps (stepCount format f))
         where
           by-tests :
               linkCount f ≡ linkCount g
               → changeCount f ≡ changeCount g
               → Dec (mostChanges < changeCount f)
-              → Dec (mostSteps < stepCount f)
-              → restRefusal f ≡ restRefusal g
+              → Dec (mostSteps < stepCount format f)
+              → restRefusal format f ≡ restRefusal format g
           by-tests k x (yes b) d =
-              rest-many-changes f (omega arith) b
-              ∙ sym (rest-many-changes g (omega arith) (omega arith))
+              rest-many-changes format f (omega arith) b
+              ∙ sym (rest-many-changes format g (omega arith) (omega arith))
           by-tests k x (no b) (yes d) =
               let y = same-steps (omega arith) in
-              rest-many-steps f (omega arith) (omega arith) (omega arith) d
-              ∙ sym (rest-many-steps g (omega arith) (omega arith) (omega arith) (omega arith))
+              let z = times-most format in
+              rest-many-steps format f (omega arith) (omega arith) (omega arith) d
+              ∙ sym (rest-many-steps format g (omega arith) (omega arith) (omega arith) (omega arith))
           by-tests k x (no b) (no d) =
               let y = same-steps (omega arith) in
-              rest-more f (omega arith) (omega arith) (omega arith) (omega arith) (omega arith) (omega arith)
-              ∙ sym (rest-more g (omega arith) (omega arith) (omega arith) (omega arith) (omega arith) (omega arith))
+              let z = times-most format in
+              rest-more format f (omega arith) (omega arith) (omega arith) (omega arith) (omega arith) (omega arith)
+              ∙ sym
+              (rest-more format g (omega arith) (omega arith) (omega arith) (omega arith) (omega arith) (omega arith))
 
     same-refusal : fileRefusal format f ≡ fileRefusal format g
     same-refusal = by-tests (look (isRouterCount (routers f))) (decLt (mostLinks (routers f)) (linkCount f))

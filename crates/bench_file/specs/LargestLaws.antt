@@ -49,7 +49,7 @@ abbrev changesCounted : ℕ
 changesCounted = 3 + 5 * pairs
 
 abbrev stepsCounted : ℕ
-stepsCounted = changesCounted + 1 + 5 * mostChanges
+stepsCounted = changesCounted + 1 + 5 * mostChanges + 4
 
 -- ---- the file
 -- the router that link e goes to; it comes from router e / others
@@ -61,7 +61,7 @@ unfoldable pub linkByte : (e part : ℕ) → ℕ
 linkByte e part = pick (eqb part 0) (e / others) (pick (eqb part 1) (toOf e) (pick (eqb part 4) 1 0))
 
 -- The byte at place k: n, the count of links in two bytes, the links, the count of changes, that of steps in two bytes.
--- All others are 0: the changes and the steps.
+-- All others are 0: the changes, the times and the steps.
 unfoldable pub byteAt : (k : ℕ) → ℕ
 byteAt k =
     pick (eqb k 0) width
@@ -76,8 +76,8 @@ byteAt k =
 unfoldable pub largestFile : List ℕ
 largestFile = build largest byteAt
 
--- 02, No. 7
-pub largest-is : largest ≡ 33084
+-- 02, No. 10
+pub largest-is : largest ≡ 33088
 largest-is = refl
 
 pub largest-size : length largestFile ≡ largest
@@ -160,10 +160,11 @@ pub has-changes : changeCount largestFile ≡ mostChanges
 unfolding byteAt
 has-changes = ap (λ (k : ℕ). getD largestFile (3 + 5 * k) 0) has-links ∙ at changesCounted (omega arith)
 
-pub has-steps : stepCount largestFile ≡ mostSteps
+pub has-steps : stepCount New largestFile ≡ mostSteps
 unfolding byteAt
 has-steps =
-    ap (two largestFile) (let x : stepCountAt largestFile ≡ stepsCounted = omega (arith, has-links, has-changes) in x)
+    ap (two largestFile)
+    (let x : stepCountAt New largestFile ≡ stepsCounted = omega (arith, has-links, has-changes) in x)
     ∙ omega (arith, at stepsCounted (omega arith), at (stepsCounted + 1) (omega arith))
 
 -- ---- the links

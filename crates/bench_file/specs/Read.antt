@@ -10,7 +10,8 @@ use Rattle.area.specs.Tests.{pick}
 use Rattle.area.specs.Sizes.{isTable}
 use Rattle.area.specs.Tables.{tabulate}
 use Rattle.entries.specs.Entries.{listedMetric}
-use Rattle.bench_file.specs.Sections.{routers, linkCount, links, changeCount, changesAt, stepCount, stepsAt}
+use Rattle.bench_file.specs.Sections.{routers, linkCount, links, changeCount, changesAt}
+use Rattle.bench_file.specs.Sections.{holdTime, stepTime, stepCount, stepsAt}
 use Rattle.bench_file.specs.Faults.{fileRefusal}
 use Rattle.bench_file.specs.declared.Format.{Format}
 use Rattle.bench_file.specs.declared.Format.the-variants.{New}
@@ -21,13 +22,15 @@ unfoldable pub readRefusal : (f t : List ℕ) → ℕ
 readRefusal f t = pick (isTable t) (fileRefusal New f) tableSize
 
 -- what an accepted file says of itself, and what is handed back with a refusal
-unfoldable pub contents : (f : List ℕ) → Contents
-contents f =
+unfoldable pub contents : (format : Format) (f : List ℕ) → Contents
+contents format f =
     record {
       n = routers f;
       links = linkCount f;
       changes = record { count = changeCount f; at = changesAt f };
-      steps = record { count = stepCount f; at = stepsAt f };
+      steps = record { count = stepCount format f; at = stepsAt format f };
+      «hold_time» = holdTime format f;
+      «step_time» = stepTime format f;
     }
 
 unfoldable pub noContents : Contents
@@ -37,13 +40,15 @@ noContents =
       links = 0;
       changes = record { count = 0; at = 0 };
       steps = record { count = 0; at = 0 };
+      «hold_time» = 0;
+      «step_time» = 0;
     }
 
 unfoldable pub contentsBy : (format : Format) (f : List ℕ) → Contents
-contentsBy format f = pick (eqb (fileRefusal format f) 0) (contents f) noContents
+contentsBy format f = pick (eqb (fileRefusal format f) 0) (contents format f) noContents
 
 unfoldable pub contentsOf : (f t : List ℕ) → Contents
-contentsOf f t = pick (eqb (readRefusal f t) 0) (contents f) noContents
+contentsOf f t = pick (eqb (readRefusal f t) 0) (contents New f) noContents
 
 -- The metric table of the first k links of l: the cell of a pair that none of them lists is `unused`.
 unfoldable pub linked : (l : List ℕ) (k : ℕ) → List ℕ

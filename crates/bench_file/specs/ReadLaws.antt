@@ -41,7 +41,7 @@ module _ (f t : List ℕ) where
   unfolding contentsOf
   contents-refused a = rw (ne-eqb (readRefusal f t) 0 a) refl
 
-  pub contents-accepted : readRefusal f t ≡ 0 → contentsOf f t ≡ contents f
+  pub contents-accepted : readRefusal f t ≡ 0 → contentsOf f t ≡ contents New f
   unfolding contentsOf
   contents-accepted a = rw (eq-eqb (readRefusal f t) 0 a) refl
 
@@ -51,7 +51,7 @@ module _ (format : Format) (f : List ℕ) where
   unfolding contentsBy
   by-refused a = rw (ne-eqb (fileRefusal format f) 0 a) refl
 
-  pub by-accepted : fileRefusal format f ≡ 0 → contentsBy format f ≡ contents f
+  pub by-accepted : fileRefusal format f ≡ 0 → contentsBy format f ≡ contents format f
   unfolding contentsBy
   by-accepted a = rw (eq-eqb (fileRefusal format f) 0 a) refl
 

@@ -1,11 +1,12 @@
 // Whether a file is accepted: its first fault, in the order of the bytes. The format says whether dead links may stand
-// among its links.
+// among its links, and how many bytes the times take.
 //     judge    the file: n, the link count, the links, and then the rest
 //     links    the links that the count announces
 //     link     one of them, beside the pairs of those before it; `is_barred` where it is dead
 //     rest     what follows the links
 // What the faults are is specs/Faults.antt; that `seen` tells a repeated pair is proofs/Pairs.antt.
 use crate::Format;
+use crate::times_size;
 use area::bytes::byte;
 use area::bytes::two;
 use area::limits::ENTRY;
@@ -56,7 +57,7 @@ pub(crate) fn judge(format: Format, file: &[u8]) -> Verdict
     if !answer.is_accepted() {
         return answer;
     }
-    rest(file, announced)
+    rest(format, file, announced)
 }
 
 // `list` is the bytes from the first link on.
@@ -122,10 +123,10 @@ fn takes_dead(format: Format) -> bool
 }
 
 // `links` is their number. Each count is tested before what it counts.
-fn rest(file: &[u8], links: usize) -> Verdict
+fn rest(format: Format, file: &[u8], links: usize) -> Verdict
     requires { ⌜ links ≡ linkCount (now file) ⌝ }
     requires { ⌜ links ≤ width * width ⌝ }
-    ensures { λ r. ⌜ verdictNumber r ≡ restRefusal (now (file .entry)) ⌝ }
+    ensures { λ r. ⌜ verdictNumber r ≡ restRefusal format (now (file .entry)) ⌝ }
 {
     let change_count_at = 3 + ENTRY * links;
     if file.len() < change_count_at + 1 {
@@ -135,7 +136,7 @@ fn rest(file: &[u8], links: usize) -> Verdict
     if MOST_CHANGES < changes {
         return Verdict::Refused(Refusal::TooMany);
     }
-    let step_count_at = change_count_at + 1 + ENTRY * changes;
+    let step_count_at = change_count_at + 1 + ENTRY * changes + times_size(format);
     if file.len() < step_count_at + 2 {
         return Verdict::Refused(Refusal::Incomplete);
     }

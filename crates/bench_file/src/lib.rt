@@ -18,11 +18,14 @@ use area::refusal::Refusal;
 use area::refusal::Verdict;
 use faults::judge;
 ghost use mathlib.Core.Path.{_≡_};
+ghost use Prim.Native.Nat.{_≤_};
 ghost use Rattle.area.specs.Refusals.{verdictNumber};
+ghost use Rattle.bench_file.specs.Formats.{timesSize, timeAt};
 ghost use Rattle.bench_file.specs.Faults.{fileRefusal};
 ghost use Rattle.bench_file.specs.Read.{readRefusal, contents, noContents, contentsBy, contentsOf, metricsOf};
 
-// The format of stored files, in which links may be listed that are not used, and the format of Read.
+// The format of stored files, in which links may be listed that are not used and which is without the times, and the
+// format of Read.
 pub enum Format {
     Old,
     New,
@@ -40,6 +43,9 @@ pub struct Contents {
     pub links: usize,
     pub changes: Section,
     pub steps: Section,
+    // Hold time and step time of the rank timers, 0 where the format has none.
+    pub hold_time: u16,
+    pub step_time: u16,
 }
 
 // What Read hands back: the answer, and what the file says of itself, which is all 0 with a refusal.
@@ -94,18 +100,19 @@ pub fn examine(format: Format, file: &[u8]) -> BenchFile
     }
     BenchFile {
         answer,
-        contents: describe(file),
+        contents: describe(format, file),
     }
 }
 
 // What an accepted file says of itself.
-fn describe(file: &[u8]) -> Contents
-    ensures { λ r. ⌜ r ≡ contents (now (file .entry)) ⌝ }
+fn describe(format: Format, file: &[u8]) -> Contents
+    ensures { λ r. ⌜ r ≡ contents format (now (file .entry)) ⌝ }
 {
     let links = two(file, 1);
     let change_count_at = 3 + ENTRY * links;
     let changes = byte(file, change_count_at);
-    let step_count_at = change_count_at + 1 + ENTRY * changes;
+    let times_at = change_count_at + 1 + ENTRY * changes;
+    let step_count_at = times_at + times_size(format);
     Contents {
         n: byte(file, 0),
         links,
@@ -117,6 +124,28 @@ fn describe(file: &[u8]) -> Contents
             count: two(file, step_count_at),
             at: step_count_at + 2,
         },
+        hold_time: time_at(format, file, times_at),
+        step_time: time_at(format, file, times_at + 2),
+    }
+}
+
+// The time that begins at this place, 0 where the format has none.
+fn time_at(format: Format, file: &[u8], at: usize) -> u16
+    ensures { λ r. ⌜ r ≡ timeAt format (now (file .entry)) at ⌝ }
+{
+    match format {
+        Format::Old => 0,
+        Format::New => two(file, at) as u16,
+    }
+}
+
+// How many bytes the two times take.
+pub(crate) fn times_size(format: Format) -> usize
+    ensures { λ r. ⌜ (r ≡ timesSize format) × (r ≤ 4) ⌝ }
+{
+    match format {
+        Format::Old => 0,
+        Format::New => 4,
     }
 }
 
@@ -129,5 +158,7 @@ fn no_contents() -> Contents
         links: 0,
         changes: Section { count: 0, at: 0 },
         steps: Section { count: 0, at: 0 },
+        hold_time: 0,
+        step_time: 0,
     }
 }

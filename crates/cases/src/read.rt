@@ -95,6 +95,11 @@ pub fn value(line: &[u8], mark: u8, default: u64) -> u64 {
     }
 }
 
+// The time with the mark: h3 is the hold time, m5 the step time.
+pub fn time(line: &[u8], mark: u8, default: u64) -> u16 {
+    (value(line, mark, default) % 65536) as u16
+}
+
 // How many cells of table i are lent, of as many as there are: x4095/4097 says it for tables 0 and 1, and where nothing
 // is said it is as many as a table has.
 pub fn size(line: &[u8], i: usize, most: usize) -> usize

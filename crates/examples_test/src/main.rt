@@ -11,6 +11,7 @@ use cases::lines;
 use cases::print;
 use libc::STDIN_FILENO;
 use report::REHEARSAL_ROOM;
+use report::Text;
 ghost use mathlib.Core.Path.{_≡_};
 ghost use Prim.Native.Nat.{_≤_};
 ghost use lib.ListN.{length, take};
@@ -74,7 +75,8 @@ fn rehearsal(file: &[u8], out: &mut [u8]) -> usize
     let mut new_dist = [0u32; CELLS];
     let mut new_hops: [Set; CELLS] = [0; CELLS];
     let mut new_fours: [Set; CELLS] = [0; CELLS];
-    report::rehearse(
+    report::print(
+        Text::Rehearsal,
         file,
         &mut old,
         &mut new,

@@ -5,8 +5,11 @@ use Rattle.plan.specs.declared.Record.{Record}
 use Rattle.machine.specs.Answers.{Reply, ok, ignored, refused}
 
 -- the record whose fields are these
-abbrev pub recordFrom : (n root direction : ℕ) (ranks waiting telling due states written : List ℕ) → Record
-recordFrom n root direction ranks waiting telling due states written =
+abbrev pub recordFrom :
+    (n root direction : ℕ) (ranks waiting telling due states written : List ℕ)
+    (hold step clock : ℕ) (learned : List ℕ)
+    → Record
+recordFrom n root direction ranks waiting telling due states written hold step clock learned =
     record {
       n = n;
       root = root;
@@ -17,6 +20,10 @@ recordFrom n root direction ranks waiting telling due states written =
       due = due;
       states = states;
       written = written;
+      «hold_time» = hold;
+      «step_time» = step;
+      clock = clock;
+      «learn_times» = learned;
     }
 
 -- the answer of a step: 0 for ok, 255 for ignored, and the refusal's number

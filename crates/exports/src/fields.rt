@@ -29,12 +29,17 @@ pub(crate) fn record_from(
     due: &[Set; WIDTH],
     states: &[u8; WIDTH],
     written: &[Set; WIDTH],
+    hold_time: u16,
+    step_time: u16,
+    clock: u32,
+    learn_times: &[u32; WIDTH],
 ) -> Record
     ensures record { λ r. ⌜
         r
         ≡ recordFrom n root direction
         (now (ranks .entry)) (now (waiting .entry)) (now (telling .entry)) (now (due .entry))
-        (now (states .entry)) (now (written .entry)) ⌝ }
+        (now (states .entry)) (now (written .entry))
+        «hold_time» «step_time» clock (now («learn_times» .entry)) ⌝ }
 {
     let ranks = *ranks;
     let waiting = *waiting;
@@ -42,6 +47,7 @@ pub(crate) fn record_from(
     let due = *due;
     let states = *states;
     let written = *written;
+    let learn_times = *learn_times;
     Record {
         n,
         root,
@@ -52,6 +58,10 @@ pub(crate) fn record_from(
         due,
         states,
         written,
+        hold_time,
+        step_time,
+        clock,
+        learn_times,
     }
 }
 
@@ -67,11 +77,16 @@ pub(crate) fn hand_back(
     due: &mut [Set; WIDTH],
     states: &mut [u8; WIDTH],
     written: &mut [Set; WIDTH],
+    hold_time: &mut u16,
+    step_time: &mut u16,
+    clock: &mut u32,
+    learn_times: &mut [u32; WIDTH],
 )
     ensures record { λ _. ⌜
         recordFrom (now (routers .exit)) (now (root .exit)) (now (direction .exit))
         (now (ranks .exit)) (now (waiting .exit)) (now (telling .exit)) (now (due .exit))
         (now (states .exit)) (now (written .exit))
+        (now («hold_time» .exit)) (now («step_time» .exit)) (now (clock .exit)) (now («learn_times» .exit))
         ≡ last ⌝ }
 {
     *routers = last.n;
@@ -89,4 +104,9 @@ pub(crate) fn hand_back(
     *states = of_states;
     let of_written = last.written;
     *written = of_written;
+    *hold_time = last.hold_time;
+    *step_time = last.step_time;
+    *clock = last.clock;
+    let of_learn_times = last.learn_times;
+    *learn_times = of_learn_times;
 }

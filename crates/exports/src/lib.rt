@@ -17,12 +17,13 @@ use area::limits::WIDTH;
 use fields::hand_back;
 use fields::record_from;
 use fields::reply_number;
+use report::Text;
 ghost use mathlib.Core.Path.{_≡_};
 ghost use Rattle.paths.specs.Paths.{pathsIn, pathsRefusal, pathsOf};
 ghost use Rattle.plan.specs.declared.Record.{Record};
 ghost use Rattle.plan.specs.Plan.{tablesIn, areTables, planRefusal, recordOf, tablesOf};
 ghost use Rattle.sheet.specs.Sheet.{sheetOf};
-ghost use Rattle.machine.specs.Machine.{over, stepOf};
+ghost use Rattle.machine.specs.Machine.{over, timed, stepOf};
 ghost use Rattle.machine.specs.Run.{run, callsOf};
 ghost use Rattle.needs.specs.Needs.{needs, missing};
 ghost use Rattle.bench_file.specs.Read.{readRefusal, contentsOf, metricsOf};
@@ -34,9 +35,9 @@ ghost use Rattle.exports.specs.Fields.{recordFrom, replyNumber};
 ghost use Rattle.exports.specs.Exports.{numbers};
 
 // Read. `contents` gets n, the number of links, the number of changes and where they begin, the number of steps and
-// where they begin.
+// where they begin, the hold time and the step time.
 #[no_mangle]
-pub extern "C" fn ofib_read(file: &[u8], table: &mut [u32], contents: &mut [usize; 6]) -> u8
+pub extern "C" fn ofib_read(file: &[u8], table: &mut [u32], contents: &mut [usize; 8]) -> u8
     ensures answer { λ r. ⌜ r ≡ readRefusal (now (file .entry)) (now (table .entry)) ⌝ }
     ensures contents { λ _. ⌜
         now (contents .exit)
@@ -53,6 +54,8 @@ pub extern "C" fn ofib_read(file: &[u8], table: &mut [u32], contents: &mut [usiz
         found.contents.changes.at,
         found.contents.steps.count,
         found.contents.steps.at,
+        found.contents.hold_time as usize,
+        found.contents.step_time as usize,
     ];
     let answer = found.answer;
     answer.number()
@@ -91,10 +94,12 @@ pub extern "C" fn ofib_paths(
     answer.number()
 }
 
-// Plan. The record that it hands back is put into the nine last places.
+// Plan. The record that it hands back is put into the thirteen last places.
 #[no_mangle]
 pub extern "C" fn ofib_plan(
     n: usize,
+    hold_time: u16,
+    step_time: u16,
     old: &[u32],
     list: &[u8],
     new: &mut [u32],
@@ -113,12 +118,17 @@ pub extern "C" fn ofib_plan(
     due: &mut [Set; WIDTH],
     states: &mut [u8; WIDTH],
     written: &mut [Set; WIDTH],
+    record_hold_time: &mut u16,
+    record_step_time: &mut u16,
+    clock: &mut u32,
+    learn_times: &mut [u32; WIDTH],
 ) -> u8
     ensures answer { λ r.
         let lent = tablesIn (new .entry)
         («old_dist» .entry) («old_hops» .entry) («old_fours» .entry)
         («new_dist» .entry) («new_hops» .entry) («new_fours» .entry) in
-        ⌜ r ≡ planRefusal n (now (old .entry)) (now (list .entry)) (areTables (now (old .entry)) lent) ⌝ }
+        ⌜ r
+        ≡ planRefusal n «step_time» (now (old .entry)) (now (list .entry)) (areTables (now (old .entry)) lent) ⌝ }
     ensures record { λ _.
         let lent = tablesIn (new .entry)
         («old_dist» .entry) («old_hops» .entry) («old_fours» .entry)
@@ -126,7 +136,9 @@ pub extern "C" fn ofib_plan(
         ⌜ recordFrom (now (routers .exit)) (now (root .exit)) (now (direction .exit))
         (now (ranks .exit)) (now (waiting .exit)) (now (telling .exit)) (now (due .exit))
         (now (states .exit)) (now (written .exit))
-        ≡ recordOf n (now (old .entry)) (now (list .entry)) lent ⌝ }
+        (now («record_hold_time» .exit)) (now («record_step_time» .exit)) (now (clock .exit))
+        (now («learn_times» .exit))
+        ≡ recordOf n «hold_time» «step_time» (now (old .entry)) (now (list .entry)) lent ⌝ }
     ensures tables { λ _.
         let lent = tablesIn (new .entry)
         («old_dist» .entry) («old_hops» .entry) («old_fours» .entry)
@@ -134,10 +146,12 @@ pub extern "C" fn ofib_plan(
         ⌜ tablesIn (new .exit)
         («old_dist» .exit) («old_hops» .exit) («old_fours» .exit)
         («new_dist» .exit) («new_hops» .exit) («new_fours» .exit)
-        ≡ tablesOf n (now (old .entry)) (now (list .entry)) lent ⌝ }
+        ≡ tablesOf n «step_time» (now (old .entry)) (now (list .entry)) lent ⌝ }
 {
     let planned = plan::plan(
         n,
+        hold_time,
+        step_time,
         old,
         list,
         new,
@@ -159,6 +173,10 @@ pub extern "C" fn ofib_plan(
         due,
         states,
         written,
+        record_hold_time,
+        record_step_time,
+        clock,
+        learn_times,
     );
     let answer = planned.answer;
     answer.number()
@@ -168,6 +186,8 @@ pub extern "C" fn ofib_plan(
 #[no_mangle]
 pub extern "C" fn ofib_sheet(
     n: usize,
+    hold_time: u16,
+    step_time: u16,
     old: &[u32],
     list: &[u8],
     new: &mut [u32],
@@ -183,12 +203,14 @@ pub extern "C" fn ofib_sheet(
         let lent = tablesIn (new .entry)
         («old_dist» .entry) («old_hops» .entry) («old_fours» .entry)
         («new_dist» .entry) («new_hops» .entry) («new_fours» .entry) in
-        ⌜ r ≡ planRefusal n (now (old .entry)) (now (list .entry)) (areTables (now (old .entry)) lent) ⌝ }
+        ⌜ r
+        ≡ planRefusal n «step_time» (now (old .entry)) (now (list .entry)) (areTables (now (old .entry)) lent) ⌝ }
     ensures routers { λ _.
         let lent = tablesIn (new .entry)
         («old_dist» .entry) («old_hops» .entry) («old_fours» .entry)
         («new_dist» .entry) («new_hops» .entry) («new_fours» .entry) in
-        ⌜ now (routers .exit) ≡ sheetOf (recordOf n (now (old .entry)) (now (list .entry)) lent) ⌝ }
+        ⌜ now (routers .exit)
+        ≡ sheetOf (recordOf n «hold_time» «step_time» (now (old .entry)) (now (list .entry)) lent) ⌝ }
     ensures tables { λ _.
         let lent = tablesIn (new .entry)
         («old_dist» .entry) («old_hops» .entry) («old_fours» .entry)
@@ -196,10 +218,12 @@ pub extern "C" fn ofib_sheet(
         ⌜ tablesIn (new .exit)
         («old_dist» .exit) («old_hops» .exit) («old_fours» .exit)
         («new_dist» .exit) («new_hops» .exit) («new_fours» .exit)
-        ≡ tablesOf n (now (old .entry)) (now (list .entry)) lent ⌝ }
+        ≡ tablesOf n «step_time» (now (old .entry)) (now (list .entry)) lent ⌝ }
 {
     let made = sheet::sheet(
         n,
+        hold_time,
+        step_time,
         old,
         list,
         new,
@@ -216,36 +240,63 @@ pub extern "C" fn ofib_sheet(
     answer.number()
 }
 
-// Step. n and five of the tables per router are all that it reads of a record, and three of these tables all that it
-// changes. The answer is 0 for ok, 255 for ignored, and the number of a refusal.
+// Step. It reads all of a record but root and direction, and changes four of the tables per router and the clock. The
+// answer is 0 for ok, 255 for ignored, and the number of a refusal.
 #[no_mangle]
 pub extern "C" fn ofib_step(
     n: u8,
+    ranks: &[u8; WIDTH],
     waiting: &mut [Set; WIDTH],
     telling: &[Set; WIDTH],
     due: &[Set; WIDTH],
     states: &mut [u8; WIDTH],
     written: &mut [Set; WIDTH],
+    hold_time: u16,
+    step_time: u16,
+    clock: &mut u32,
+    learn_times: &mut [u32; WIDTH],
     kind: u8,
     a: u8,
     b: u8,
 ) -> u8
     ensures answer { λ r. ⌜ ((x : Record) →
-        let before = over x n (now (waiting .entry)) (now (telling .entry)) (now (due .entry))
+        let before = over
+        (timed x (now (ranks .entry)) «hold_time» «step_time» (now (clock .entry)) (now («learn_times» .entry)))
+        n (now (waiting .entry)) (now (telling .entry)) (now (due .entry))
         (now (states .entry)) (now (written .entry)) in
         r ≡ replyNumber (stepOf before kind a b .reply)) ⌝ }
     ensures record { λ _. ⌜ ((x : Record) →
-        let before = over x n (now (waiting .entry)) (now (telling .entry)) (now (due .entry))
+        let before = over
+        (timed x (now (ranks .entry)) «hold_time» «step_time» (now (clock .entry)) (now («learn_times» .entry)))
+        n (now (waiting .entry)) (now (telling .entry)) (now (due .entry))
         (now (states .entry)) (now (written .entry)) in
-        over x n (now (waiting .exit)) (now (telling .entry)) (now (due .entry))
+        over
+        (timed x (now (ranks .entry)) «hold_time» «step_time» (now (clock .exit)) (now («learn_times» .exit)))
+        n (now (waiting .exit)) (now (telling .entry)) (now (due .entry))
         (now (states .exit)) (now (written .exit))
         ≡ stepOf before kind a b .next) ⌝ }
 {
-    let answer = steps::lent::step(n, waiting, telling, due, states, written, kind, a, b);
+    let answer = steps::lent::step(
+        n,
+        ranks,
+        waiting,
+        telling,
+        due,
+        states,
+        written,
+        hold_time,
+        step_time,
+        clock,
+        learn_times,
+        kind,
+        a,
+        b,
+    );
     reply_number(answer)
 }
 
-// All the steps that the bytes stand for, three bytes each. The nine first places are the record, and get the last one.
+// All the steps that the bytes stand for, three bytes each. The thirteen first places are the record, and get the last
+// one.
 #[no_mangle]
 pub extern "C" fn ofib_run(
     routers: &mut u8,
@@ -257,15 +308,21 @@ pub extern "C" fn ofib_run(
     due: &mut [Set; WIDTH],
     states: &mut [u8; WIDTH],
     written: &mut [Set; WIDTH],
+    hold_time: &mut u16,
+    step_time: &mut u16,
+    clock: &mut u32,
+    learn_times: &mut [u32; WIDTH],
     bytes: &[u8],
 )
     ensures record { λ _.
         let first = recordFrom (now (routers .entry)) (now (root .entry)) (now (direction .entry))
         (now (ranks .entry)) (now (waiting .entry)) (now (telling .entry)) (now (due .entry))
-        (now (states .entry)) (now (written .entry)) in
+        (now (states .entry)) (now (written .entry))
+        (now («hold_time» .entry)) (now («step_time» .entry)) (now (clock .entry)) (now («learn_times» .entry)) in
         ⌜ recordFrom (now (routers .exit)) (now (root .exit)) (now (direction .exit))
         (now (ranks .exit)) (now (waiting .exit)) (now (telling .exit)) (now (due .exit))
         (now (states .exit)) (now (written .exit))
+        (now («hold_time» .exit)) (now («step_time» .exit)) (now (clock .exit)) (now («learn_times» .exit))
         ≡ run first (callsOf (now (bytes .entry))) ⌝ }
 {
     let first = record_from(
@@ -278,6 +335,10 @@ pub extern "C" fn ofib_run(
         due,
         states,
         written,
+        *hold_time,
+        *step_time,
+        *clock,
+        learn_times,
     );
     let last = steps::run(first, bytes);
     hand_back(
@@ -291,6 +352,10 @@ pub extern "C" fn ofib_run(
         due,
         states,
         written,
+        hold_time,
+        step_time,
+        clock,
+        learn_times,
     );
 }
 
@@ -351,7 +416,8 @@ pub extern "C" fn ofib_rehearse(
         («new_dist» .exit) («new_hops» .exit) («new_fours» .exit) in
         ⌜ left ≡ tablesAt (now (file .entry)) (now (old .entry)) lent ⌝ }
 {
-    report::rehearse(
+    report::print(
+        Text::Rehearsal,
         file,
         old,
         new,
@@ -394,7 +460,8 @@ pub extern "C" fn ofib_routes(
         («new_dist» .exit) («new_hops» .exit) («new_fours» .exit) in
         ⌜ left ≡ tablesAt (now (file .entry)) (now (old .entry)) lent ⌝ }
 {
-    report::routes(
+    report::print(
+        Text::Routes,
         file,
         old,
         new,

@@ -34,13 +34,13 @@ use Rattle.plan.specs.declared.Record.{Record}
 use Rattle.plan.specs.NewMetrics.{newCell, newMetrics}
 use Rattle.plan.specs.Direction.{areAtMost, isSame, isRise, isFall}
 use Rattle.plan.specs.Waiting.{oldHops, newHops, oldFours, newFours, waiting, telling, due}
-use Rattle.plan.specs.Plan.{Tables, areTables, planRefusal, isPlanned, fresh, recordOf, tablesOf}
+use Rattle.plan.specs.Plan.{Tables, areTables, changeRefusal, planRefusal, isPlanned, fresh, recordOf, tablesOf}
 use Rattle.convergence.specs.Pointers.{pointers, Along}
 use Rattle.machine.specs.Answers.{Reply, ok, ignored, refused, gives}
-use Rattle.machine.specs.Machine.{learn, release, ready, write, finish, listens, deliver, isSound, isKind, readsB}
-use Rattle.machine.specs.Machine.{areRouters, callOf, stepOf}
-use Rattle.machine.specs.Run.{Call, call, run, replies, hasWritten, callsOf}
-use Rattle.loop_free.specs.LoopFree.{LoopFree}
+use Rattle.machine.specs.Machine.{learn, release, mustWait, ready, write, finish, listens, deliver, isSound, isKind}
+use Rattle.machine.specs.Machine.{readsA, readsB, areRouters, callOf, stepOf}
+use Rattle.machine.specs.Run.{Call, call, run, hasTick, replies, hasWritten, callsOf}
+use Rattle.loop_free.specs.LoopFree.{untimed, OnTime, LoopFree}
 use Rattle.loop_free.specs.LoopFreeLaws.{loop-free}
 use Rattle.loop_free.specs.HandedBack.{none, stepped, ran, LoopFreeBy}
 use Rattle.loop_free.specs.HandedBackLaws.{handed-back-free}
@@ -89,6 +89,10 @@ beforeRise =
       due = three 4 4 3;
       states = three 0 0 0;
       written = three 0 0 0;
+      «hold_time» = 0;
+      «step_time» = 1;
+      clock = 0;
+      «learn_times» = three 0 0 0;
     }
 
 beforeFall : Record
@@ -103,19 +107,23 @@ beforeFall =
       due = three 4 4 3;
       states = three 0 0 0;
       written = three 0 0 0;
+      «hold_time» = 0;
+      «step_time» = 1;
+      clock = 0;
+      «learn_times» = three 0 0 0;
     }
 
 -- Plan accepts the changes l of the metrics m, and hands back the record r.
 record Accepts (m l : List ℕ) (r : Record) : Type 0 where
-  accepted : planRefusal 3 m l (areTables m lent) ≡ 0
-  given : recordOf 3 m l lent ≡ r
+  accepted : planRefusal 3 1 m l (areTables m lent) ≡ 0
+  given : recordOf 3 0 1 m l lent ≡ r
 
 planned : Accepts metricsUp goesDown beforeRise × Accepts metricsDown comesUp beforeFall
 unfolding metricsDown metricsUp goesDown comesUp paths lent beforeRise beforeFall recordOf isPlanned fresh perRouter
     build rank longest above greatest waiting telling due oldHops newHops oldFours newFours four size total nextHops
-    isNext bit setOf distance sums least topology isLink newMetrics tabulate newCell listedMetric planRefusal areTables
-    arePaths isTable isRouterCount areMetrics isMetric all first listedRefusal entryRefusal isFree areAtMost isSame
-    isRise isFall isCommon root entryCount entryOf
+    isNext bit setOf distance sums least topology isLink newMetrics tabulate newCell listedMetric planRefusal
+    changeRefusal areTables arePaths isTable isRouterCount areMetrics isMetric all first listedRefusal entryRefusal
+    isFree areAtMost isSame isRise isFall isCommon root entryCount entryOf
 planned = (record { accepted = refl; given = refl }, record { accepted = refl; given = refl })
 
 -- ---- calls in order
@@ -150,32 +158,37 @@ record FallAnswers (r : Record) : Type 0 where
   has-written : hasWritten r fallCalls 1 2 ≡ true
   has-not : hasWritten r fallCalls 0 2 ≡ false
 
-answered : RiseAnswers (recordOf 3 metricsUp goesDown lent) × FallAnswers (recordOf 3 metricsDown comesUp lent)
-unfolding beforeRise beforeFall riseCalls riseRest fallCalls replies hasWritten stepOf callOf areRouters readsB
-    isKind isSound isRouterCount all deliver listens finish write ready release learn bit setOf added removed without
-    subset
+answered : RiseAnswers (recordOf 3 0 1 metricsUp goesDown lent) × FallAnswers (recordOf 3 0 1 metricsDown comesUp lent)
+unfolding beforeRise beforeFall riseCalls riseRest fallCalls replies hasWritten stepOf callOf areRouters readsA readsB
+    isKind isSound isRouterCount all deliver listens finish write ready mustWait release learn bit setOf added removed
+    without subset
 answered = (
   subst RiseAnswers (sym (planned .0 .given)) (record { all-replies = refl; has-written = refl; has-not = refl }),
   subst FallAnswers (sym (planned .1 .given)) (record { all-replies = refl; has-written = refl; has-not = refl }),
 )
 
--- demand 3 after these calls
-rise-free : LoopFree 3 metricsUp goesDown (recordOf 3 metricsUp goesDown lent) riseCalls
-rise-free = loop-free 3 metricsUp goesDown lent (planned .0 .accepted) riseCalls
+no-ticks : (hasTick riseCalls ≡ false) × (hasTick fallCalls ≡ false)
+unfolding riseCalls fallCalls hasTick
+no-ticks = (refl, refl)
 
-fall-free : LoopFree 3 metricsDown comesUp (recordOf 3 metricsDown comesUp lent) fallCalls
-fall-free = loop-free 3 metricsDown comesUp lent (planned .1 .accepted) fallCalls
+-- demand 3 after these calls
+rise-free : LoopFree 3 metricsUp goesDown (recordOf 3 0 1 metricsUp goesDown lent) riseCalls
+rise-free = loop-free 3 0 1 metricsUp goesDown lent (planned .0 .accepted) riseCalls (untimed (no-ticks .0))
+
+fall-free : LoopFree 3 metricsDown comesUp (recordOf 3 0 1 metricsDown comesUp lent) fallCalls
+fall-free = loop-free 3 0 1 metricsDown comesUp lent (planned .1 .accepted) fallCalls (untimed (no-ticks .1))
 
 -- and of what the code hands back, after a step by which 1 learns of the change and any steps more
 rise-handed-back :
     {next last : Record} {reply : Reply} (bytes : List ℕ)
-    → gives next reply ≡ stepOf (recordOf 3 metricsUp goesDown lent) 1 1 0
+    → gives next reply ≡ stepOf (recordOf 3 0 1 metricsUp goesDown lent) 1 1 0
     → last ≡ run next (callsOf bytes)
-    → LoopFreeBy 3 (tablesOf 3 metricsUp goesDown lent) last
-rise-handed-back {last} bytes outcome ran-last =
-    handed-back-free 3 metricsUp goesDown lent (planned .0 .accepted)
-    (recordOf 3 metricsUp goesDown lent) last (tablesOf 3 metricsUp goesDown lent) refl refl
-    (ran bytes (stepped 1 1 0 none outcome) ran-last)
+    → OnTime last
+    → LoopFreeBy 3 (tablesOf 3 1 metricsUp goesDown lent) last
+rise-handed-back {last} bytes outcome ran-last on-time =
+    handed-back-free 3 0 1 metricsUp goesDown lent (planned .0 .accepted)
+    (recordOf 3 0 1 metricsUp goesDown lent) last (tablesOf 3 1 metricsUp goesDown lent) refl refl
+    (ran bytes (stepped 1 1 0 none outcome) ran-last) on-time
 
 -- ---- out of order
 -- packets for 2 go 0, 1, 0 if of all routers only x has written 2

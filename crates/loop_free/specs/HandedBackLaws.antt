@@ -3,9 +3,10 @@
 --     `plan`                   its lines `record` and `tables` are the next two, as they stand: `first` is the record
 --                              that it hands back, `left` the tables as it leaves them
 --     every call after that    its line `outcome` or `last` makes a further step of `After`
+--     the last record          its clock is 0 where no tick was answered ok; else what is supposed of it is `Timely`
 -- So a reader puts the contracts of the calls in, in the order of the calls, and has demand 3 of the record at hand.
 --
--- The argument: calls of the code make a list of calls (`after-run`), of which `loop-free` speaks. The tables hold the
+-- The argument: calls of the code make a list of calls (`after-run`), of which `last-free` speaks. The tables hold the
 -- sets of four and the distances of the two topologies (FilledLaws.antt of crate plan), and a written set holds what
 -- was written (`run-bit` of crate machine). So both speak of the same pointers (`same-pointers`) and the same routers
 -- that reach d (`same-reach`).
@@ -29,8 +30,8 @@ use Rattle.machine.specs.Answers.{Outcome}
 use Rattle.machine.specs.Run.{Call, call, run, callsOf}
 use Rattle.machine.specs.RunLaws.{run-bit, fresh-start}
 use Rattle.machine.specs.CallLaws.{run-empty, run-one, run-joined}
-use Rattle.loop_free.specs.LoopFree.{pointsTo, Reaches}
-use Rattle.loop_free.specs.LoopFreeLaws.{loop-free}
+use Rattle.loop_free.specs.LoopFree.{pointsTo, Reaches, OnTime}
+use Rattle.loop_free.specs.LoopFreeLaws.{last-free}
 use Rattle.loop_free.specs.HandedBack.{After, none, stepped, ran, pointsBy, LoopFreeBy}
 
 -- ---- calls of the code make a list of calls
@@ -71,56 +72,61 @@ module _ {p q : Pointers} (same : (r : ℕ) → p r ≡ q r) where
 same-pick : {s t : Bool} {a b x y : ℕ} → s ≡ t → a ≡ b → x ≡ y → pick s a x ≡ pick t b y
 same-pick p q r = rw (p, q, r) refl
 
-module _ (n : ℕ) (m l : List ℕ) (lent : Tables) (z : planRefusal n m l (areTables m lent) ≡ 0) where
+module _ (n h s : ℕ) (m l : List ℕ) (lent : Tables) (z : planRefusal n s m l (areTables m lent) ≡ 0) where
   most : n ≤ width
-  most = plan-of n m l lent z .ready .most
+  most = plan-of n s m l lent z .ready .most
 
   -- what the tables and the written sets say is what sets of four and answers say, of any router r
   pub same-pointers : (calls : List Call) (d r : ℕ)
       → d < n
-      → pointsBy (tablesOf n m l lent) (run (recordOf n m l lent) calls) d r
-      ≡ pointsTo n m l (recordOf n m l lent) calls d r
-  same-pointers calls d r h =
-      let planned = planned-true n m l lent z in
-      rw (record-planned n m l lent planned, tables-planned n m l lent planned)
-      (same-pick (run-bit (fresh n m l) calls (fresh-start n m l) r d (omega (arith, most)))
-      (filled-new-fours n m l most r d h) (filled-old-fours n m l most r d h))
+      → pointsBy (tablesOf n s m l lent) (run (recordOf n h s m l lent) calls) d r
+      ≡ pointsTo n m l (recordOf n h s m l lent) calls d r
+  same-pointers calls d r in-area =
+      let planned = planned-true n s m l lent z in
+      rw (record-planned n h s m l lent planned, tables-planned n s m l lent planned)
+      (same-pick (run-bit (fresh n h s m l) calls (fresh-start n h s m l) r d (omega (arith, most)))
+      (filled-new-fours n m l most r d in-area) (filled-old-fours n m l most r d in-area))
 
   -- and what the distance tables say of reaching d is what distances say
   pub same-reach : (x d : ℕ)
       → x < n
       → d < n
-      → (cell width (tablesOf n m l lent .old .distances) x d ≢ unreached → Reaches n m x d)
-      × (cell width (tablesOf n m l lent .new .distances) x d ≢ unreached → Reaches n (newMetrics n m l) x d)
+      → (cell width (tablesOf n s m l lent .old .distances) x d ≢ unreached → Reaches n m x d)
+      × (cell width (tablesOf n s m l lent .new .distances) x d ≢ unreached → Reaches n (newMetrics n m l) x d)
   same-reach x d a b =
-      rw (tables-planned n m l lent (planned-true n m l lent z))
+      rw (tables-planned n s m l lent (planned-true n s m l lent z))
       (rw (filled-old-distance n m l most x d a b, filled-new-distance n m l most x d a b)
       ((λ f. f), (λ f. f)))
 
-  free-by : (calls : List Call) → LoopFreeBy n (tablesOf n m l lent) (run (recordOf n m l lent) calls)
-  free-by calls =
-      let free = loop-free n m l lent z calls in
+  free-by :
+      (calls : List Call)
+      → OnTime (run (recordOf n h s m l lent) calls)
+      → LoopFreeBy n (tablesOf n s m l lent) (run (recordOf n h s m l lent) calls)
+  free-by calls on-time =
+      let free = last-free n h s m l lent z calls on-time in
       record {
-        no-router-twice = λ d x walk h a.
-            free .no-router-twice d x walk h (same-along (λ r. same-pointers calls d r h) x walk a);
-        arrives = λ d x walk h inside old new a.
-            let reach = same-reach x d inside h in
-            same-prolonged (λ r. sym (same-pointers calls d r h))
-            (free .arrives d x walk h (reach .0 old) (reach .1 new)
-            (same-along (λ r. same-pointers calls d r h) x walk a));
+        no-router-twice = λ d x walk d-in a.
+            free .no-router-twice d x walk d-in (same-along (λ r. same-pointers calls d r d-in) x walk a);
+        arrives = λ d x walk d-in inside old new a.
+            let reach = same-reach x d inside d-in in
+            same-prolonged (λ r. sym (same-pointers calls d r d-in))
+            (free .arrives d x walk d-in (reach .0 old) (reach .1 new)
+            (same-along (λ r. same-pointers calls d r d-in) x walk a));
       }
 
 -- Demand 3: for every input that Plan accepts, the record that it hands back, the tables that it leaves, and every
--- record that comes after the first one.
+-- record that comes after the first one, if its clock stands at 0 or no router is late in it.
 pub handed-back-free :
-    (n : ℕ) (metrics changes : List ℕ) (lent : Tables)
-    → planRefusal n metrics changes (areTables metrics lent) ≡ 0
+    (n h s : ℕ) (metrics changes : List ℕ) (lent : Tables)
+    → planRefusal n s metrics changes (areTables metrics lent) ≡ 0
     → (first last : Record) (left : Tables)
-    → first ≡ recordOf n metrics changes lent
-    → left ≡ tablesOf n metrics changes lent
+    → first ≡ recordOf n h s metrics changes lent
+    → left ≡ tablesOf n s metrics changes lent
     → After first last
+    → OnTime last
     → LoopFreeBy n left last
-handed-back-free n m l lent z first last left e f after =
+handed-back-free n h s m l lent z first last left e f after on-time =
     let by = after-run after in
     let calls = by .0 in
-    rw (f, by .1 ∙ ap (λ (r : Record). run r calls) e) (free-by n m l lent z calls)
+    let ran = by .1 ∙ ap (λ (r : Record). run r calls) e in
+    rw (f, ran) (free-by n h s m l lent z calls (rw ran at on-time))

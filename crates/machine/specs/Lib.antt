@@ -4,6 +4,7 @@ pub mod Answers
 pub mod Machine
 pub mod States
 pub mod Run
+pub mod Timely
 pub mod StepLaws
 pub mod StateLaws
 pub mod MoveLaws
@@ -12,3 +13,4 @@ pub mod RunLaws
 pub mod HeldLaws
 pub mod OkLaws
 pub mod OrderedLaws
+pub mod TimelyLaws

@@ -20,13 +20,9 @@ use Rattle.plan.specs.WaitingLaws.{waits-inside, waiting-less, tells-waits, due
 use Rattle.plan.specs.Plan.{fresh}
 use Rattle.plan.specs.PlanLaws.{Plan}
 use Rattle.plan.specs.FreshLaws.{fresh-count, fresh-rank, fresh-waiting, fresh-telling, fresh-due}
-use Rattle.machine.specs.Machine.{done, waitingOf, tellingOf, dueOf, isRecord}
+use Rattle.machine.specs.Machine.{done, waitingOf, tellingOf, dueOf, rankOf, isRecord}
 use Rattle.machine.specs.StepLaws.{sound-states}
 use Rattle.machine.specs.HeldLaws.{Held}
-
--- a router's rank in the record
-abbrev pub rankOf : (r : Record) (a : ℕ) → ℕ
-rankOf r a = getD (r .ranks) a 0
 
 pub record Ordered (first : Record) : Type 0 where
   -- n is a number of routers
@@ -48,25 +44,25 @@ sound {now = now} o k =
     (λ i h. le-leb (getD (now .states) i 0) done (k .known i))
 
 -- ---- the fresh record
-module _ (n : ℕ) (m l : List ℕ) (p : Plan n m l) where
+module _ (n hold step : ℕ) (m l : List ℕ) (p : Plan n m l) where
   abbrev first : Record
-  first = fresh n m l
+  first = fresh n hold step m l
 
   most : n ≤ width
   most = p .ready .most
 
   is-router : {x : ℕ} → x < first .n → x < n
-  is-router h = omega (arith, fresh-count n m l)
+  is-router h = omega (arith, fresh-count n hold step m l)
 
   -- what the record's tables say is what the plan says
   waits-for : (x w : ℕ) → x < n → bit (waitingOf first x) w ≡ true → bit (waiting n m l x) w ≡ true
-  waits-for x w h e = ap (λ (s : ℕ). bit s w) (sym (fresh-waiting n m l most x h)) ∙ e
+  waits-for x w h e = ap (λ (s : ℕ). bit s w) (sym (fresh-waiting n hold step m l most x h)) ∙ e
 
-  pub fresh-ordered : Ordered (fresh n m l)
+  pub fresh-ordered : Ordered (fresh n hold step m l)
   fresh-ordered = record {
-    some = omega (arith, p .ready .some, fresh-count n m l);
-    most = omega (arith, most, fresh-count n m l);
-    inside = λ x w h e. omega (arith, waited x w (is-router h) e, fresh-count n m l);
+    some = omega (arith, p .ready .some, fresh-count n hold step m l);
+    most = omega (arith, most, fresh-count n hold step m l);
+    inside = λ x w h e. omega (arith, waited x w (is-router h) e, fresh-count n hold step m l);
     below = λ x w h. ranks-below x w (is-router h);
     told = λ x w h. told-by x w (is-router h);
     waits = λ x t h. waits-then x t (is-router h);
@@ -79,20 +75,20 @@ module _ (n : ℕ) (m l : List ℕ) (p : Plan n m l) where
       ranks-below : (x w : ℕ) → x < n → bit (waitingOf first x) w ≡ true → rankOf first w < rankOf first x
       ranks-below x w h e =
           let less = waiting-less n m l most x w (waits-for x w h e) in
-          omega (arith, less, fresh-rank n m l most x h, fresh-rank n m l most w (waited x w h e))
+          omega (arith, less, fresh-rank n hold step m l most x h, fresh-rank n hold step m l most w (waited x w h e))
 
       told-by : (x w : ℕ) → x < n → bit (waitingOf first x) w ≡ true → bit (tellingOf first w) x ≡ true
       told-by x w h e =
-          ap (λ (s : ℕ). bit s x) (fresh-telling n m l most w (waited x w h e))
+          ap (λ (s : ℕ). bit s x) (fresh-telling n hold step m l most w (waited x w h e))
           ∙ tells-waits n m l most w x .1 (waits-for x w h e)
 
       waits-then : (x t : ℕ) → x < n → bit (tellingOf first x) t ≡ true → bit (waitingOf first t) x ≡ true
       waits-then x t h e =
-          let tells = ap (λ (s : ℕ). bit s t) (sym (fresh-telling n m l most x h)) ∙ e in
+          let tells = ap (λ (s : ℕ). bit s t) (sym (fresh-telling n hold step m l most x h)) ∙ e in
           let waits = tells-waits n m l most x t .0 tells in
-          ap (λ (s : ℕ). bit s x) (fresh-waiting n m l most t (waits-inside n m l most t x waits .0)) ∙ waits
+          ap (λ (s : ℕ). bit s x) (fresh-waiting n hold step m l most t (waits-inside n m l most t x waits .0)) ∙ waits
 
       due-router : (x d : ℕ) → x < n → bit (dueOf first x) d ≡ true → d < first .n
       due-router x d h e =
-          let due-there = ap (λ (s : ℕ). bit s d) (sym (fresh-due n m l most x h)) ∙ e in
-          omega (arith, fresh-count n m l, due-inside n m l x d due-there)
+          let due-there = ap (λ (s : ℕ). bit s d) (sym (fresh-due n hold step m l most x h)) ∙ e in
+          omega (arith, fresh-count n hold step m l, due-inside n m l x d due-there)

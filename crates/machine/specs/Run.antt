@@ -1,15 +1,16 @@
 -- A list of calls, one after another, each on the record that the one before it handed back (01, "The steps"). A call
 -- has a kind and the numbers a and b.
 --     run, replies     the last record, and the answers
+--     hasTick, ticks   whether there are ticks in a list, and a list of nothing else
 --     hasWritten       what a router has written, by its answers alone
 --     callsOf          the calls that a list of bytes stands for
-use Prim.Native.Nat.{ℕ}
+use Prim.Native.Nat.{ℕ, zero, suc}
 use mathlib.Core.Bool.{Bool, true, false, _&&_, _||_}
 use mathlib.Core.List.{List, [], _∷_}
 use lib.Dec.{eqb}
 use Rattle.plan.specs.declared.Record.{Record}
 use Rattle.machine.specs.Answers.{Reply, ok, ignored, refused, Outcome}
-use Rattle.machine.specs.Machine.{writeKind, stepOf}
+use Rattle.machine.specs.Machine.{writeKind, tickKind, stepOf}
 
 pub record Call : Type 0 where
   pub kind : ℕ
@@ -27,6 +28,16 @@ step r c = stepOf r (c .kind) (c .a) (c .b)
 unfoldable pub run : (r : Record) (calls : List Call) → Record
 run r [] = r
 run r (c ∷ cs) = run (step r c .next) cs
+
+-- the list holds a tick
+unfoldable pub hasTick : (calls : List Call) → Bool
+hasTick [] = false
+hasTick (c ∷ cs) = eqb (c .kind) tickKind || hasTick cs
+
+-- so many ticks
+abbrev pub ticks : (count : ℕ) → List Call
+ticks zero = []
+ticks (suc count) = call tickKind 0 0 ∷ ticks count
 
 -- the answers, in the order of the calls
 unfoldable pub replies : (r : Record) (calls : List Call) → List Reply

@@ -1,21 +1,22 @@
 -- Step goes by `nextState`, for the four kinds of calls that are events of a router.
 --     next-at, next-none, next-to      from which state an event leads on, and where to
---     learn-none .. finish-to          the calls, by the next state; the proofs of the crate steps cite these
+--     learn-none .. finish-to          the calls, by the next state; the proofs of the crate steps cite these. For a
+--                                      release there is one too where it comes too early
 --     state-after                      after ok, the next state is the state of a in the record that is handed back
 --     others-stay                      all other routers keep their states
 --     none-23                          there is no next state exactly where the reply is 23
-use Prim.Native.Nat.{ℕ, zero, suc, _≤_}
+use Prim.Native.Nat.{ℕ, zero, suc, _≤_, _<_}
 use mathlib.Core.Path.{_≡_, refl, sym, ap, _∙_}
 use mathlib.Core.Bool.{Bool, true, false, not, _||_, false≢true}
 use mathlib.Core.Logic.{_≢_, _↔_}
 use native.Mathlib.Omega.{arith}
 use borrow.Author.Tests.{eqb-true, eq-eqb, ne-eqb}
-use lib.Dec.{eqb}
+use lib.Dec.{eqb, ltb}
 use lib.ListN.{length}
 use lib.Seq.{getD-set-same, getD-set-other}
 use Rattle.area.specs.Limits.{width}
 use Rattle.area.specs.Tests.{pick}
-use Rattle.area.specs.Refusals.{wrongState, stillWaiting, notDue, unwritten}
+use Rattle.area.specs.Refusals.{wrongState, stillWaiting, notDue, unwritten, tooEarly}
 use Rattle.sets.specs.Sets.{bit, added, subset}
 use Rattle.plan.specs.declared.Record.{Record}
 use Rattle.machine.specs.declared.states.State.{State}
@@ -25,15 +26,17 @@ use Rattle.machine.specs.declared.states.Event.the-variants.{Learn, Rele
 use Rattle.machine.specs.declared.states.NextState.{NextState}
 use Rattle.machine.specs.declared.states.NextState.the-variants.{To, Nowhere}
 use Rattle.machine.specs.Answers.{Reply, ok, ignored, refused, Outcome, gives}
-use Rattle.machine.specs.Machine.{idle, holding, ongoing, done, stateOf, waitingOf, dueOf, writtenOf}
+use Rattle.machine.specs.Machine.{idle, holding, ongoing, done, stateOf, dueOf, writtenOf, heldUntil}
 use Rattle.machine.specs.Machine.{learnKind, releaseKind, writeKind, finishKind, deliverKind}
-use Rattle.machine.specs.Machine.{withState, withWritten, learn, release, ready, write, finish}
+use Rattle.machine.specs.Machine.{withState, withWritten, withLearned, learn, release, ready, write, finish}
 use Rattle.machine.specs.Machine.{isRecord, isKind, areRouters, callOf, stepOf}
 use Rattle.machine.specs.Run.{isOk}
 use Rattle.machine.specs.States.{stateNumber, named, kindOf, nextState, nextOf, Goes}
 use Rattle.machine.specs.StepLaws.{kind-known, step-call, call-learn, call-release, call-write, call-finish}
-use Rattle.machine.specs.StepLaws.{learn-state, learn-ok, release-state, release-ok, write-state, finish-state}
-use Rattle.machine.specs.MoveLaws.{Router, Move, stays, learned, released, wrote, finished, delivered, moves}
+use Rattle.machine.specs.StepLaws.{learn-state, learn-ok, release-state, release-early, release-ok}
+use Rattle.machine.specs.StepLaws.{write-state, finish-state, waitsOn}
+use Rattle.machine.specs.MoveLaws.{Router, Move, stays, learned, released, wrote, finished, delivered, ticked}
+use Rattle.machine.specs.MoveLaws.{moves}
 
 -- ---- from which state an event leads on, and where to
 abbrev leaves : Event → State
@@ -107,15 +110,15 @@ module _ (x : ℕ) (e : Event) where
 
 -- ---- the calls, by the next state
 module _ (r : Record) (a : ℕ) where
-  -- v is the number of the next state
+  -- v is the number of the next state, and `put v` the record that has it
   stored :
-      (e : Event) (s : State) (v : ℕ) {o : Outcome}
+      (e : Event) (put : ℕ → Record) (s : State) (v : ℕ) {o : Outcome}
       → nextOf r a e ≡ To s
       → v ≡ stateNumber s
-      → o ≡ gives (withState r a (stateNumber (enters e))) ok
-      → o ≡ gives (withState r a v) ok
-  stored e s v h is o =
-      o ∙ ap (λ (v : ℕ). gives (withState r a v) ok) (sym (is ∙ ap stateNumber (next-to (stateOf r a) e s h .1)))
+      → o ≡ gives (put (stateNumber (enters e))) ok
+      → o ≡ gives (put v) ok
+  stored e put s v h is o =
+      o ∙ ap (λ (v : ℕ). gives (put v) ok) (sym (is ∙ ap stateNumber (next-to (stateOf r a) e s h .1)))
 
   pub learn-none : nextOf r a Learn ≡ Nowhere → learn r a ≡ gives r (refused wrongState)
   learn-none h = learn-state r a (next-none (stateOf r a) Learn h)
@@ -124,18 +127,27 @@ module _ (r : Record) (a : ℕ) where
       (s : State) (v : ℕ)
       → nextOf r a Learn ≡ To s
       → v ≡ stateNumber s
-      → learn r a ≡ gives (withState r a v) ok
-  learn-to s v h is = stored Learn s v h is (learn-ok r a (next-to (stateOf r a) Learn s h .0))
+      → learn r a ≡ gives (withLearned r a v) ok
+  learn-to s v h is = stored Learn (withLearned r a) s v h is (learn-ok r a (next-to (stateOf r a) Learn s h .0))
 
   pub release-none : nextOf r a Release ≡ Nowhere → release r a ≡ gives r (refused wrongState)
   release-none h = release-state r a (next-none (stateOf r a) Release h)
+
+  pub release-soon :
+      (s : State)
+      → nextOf r a Release ≡ To s
+      → r .clock < heldUntil r a
+      → release r a ≡ gives r (refused tooEarly)
+  release-soon s h = release-early r a (next-to (stateOf r a) Release s h .0)
 
   pub release-to :
       (s : State) (v : ℕ)
       → nextOf r a Release ≡ To s
       → v ≡ stateNumber s
+      → heldUntil r a ≤ r .clock
       → release r a ≡ gives (withState r a v) ok
-  release-to s v h is = stored Release s v h is (release-ok r a (next-to (stateOf r a) Release s h .0))
+  release-to s v h is held =
+      stored Release (withState r a) s v h is (release-ok r a (next-to (stateOf r a) Release s h .0) held)
 
   pub write-none : (b : ℕ) → nextOf r a Write ≡ Nowhere → write r a b ≡ gives r (refused wrongState)
   write-none b h = write-state r a b (next-none (stateOf r a) Write h)
@@ -154,7 +166,7 @@ pub finish-to : (x : ℕ) (s : State) → nextState (named x) Finish ≡ To s �
 finish-to x s h = next-to x Finish s h .1
 
 -- ---- after ok
--- an event comes by one kind of call, and none by deliver
+-- an event comes by one kind of call, and none by deliver or by a tick
 abbrev eventOf : ℕ → Event
 eventOf k = pick (eqb k learnKind) Learn (pick (eqb k releaseKind) Release (pick (eqb k writeKind) Write Finish))
 
@@ -164,11 +176,11 @@ event-back Release = refl
 event-back Write = refl
 event-back Finish = refl
 
-not-deliver : (e : Event) → kindOf e ≢ deliverKind
-not-deliver Learn q = omega arith
-not-deliver Release q = omega arith
-not-deliver Write q = omega arith
-not-deliver Finish q = omega arith
+of-router : (e : Event) → kindOf e < deliverKind
+of-router Learn = omega arith
+of-router Release = omega arith
+of-router Write = omega arith
+of-router Finish = omega arith
 
 goes :
     (r : Record) (a : ℕ) (e f : Event) (next : Record)
@@ -193,12 +205,13 @@ state-after r e a b size is-ok = go (moves r (kindOf e) a b)
 
     go : Move r (kindOf e) a b (stepOf r (kindOf e) a b) → Goes r a e (stepOf r (kindOf e) a b .next)
     go (stays n f) = absurd (false≢true (sym f ∙ ap isOk is-ok))
-    go (learned k at o) = rw o (goes r a e Learn (withState r a holding) k at (put at holding))
-    go (released k at o) = rw o (goes r a e Release (withState r a ongoing) k at (put at ongoing))
+    go (learned k at o) = rw o (goes r a e Learn (withLearned r a holding) k at (put at holding))
+    go (released k at held o) = rw o (goes r a e Release (withState r a ongoing) k at (put at ongoing))
     go (wrote k at may o) =
         rw o (goes r a e Write (withWritten r a (added width (writtenOf r a) b)) k at (at .state))
     go (finished k at may o) = rw o (goes r a e Finish (withState r a done) k at (put at done))
-    go (delivered k at may o) = absurd (not-deliver e k)
+    go (delivered k at may o) = absurd (let x : ⊥ = omega (arith, of-router e) in x)
+    go (ticked k on o) = absurd (let x : ⊥ = omega (arith, of-router e) in x)
 
 -- every other router has the state that it had, whatever the call and its reply
 pub others-stay : (r : Record) (kind a b x : ℕ) → x ≢ a → stateOf (stepOf r kind a b .next) x ≡ stateOf r x
@@ -207,13 +220,17 @@ others-stay r kind a b x f = go (moves r kind a b)
     put : {o : Outcome} (v : ℕ) → o ≡ gives (withState r a v) ok → stateOf (o .next) x ≡ stateOf r x
     put v e = ap (λ (o : Outcome). stateOf (o .next) x) e ∙ getD-set-other (r .states) a x v 0 f
 
+    by-learning : {o : Outcome} → o ≡ gives (withLearned r a holding) ok → stateOf (o .next) x ≡ stateOf r x
+    by-learning e = ap (λ (o : Outcome). stateOf (o .next) x) e ∙ getD-set-other (r .states) a x holding 0 f
+
     go : {o : Outcome} → Move r kind a b o → stateOf (o .next) x ≡ stateOf r x
     go (stays n g) = ap (λ (r : Record). stateOf r x) n
-    go (learned k at e) = put holding e
-    go (released k at e) = put ongoing e
+    go (learned k at e) = by-learning e
+    go (released k at held e) = put ongoing e
     go (wrote k at may e) = ap (λ (o : Outcome). stateOf (o .next) x) e
     go (finished k at may e) = put done e
     go (delivered k at may e) = ap (λ (o : Outcome). stateOf (o .next) x) e
+    go (ticked k on e) = ap (λ (o : Outcome). stateOf (o .next) x) e
 
 -- ---- none exactly where the reply is 23
 abbrev replyNumber : Reply → ℕ
@@ -234,11 +251,18 @@ module _ (r : Record) (a b : ℕ) where
   refused-other : (k : ℕ) → k ≢ wrongState → Other (gives r (refused k))
   refused-other k f = record { not-23 = f }
 
+  release-on : stateOf r a ≡ holding → Other (release r a)
+  unfolding release
+  release-on e =
+      rw (eq-eqb (stateOf r a) holding e)
+      (other (ltb (r .clock) (heldUntil r a)) (refused-other tooEarly (λ q. omega arith))
+      (record { not-23 = λ q. omega arith }))
+
   write-on : stateOf r a ≡ ongoing → Other (write r a b)
   unfolding write ready
   write-on e =
       rw (eq-eqb (stateOf r a) ongoing e)
-      (other (not (eqb (waitingOf r a) 0)) (refused-other stillWaiting (λ q. omega arith))
+      (other (waitsOn r a) (refused-other stillWaiting (λ q. omega arith))
       (other (not (bit (dueOf r a) b) || bit (writtenOf r a) b) (refused-other notDue (λ q. omega arith))
       (record { not-23 = λ q. omega arith })))
 
@@ -246,14 +270,14 @@ module _ (r : Record) (a b : ℕ) where
   unfolding finish ready
   finish-on e =
       rw (eq-eqb (stateOf r a) ongoing e)
-      (other (not (eqb (waitingOf r a) 0)) (refused-other stillWaiting (λ q. omega arith))
+      (other (waitsOn r a) (refused-other stillWaiting (λ q. omega arith))
       (other (not (subset width (dueOf r a) (writtenOf r a))) (refused-other unwritten (λ q. omega arith))
       (record { not-23 = λ q. omega arith })))
 
   -- each call, where its event leads on, and where it does not
   leads-on : (e : Event) → stateOf r a ≡ stateNumber (leaves e) → Other (callOf r (kindOf e) a b)
   leads-on Learn q = rw (call-learn r a b ∙ learn-ok r a q) (record { not-23 = λ q. omega arith })
-  leads-on Release q = rw (call-release r a b ∙ release-ok r a q) (record { not-23 = λ q. omega arith })
+  leads-on Release q = rw (call-release r a b) (release-on q)
   leads-on Write q = rw (call-write r a b) (write-on q)
   leads-on Finish q = rw (call-finish r a b) (finish-on q)
 

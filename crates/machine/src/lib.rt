@@ -5,6 +5,7 @@
 //     Machine      Step, for every record and all three bytes: `stepOf`
 //     States       the next state, a line for each state and event: `nextState`
 //     Run          lists of calls, and what a router has written by them: `run`, `replies`, `hasWritten`
+//     Timely       what is supposed of a list of calls that holds ticks: `Timely`
 //     StepLaws     a law for each way that a call can end; the proofs of the crate steps cite them
 //     StateLaws    Step goes by `nextState`; the proofs of the crate steps cite these too
 //     MoveLaws     the ways in which a call changes the record: `Move`
@@ -13,6 +14,7 @@
 //     HeldLaws     what it keeps beside: `Held`
 //     OkLaws       when a call of each kind is answered ok, and the record that it gives then
 //     OrderedLaws  what is ordered in a plan's record: `Ordered`; crates needs and sheet build on these three
+//     TimelyLaws   ticks, and what has come of a router whose due time has come
 // The code of Step is in the crate steps.
 pub mod states;
 
@@ -44,3 +46,5 @@ pub const WRITE: u8 = 3;
 pub const FINISH: u8 = 4;
 
 pub const DELIVER: u8 = 5;
+
+pub const TICK: u8 = 6;

@@ -1,21 +1,22 @@
--- The one invariant of No. 8: a call that is answered ok takes one off what is missing, and any other call nothing. A
--- call sets one entry of one table (machine's MoveLaws.antt), so one term of one of the three sums is less by one.
+-- The one invariant of No. 8: a call that is answered ok takes one off what is missing, and a tick or any other call
+-- nothing. A call sets one entry of one table (machine's MoveLaws.antt), so one term of one of the three sums is less
+-- by one; a tick sets the clock alone.
 --     oks-none, oks-next                               no call, and one call more
 --     state-counts, write-counts, message-counts       the three ways
 --     move-counts, run-counts                          one call, and every list of calls
 --     fresh-missing                                    at first all that the change needs is missing
---     none-missing, missing-none                       in the end nothing is, and only then
+--     none-missing, missing-done, missing-heard        in the end nothing is, and only then
 use Prim.Native.Nat.{ℕ, suc, _+_, _*_, _-_, _≤_, _<_}
 use mathlib.Core.Path.{_≡_, refl, sym, ap, _∙_}
-use mathlib.Core.Bool.{true, not}
+use mathlib.Core.Bool.{true, false, not, _&&_}
 use mathlib.Core.List.{List, [], _∷_}
 use native.Mathlib.Omega.{arith}
 use lib.ListN.{length, getD, set}
 use lib.Seq.{getD-set-same, getD-set-other}
 use Rattle.area.specs.Limits.{width}
-use Rattle.area.specs.TestLaws.{and-true}
+use Rattle.area.specs.TestLaws.{and-true, and-false}
 use Rattle.sets.specs.Sets.{num, bit, added, removed, without}
-use Rattle.sets.specs.SetLaws.{bit-without, without-none, without-added}
+use Rattle.sets.specs.SetLaws.{no-members, bit-without, without-none, without-added}
 use Rattle.sets.specs.Counts.{total, size}
 use Rattle.sets.specs.CountLaws.{total-same, total-more, total-full, total-term, size-none, size-without, size-removed}
 use Rattle.plan.specs.declared.Record.{Record}
@@ -23,10 +24,11 @@ use Rattle.machine.specs.Answers.{Outcome}
 use Rattle.machine.specs.Machine.{holding, ongoing, done, stateOf, waitingOf, dueOf, writtenOf}
 use Rattle.machine.specs.Run.{Call, step, run, isOk}
 use Rattle.machine.specs.MoveLaws.{Router, MayWrite, MayDeliver, moves}
-use Rattle.machine.specs.MoveLaws.{Move, stays, learned, released, wrote, finished, delivered}
+use Rattle.machine.specs.MoveLaws.{Move, stays, learned, released, wrote, finished, delivered, ticked}
 use Rattle.machine.specs.RunLaws.{Start, Kept}
 use Rattle.machine.specs.HeldLaws.{Held, move-held}
-use Rattle.needs.specs.Needs.{oks, sizes, needs, unwrittenOf, missing, AllDone}
+use Rattle.machine.specs.OrderedLaws.{Ordered}
+use Rattle.needs.specs.Needs.{isCounted, oks, sizes, needs, unwrittenOf, missing, AllDone, AllHeard}
 
 -- ---- no call, and one call more
 pub oks-none : (r : Record) → oks r [] ≡ 0
@@ -35,7 +37,7 @@ oks-none r = refl
 
 pub oks-next :
     (r : Record) (c : Call) (calls : List Call)
-    → oks r (c ∷ calls) ≡ num (isOk (step r c .reply)) + oks (step r c .next) calls
+    → oks r (c ∷ calls) ≡ num (isCounted (c .kind) && isOk (step r c .reply)) + oks (step r c .next) calls
 unfolding oks
 oks-next r c calls = refl
 
@@ -99,14 +101,17 @@ move-counts :
     {first r : Record} {kind a b : ℕ} {o : Outcome}
     → Held first r
     → Move r kind a b o
-    → num (isOk (o .reply)) + missing (o .next) ≡ missing r
+    → num (isCounted kind && isOk (o .reply)) + missing (o .next) ≡ missing r
 unfolding missing
-move-counts held (stays e f) = rw (f, e) (omega arith)
-move-counts {a = a} held (learned k at e) = rw e (omega (arith, state-counts held a 0 at (omega arith)))
-move-counts {a = a} held (released k at e) = rw e (omega (arith, state-counts held a holding at (omega arith)))
-move-counts {a = a} {b} held (wrote k at may e) = rw e (omega (arith, write-counts held a b at may))
-move-counts {a = a} held (finished k at may e) = rw e (omega (arith, state-counts held a ongoing at (omega arith)))
-move-counts {a = a} {b} held (delivered k at may e) = rw e (omega (arith, message-counts held a b at may))
+move-counts {kind = kind} held (stays e f) = rw (f, and-false (isCounted kind) false refl, e) (omega arith)
+move-counts {a = a} held (learned k at e) = rw (k, e) (omega (arith, state-counts held a 0 at (omega arith)))
+move-counts {a = a} held (released k at past e) =
+    rw (k, e) (omega (arith, state-counts held a holding at (omega arith)))
+move-counts {a = a} {b} held (wrote k at may e) = rw (k, e) (omega (arith, write-counts held a b at may))
+move-counts {a = a} held (finished k at may e) =
+    rw (k, e) (omega (arith, state-counts held a ongoing at (omega arith)))
+move-counts {a = a} {b} held (delivered k at may e) = rw (k, e) (omega (arith, message-counts held a b at may))
+move-counts held (ticked k on e) = rw (k, e) (omega arith)
 
 pub run-counts :
     {first r : Record} (calls : List Call)
@@ -131,9 +136,9 @@ fresh-missing first start = omega (arith, states, unwritten)
         total-same (first .n) (λ x. size width (unwrittenOf first x)) (λ x. size width (dueOf first x))
         (λ x h. rw (start .written x) (size-without width (dueOf first x)))
 
-pub none-missing : {first now : Record} → Kept first now → AllDone now → missing now ≡ 0
+pub none-missing : {first now : Record} → Kept first now → AllDone now → AllHeard now → missing now ≡ 0
 unfolding missing
-none-missing {now = now} kept all = omega (arith, states, unwritten, waiting)
+none-missing {now = now} kept all heard = omega (arith, states, unwritten, waiting)
   where
     states : total (now .n) (λ x. done - stateOf now x) ≡ 0 * now .n
     states = total-full 0 (λ x. done - stateOf now x) (now .n) (λ x h. omega (arith, all x h))
@@ -149,9 +154,23 @@ none-missing {now = now} kept all = omega (arith, states, unwritten, waiting)
     waiting : sizes (now .n) (now .waiting) ≡ 0 * now .n
     waiting =
         total-full 0 (λ x. size width (waitingOf now x)) (now .n)
-        (λ x h. ap (size width) (kept .done-free x (all x h)) ∙ size-none width)
+        (λ x h. ap (size width) (heard x h) ∙ size-none width)
 
-pub missing-none : {first now : Record} → Held first now → missing now ≡ 0 → AllDone now
-unfolding missing
-missing-none {now = now} held e x h =
-    omega (arith, total-term (now .n) (λ y. done - stateOf now y) x h, held .known x)
+module _ {first now : Record} (o : Ordered first) (held : Held first now) (e : missing now ≡ 0) where
+  pub missing-done : AllDone now
+  unfolding missing
+  missing-done x h = omega (arith, total-term (now .n) (λ y. done - stateOf now y) x h, held .known x, e)
+
+  -- a member of a waiting set would be one more
+  pub missing-heard : AllHeard now
+  unfolding missing
+  missing-heard x h = no-members (waitingOf now x) no-member
+    where
+      none : size width (waitingOf now x) ≡ 0
+      none = omega (arith, total-term (now .n) (λ y. size width (waitingOf now y)) x h, e)
+
+      wide : (w : ℕ) → bit (waitingOf now x) w ≡ true → w < width
+      wide w t = omega (arith, o .inside x w (omega (arith, held .count)) (held .waits x w t), o .most)
+
+      no-member : (w : ℕ) → bit (waitingOf now x) w ≡ true → ⊥
+      no-member w t = omega (arith, none, size-removed width (waitingOf now x) w (wide w t) t)

@@ -55,7 +55,8 @@ fn unwritten_sizes(due: &[Set], written: &[Set], n: usize) -> usize
     ensures { λ r. ⌜ r ≤ width * n ⌝ }
     ensures count { λ r. ⌜
         r
-        ≡ total n (λ x. size width (without width (getD (now (due .entry)) x 0) (getD (now (written .entry)) x 0))) ⌝ }
+        ≡ total n
+        (λ x. size width (without width (getD (now (due .entry)) x 0) (getD (now (written .entry)) x 0))) ⌝ }
 {
     let mut count = 0;
     for x in 0..n {

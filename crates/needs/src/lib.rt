@@ -1,4 +1,5 @@
-// How many calls a change takes until all routers are done, counted by the answers "ok" (02, No. 8).
+// How many calls a change takes until all routers are done and no message is missing, counted by the answers "ok"
+// (02, No. 8). Ticks are not counted (02, No. 10).
 //     needs        in all, by the fresh record
 //     missing      how many are still to come, by a record on the way
 //     lent         the same by the parts of a record that they read
@@ -10,7 +11,7 @@ use plan::Record;
 ghost use mathlib.Core.Path.{_≡_};
 ghost use Rattle.needs.specs.Needs.{needs, missing};
 
-// How many calls are answered "ok" until all routers are done.
+// How many calls are answered "ok" until all routers are done and every waiting set is empty.
 pub fn needs(fresh: Record) -> usize
     ensures count { λ r. ⌜ r ≡ needs fresh ⌝ }
 {

@@ -7,13 +7,13 @@ use native.Mathlib.Omega.{arith}
 use Rattle.area.specs.declared.refusal.Verdict.{Verdict}
 use Rattle.area.specs.Refusals.{verdictNumber}
 use Rattle.plan.specs.declared.judging.Judged.{Judged}
-use Rattle.plan.specs.Plan.{planRefusal}
+use Rattle.plan.specs.Plan.{changeRefusal}
 use Rattle.plan.specs.Parts.{Judges}
 
 -- the refusal is not 0, so nothing is promised of root and direction
 pub judged-refused :
     (n : ℕ) (m l : List ℕ) (sized : Bool) (k : ℕ) (v : Verdict)
-    → planRefusal n m l sized ≡ suc k
+    → changeRefusal n m l sized ≡ suc k
     → verdictNumber v ≡ suc k
     → (r : Judged) → r .answer ≡ v
     → Judges n m l sized r

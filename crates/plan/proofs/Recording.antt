@@ -24,7 +24,7 @@ use Rattle.plan.specs.PlanLaws.{filled-size}
 use Rattle.plan.specs.FilledLaws.{filled-old-hops, filled-new-hops, filled-old-fours, filled-new-fours}
 use Rattle.plan.specs.Parts.{started}
 
-module _ (n : ℕ) (m l : List ℕ) (most : n ≤ width) (c : root l < n) where
+module _ (n h s : ℕ) (m l : List ℕ) (most : n ≤ width) (c : root l < n) where
   abbrev t : Tables
   t = filled n m l
 
@@ -62,10 +62,10 @@ module _ (n : ℕ) (m l : List ℕ) (most : n ≤ width) (c : root l < n) where
 
   -- What the record is made of is what each of its fields is to be.
   made-is :
-      started n (root l) (isRise n m l)
+      started n h s (root l) (isRise n m l)
       (orderOf n (root l) (isRise n m l) (t .old .hops) (t .new .hops))
       (dueTable n (t .old .fours) (t .new .fours))
-      ≡ fresh n m l
+      ≡ fresh n h s m l
   unfolding fresh
   made-is =
       let rising = isRise n m l in
@@ -86,8 +86,8 @@ module _ (n : ℕ) (m l : List ℕ) (most : n ≤ width) (c : root l < n) where
       → k ≡ root l
       → rising ≡ isRise n m l
       → left ≡ filled n m l
-      → started n k rising
+      → started n h s k rising
       (orderOf n k rising (left .old .hops) (left .new .hops))
       (dueTable n (left .old .fours) (left .new .fours))
-      ≡ fresh n m l
+      ≡ fresh n h s m l
   fresh-is k rising left at direction is = rw (at, direction, is) made-is

@@ -3,7 +3,8 @@
 --     plan-elsewhere, plan-rises, plan-falls   usable metrics differ only at links of the root, and all the same way
 --     plan-differs, plan-larger, plan-smaller  the same of one that differs
 --     fresh-count, fresh-size, fresh-states-size, fresh-waiting-size, fresh-rank, fresh-waiting, fresh-telling,
---     fresh-due, fresh-state, fresh-written, fresh-beyond      the fresh record's sizes and entries
+--     fresh-due, fresh-state, fresh-written, fresh-hold, fresh-step, fresh-clock, fresh-learned, fresh-beyond
+--                                              the fresh record's sizes and entries
 use Prim.Native.Nat.{ℕ, _≤_, _<_}
 use mathlib.Core.Path.{_≡_, refl, sym, _∙_}
 use mathlib.Core.Bool.{true, false, false≢true}
@@ -72,57 +73,74 @@ module _ (n : ℕ) (m l : List ℕ) (p : Plan n m l) where
     plan-smaller r = omega (arith, plan-falls r i j)
 
 -- ---- the fresh record, router by router
-module _ (n : ℕ) (m l : List ℕ) where
+module _ (n h s : ℕ) (m l : List ℕ) where
   module _ (most : n ≤ width) (r : ℕ) (a : r < n) where
-    pub fresh-rank : getD (fresh n m l .ranks) r 0 ≡ rank n (waiting n m l) r
+    pub fresh-rank : getD (fresh n h s m l .ranks) r 0 ≡ rank n (waiting n m l) r
     unfolding fresh
     fresh-rank = per-at width n (rank n (waiting n m l)) r a most
 
-    pub fresh-waiting : getD (fresh n m l .waiting) r 0 ≡ waiting n m l r
+    pub fresh-waiting : getD (fresh n h s m l .waiting) r 0 ≡ waiting n m l r
     unfolding fresh
     fresh-waiting = per-at width n (waiting n m l) r a most
 
-    pub fresh-telling : getD (fresh n m l .telling) r 0 ≡ telling n m l r
+    pub fresh-telling : getD (fresh n h s m l .telling) r 0 ≡ telling n m l r
     unfolding fresh
     fresh-telling = per-at width n (telling n m l) r a most
 
-    pub fresh-due : getD (fresh n m l .due) r 0 ≡ due n m l r
+    pub fresh-due : getD (fresh n h s m l .due) r 0 ≡ due n m l r
     unfolding fresh
     fresh-due = per-at width n (due n m l) r a most
 
-  pub fresh-count : fresh n m l .n ≡ n
+  pub fresh-count : fresh n h s m l .n ≡ n
   unfolding fresh
   fresh-count = refl
 
   -- there is a written set for each router that an area can have
-  pub fresh-size : length (fresh n m l .written) ≡ width
+  pub fresh-size : length (fresh n h s m l .written) ≡ width
   unfolding fresh
   fresh-size = length-replicate {A = ℕ} width 0
 
   -- and a state and a waiting set
-  pub fresh-states-size : length (fresh n m l .states) ≡ width
+  pub fresh-states-size : length (fresh n h s m l .states) ≡ width
   unfolding fresh
   fresh-states-size = length-replicate {A = ℕ} width 0
 
-  pub fresh-waiting-size : length (fresh n m l .waiting) ≡ width
+  pub fresh-waiting-size : length (fresh n h s m l .waiting) ≡ width
   unfolding fresh
   fresh-waiting-size = per-length width n (waiting n m l)
 
-  pub fresh-state : (r : ℕ) → getD (fresh n m l .states) r 0 ≡ 0
+  pub fresh-state : (r : ℕ) → getD (fresh n h s m l .states) r 0 ≡ 0
   unfolding fresh
   fresh-state = zeros-at width
 
-  pub fresh-written : (r : ℕ) → getD (fresh n m l .written) r 0 ≡ 0
+  pub fresh-written : (r : ℕ) → getD (fresh n h s m l .written) r 0 ≡ 0
   unfolding fresh
   fresh-written = zeros-at width
+
+  -- the times, the clock and the learn times
+  pub fresh-hold : fresh n h s m l .«hold_time» ≡ h
+  unfolding fresh
+  fresh-hold = refl
+
+  pub fresh-step : fresh n h s m l .«step_time» ≡ s
+  unfolding fresh
+  fresh-step = refl
+
+  pub fresh-clock : fresh n h s m l .clock ≡ 0
+  unfolding fresh
+  fresh-clock = refl
+
+  pub fresh-learned : (r : ℕ) → getD (fresh n h s m l .«learn_times») r 0 ≡ 0
+  unfolding fresh
+  fresh-learned = zeros-at width
 
   -- from n on there is nothing
   pub fresh-beyond :
       (r : ℕ) → r < width → n ≤ r
-      → (getD (fresh n m l .ranks) r 0 ≡ 0)
-      × (getD (fresh n m l .waiting) r 0 ≡ 0)
-      × (getD (fresh n m l .telling) r 0 ≡ 0)
-      × (getD (fresh n m l .due) r 0 ≡ 0)
+      → (getD (fresh n h s m l .ranks) r 0 ≡ 0)
+      × (getD (fresh n h s m l .waiting) r 0 ≡ 0)
+      × (getD (fresh n h s m l .telling) r 0 ≡ 0)
+      × (getD (fresh n h s m l .due) r 0 ≡ 0)
   unfolding fresh
   fresh-beyond r b h = (
     per-beyond width n (rank n (waiting n m l)) r h b,

@@ -1,6 +1,6 @@
 -- Plan (01, "The plan"): its answer, the record that it hands back, and what its tables hold when it returns, on every
--- input. n is the number of routers, m the old metric table, l the change list. `Record` is the struct of src/lib.rt,
--- each array as a list.
+-- input. n is the number of routers, h the hold time and s the step time of the rank timers, m the old metric table,
+-- l the change list. `Record` is the struct of src/lib.rt, each array as a list.
 use Prim.Native.Nat.{ℕ, _%_}
 use mathlib.Core.Bool.{Bool, not, _&&_, _||_}
 use mathlib.Core.List.{List}
@@ -9,7 +9,7 @@ use lib.Dec.{ltb, eqb}
 use lib.ListN.{length, replicate}
 use Rattle.area.specs.Limits.{width, mostChanges}
 use Rattle.area.specs.Refusals.{routerCount, tableSize, badMetric, incomplete, tooMany}
-use Rattle.area.specs.Refusals.{noChange, sameMetric, mixed, noCommonRouter}
+use Rattle.area.specs.Refusals.{noChange, sameMetric, mixed, noCommonRouter, noStepTime}
 use Rattle.area.specs.Tests.{pick, orThen, first}
 use Rattle.area.specs.Tables.{perRouter}
 use Rattle.area.specs.Sizes.{isRouterCount, isTable}
@@ -37,12 +37,12 @@ tablesIn m od oh of nd nh nf = record { metrics = now m; old = pathsIn od oh of;
 unfoldable pub areTables : (m : List ℕ) (t : Tables) → Bool
 areTables m t = isTable m && (isTable (t .metrics) && (arePaths (t .old) && arePaths (t .new)))
 
--- The number of the first refusal that applies; 0 where the input is planned. 01 has them in this order: the three that
--- Paths has too, then the length of the list and the number of its entries, then that of the first faulty entry
--- (`listedRefusal`), and last those of the changes together, of which 02, No. 4, has put 11 first. `sized` says that
--- the tables have the right size.
-unfoldable pub planRefusal : (n : ℕ) (m l : List ℕ) (sized : Bool) → ℕ
-planRefusal n m l sized =
+-- The number of the first refusal of the area and its change that applies; 0 where there is none. 01 has them in this
+-- order: the three that Paths has too, then the length of the list and the number of its entries, then that of the
+-- first faulty entry (`listedRefusal`), and last those of the changes together, of which 02, No. 4, has put 11 first.
+-- `sized` says that the tables have the right size.
+unfoldable pub changeRefusal : (n : ℕ) (m l : List ℕ) (sized : Bool) → ℕ
+changeRefusal n m l sized =
     pick (not (isRouterCount n)) routerCount
     (pick (not sized) tableSize
     (pick (not (areMetrics n m)) badMetric
@@ -55,17 +55,23 @@ planRefusal n m l sized =
     (pick (not (isCommon l (root l))) noCommonRouter
     0)))))))))
 
+-- The number of the first refusal that applies; 0 where the input is planned. To those of the change comes one of the
+-- step time, after that of n (02, No. 10).
+unfoldable pub planRefusal : (n s : ℕ) (m l : List ℕ) (sized : Bool) → ℕ
+planRefusal n s m l sized = pick (isRouterCount n && eqb s 0) noStepTime (changeRefusal n m l sized)
+
 -- the input is planned, that is, none of the refusals is given
-unfoldable pub isPlanned : (n : ℕ) (m l : List ℕ) (t : Tables) → Bool
-isPlanned n m l t = eqb (planRefusal n m l (areTables m t)) 0
+unfoldable pub isPlanned : (n s : ℕ) (m l : List ℕ) (t : Tables) → Bool
+isPlanned n s m l t = eqb (planRefusal n s m l (areTables m t)) 0
 
 -- 0 for every router
 abbrev pub zeros : List ℕ
 zeros = replicate width 0
 
--- The record before the first step: 1 for a rise and 2 for a fall; every router idle, with nothing written.
-unfoldable pub fresh : (n : ℕ) (m l : List ℕ) → Record
-fresh n m l =
+-- The record before the first step: 1 for a rise and 2 for a fall; every router idle, with nothing written; the clock
+-- and all learn times at 0.
+unfoldable pub fresh : (n h s : ℕ) (m l : List ℕ) → Record
+fresh n h s m l =
     record {
       n = n;
       root = root l;
@@ -76,6 +82,10 @@ fresh n m l =
       due = perRouter width n (due n m l);
       states = zeros;
       written = zeros;
+      «hold_time» = h;
+      «step_time» = s;
+      clock = 0;
+      «learn_times» = zeros;
     }
 
 -- the record of a refusal
@@ -90,6 +100,10 @@ blank = record {
   due = zeros;
   states = zeros;
   written = zeros;
+  «hold_time» = 0;
+  «step_time» = 0;
+  clock = 0;
+  «learn_times» = zeros;
 }
 
 -- the tables of an input that is planned
@@ -103,8 +117,8 @@ filled n m l =
 
 -- What Plan hands back and leaves, where t are the tables as it was lent them: a refusal hands back zeros and leaves
 -- every table as it was.
-unfoldable pub recordOf : (n : ℕ) (m l : List ℕ) (t : Tables) → Record
-recordOf n m l t = pick (isPlanned n m l t) (fresh n m l) blank
+unfoldable pub recordOf : (n h s : ℕ) (m l : List ℕ) (t : Tables) → Record
+recordOf n h s m l t = pick (isPlanned n s m l t) (fresh n h s m l) blank
 
-unfoldable pub tablesOf : (n : ℕ) (m l : List ℕ) (t : Tables) → Tables
-tablesOf n m l t = pick (isPlanned n m l t) (filled n m l) t
+unfoldable pub tablesOf : (n s : ℕ) (m l : List ℕ) (t : Tables) → Tables
+tablesOf n s m l t = pick (isPlanned n s m l t) (filled n m l) t

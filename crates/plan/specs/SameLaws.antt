@@ -7,7 +7,7 @@
 use Prim.Native.Nat.{ℕ, _%_, _≤_, _<_}
 use mathlib.Core.Path.{_≡_, refl, sym, ap, ap₂, _∙_}
 use mathlib.Core.Bool.{true, not, _&&_}
-use mathlib.Core.Logic.{⊎-elim, inl, inr}
+use mathlib.Core.Logic.{_≢_, ⊎-elim, inl, inr}
 use mathlib.Core.List.{List, _++_}
 use native.Mathlib.Omega.{arith}
 use lib.Dec.{ltb, eqb}
@@ -95,36 +95,37 @@ module _ (n : ℕ) (m l k : List ℕ) (s : SameChanges l k) (once-l : Once l) (o
     unfolding telling
     same-telling = telling-same width n (waiting n m l) (waiting n m k) most (λ r h. same-waiting r)
 
-    same-fresh : fresh n m l ≡ fresh n m k
+    same-fresh : (hold step : ℕ) → fresh n hold step m l ≡ fresh n hold step m k
     unfolding fresh
-    same-fresh =
+    same-fresh hold step =
         let waits = per-same width n (waiting n m l) (waiting n m k) most (λ r h. same-waiting r) in
         let ranks = ranks-same width n (waiting n m l) (waiting n m k) most (λ r h. same-waiting r) in
         let dues = per-same width n (due n m l) (due n m k) most (λ r h. same-due r) in
         rw (same-root, same-rise, waits, same-telling, ranks, dues) refl
 
-module _ (n : ℕ) (m l k : List ℕ) (t : Tables) (s : SameChanges l k) where
+module _ (n s : ℕ) (m l k : List ℕ) (t : Tables) (same : SameChanges l k) where
   pub same-plan :
-      planRefusal n m l (areTables m t) ≡ 0
-      → planRefusal n m k (areTables m t) ≡ 0
-      → (recordOf n m l t ≡ recordOf n m k t) × (tablesOf n m l t ≡ tablesOf n m k t)
-  same-plan a b =
-      let p = plan-of n m l t a in
-      let q = plan-of n m k t b in
-      let x = planned-true n m l t a in
-      let y = planned-true n m k t b in
+      (h : ℕ)
+      → planRefusal n s m l (areTables m t) ≡ 0
+      → planRefusal n s m k (areTables m t) ≡ 0
+      → (recordOf n h s m l t ≡ recordOf n h s m k t) × (tablesOf n s m l t ≡ tablesOf n s m k t)
+  same-plan h a b =
+      let p = plan-of n s m l t a in
+      let q = plan-of n s m k t b in
+      let x = planned-true n s m l t a in
+      let y = planned-true n s m k t b in
       let once-l = sound-once n l (p .sound) in
       let once-k = sound-once n k (q .sound) in
-      let roots = root-same l k s (p .some) (q .some) (p .common) in
-      let records = same-fresh n m l k s once-l once-k (p .ready .most) roots in (
-        record-planned n m l t x ∙ records ∙ sym (record-planned n m k t y),
-        tables-planned n m l t x ∙ same-filled n m l k s once-l once-k ∙ sym (tables-planned n m k t y),
+      let roots = root-same l k same (p .some) (q .some) (p .common) in
+      let records = same-fresh n m l k same once-l once-k (p .ready .most) roots h s in (
+        record-planned n h s m l t x ∙ records ∙ sym (record-planned n h s m k t y),
+        tables-planned n s m l t x ∙ same-filled n m l k same once-l once-k ∙ sym (tables-planned n s m k t y),
       )
 
   -- ---- whether a list is accepted
-  module _ (long : length k ≡ length l) (a : planRefusal n m l (areTables m t) ≡ 0) where
+  module _ (long : length k ≡ length l) (a : planRefusal n s m l (areTables m t) ≡ 0) where
     p : Plan n m l
-    p = plan-of n m l t a
+    p = plan-of n s m l t a
 
     many : entryCount k ≡ entryCount l
     many = entry-count-same k l long
@@ -136,41 +137,44 @@ module _ (n : ℕ) (m l k : List ℕ) (t : Tables) (s : SameChanges l k) where
     once-l = sound-once n l (p .sound)
 
     sound : Sound n k
-    sound = sound-same l k s many once-l n (p .sound)
+    sound = sound-same l k same many once-l n (p .sound)
 
     once-k : Once k
     once-k = sound-once n k sound
 
     common : isCommon k (root k) ≡ true
-    common = common-root k some (root l) (sym (common-same l k s (root l)) ∙ p .common)
+    common = common-root k some (root l) (sym (common-same l k same (root l)) ∙ p .common)
 
-    pub same-accepted : planRefusal n m k (areTables m t) ≡ 0
-    same-accepted = of-plan n m k t (planned-is n m l t .0 (planned-true n m l t a) .0) (record {
+    given : (areTables m t ≡ true) × (s ≢ 0) × Plan n m l
+    given = planned-is n s m l t .0 (planned-true n s m l t a)
+
+    pub same-accepted : planRefusal n s m k (areTables m t) ≡ 0
+    same-accepted = of-plan n s m k t (given .0) (given .1) (record {
       ready = p .ready;
       whole = ap (λ (x : ℕ). x % 5) long ∙ p .whole;
       most = omega (arith, many, p .most);
       some = some;
       sound = sound;
-      effect = sym (same-effect n m l k s once-l once-k) ∙ p .effect;
+      effect = sym (same-effect n m l k same once-l once-k) ∙ p .effect;
       way = ⊎-elim
-          (λ r. inl (sym (same-rise n m l k s once-l once-k) ∙ r))
-          (λ f. inr (sym (same-fall n m l k s once-l once-k) ∙ f))
+          (λ r. inl (sym (same-rise n m l k same once-l once-k) ∙ r))
+          (λ f. inr (sym (same-fall n m l k same once-l once-k) ∙ f))
           (p .way);
       common = common;
     })
 
 -- ---- two reports in either order
 pub either-order :
-    (n : ℕ) (m l k : List ℕ) (t : Tables)
+    (n h s : ℕ) (m l k : List ℕ) (t : Tables)
     → length l % 5 ≡ 0
     → length k % 5 ≡ 0
-    → planRefusal n m (l ++ k) (areTables m t) ≡ 0
-    → (planRefusal n m (k ++ l) (areTables m t) ≡ 0)
-    × (recordOf n m (l ++ k) t ≡ recordOf n m (k ++ l) t)
-    × (tablesOf n m (l ++ k) t ≡ tablesOf n m (k ++ l) t)
-either-order n m l k t a b accepted =
+    → planRefusal n s m (l ++ k) (areTables m t) ≡ 0
+    → (planRefusal n s m (k ++ l) (areTables m t) ≡ 0)
+    × (recordOf n h s m (l ++ k) t ≡ recordOf n h s m (k ++ l) t)
+    × (tablesOf n s m (l ++ k) t ≡ tablesOf n s m (k ++ l) t)
+either-order n h s m l k t a b accepted =
     let same = joined-same l k a b in
     let long : length (k ++ l) ≡ length (l ++ k) = omega (arith, length-append l k, length-append k l) in
-    let back = same-accepted n m (l ++ k) (k ++ l) t same long accepted in
-    let plan = same-plan n m (l ++ k) (k ++ l) t same accepted back in
+    let back = same-accepted n s m (l ++ k) (k ++ l) t same long accepted in
+    let plan = same-plan n s m (l ++ k) (k ++ l) t same h accepted back in
     (back, plan .0, plan .1)

@@ -46,6 +46,12 @@ pub struct Record {
     // 0 idle, 1 holding, 2 ongoing, 3 done.
     pub states: [u8; WIDTH],
     pub written: [Set; WIDTH],
+    // The rank timers: hold time and step time, in ticks; the ticks so far, and how many these were when each router
+    // learned of the change, 0 until it does.
+    pub hold_time: u16,
+    pub step_time: u16,
+    pub clock: u32,
+    pub learn_times: [u32; WIDTH],
 }
 
 // What Plan hands back: the answer, with the record.
@@ -58,6 +64,8 @@ pub struct Planned {
 // refusal that writes no cell.
 pub fn plan(
     n: usize,
+    hold_time: u16,
+    step_time: u16,
     old: &[u32],
     list: &[u8],
     new: &mut [u32],
@@ -73,12 +81,12 @@ pub fn plan(
         («old_dist» .entry) («old_hops» .entry) («old_fours» .entry)
         («new_dist» .entry) («new_hops» .entry) («new_fours» .entry) in
         ⌜ verdictNumber (r .answer)
-        ≡ planRefusal n (now (old .entry)) (now (list .entry)) (areTables (now (old .entry)) lent) ⌝ }
+        ≡ planRefusal n «step_time» (now (old .entry)) (now (list .entry)) (areTables (now (old .entry)) lent) ⌝ }
     ensures record { λ r.
         let lent = tablesIn (new .entry)
         («old_dist» .entry) («old_hops» .entry) («old_fours» .entry)
         («new_dist» .entry) («new_hops» .entry) («new_fours» .entry) in
-        ⌜ r .record ≡ recordOf n (now (old .entry)) (now (list .entry)) lent ⌝ }
+        ⌜ r .record ≡ recordOf n «hold_time» «step_time» (now (old .entry)) (now (list .entry)) lent ⌝ }
     ensures tables { λ _.
         let lent = tablesIn (new .entry)
         («old_dist» .entry) («old_hops» .entry) («old_fours» .entry)
@@ -86,7 +94,7 @@ pub fn plan(
         let left = tablesIn (new .exit)
         («old_dist» .exit) («old_hops» .exit) («old_fours» .exit)
         («new_dist» .exit) («new_hops» .exit) («new_fours» .exit) in
-        ⌜ left ≡ tablesOf n (now (old .entry)) (now (list .entry)) lent ⌝ }
+        ⌜ left ≡ tablesOf n «step_time» (now (old .entry)) (now (list .entry)) lent ⌝ }
 {
     let sized = are_tables(
         old,
@@ -98,7 +106,7 @@ pub fn plan(
         new_hops,
         new_fours,
     );
-    let judged = judge(n, old, list, sized);
+    let judged = judge(n, step_time, old, list, sized);
     let answer = judged.answer;
     if !answer.is_accepted() {
         return Planned {
@@ -110,6 +118,8 @@ pub fn plan(
     let rising = judged.rising;
     let record = fill(
         n,
+        hold_time,
+        step_time,
         old,
         list,
         root,
@@ -128,6 +138,8 @@ pub fn plan(
 // The tables and the record of an input that is planned, with the root c.
 fn fill(
     n: usize,
+    hold_time: u16,
+    step_time: u16,
     old: &[u32],
     list: &[u8],
     c: usize,
@@ -145,7 +157,7 @@ fn fill(
     requires { ⌜
         Sized (now old)
         (tablesIn new «old_dist» «old_hops» «old_fours» «new_dist» «new_hops» «new_fours») ⌝ }
-    ensures { λ r. ⌜ r ≡ fresh n (now (old .entry)) (now (list .entry)) ⌝ }
+    ensures { λ r. ⌜ r ≡ fresh n «hold_time» «step_time» (now (old .entry)) (now (list .entry)) ⌝ }
     ensures { λ _.
         let left = tablesIn (new .exit)
         («old_dist» .exit) («old_hops» .exit) («old_fours» .exit)
@@ -164,7 +176,17 @@ fn fill(
         new_hops,
         new_fours,
     );
-    fresh(n, c, rising, old_hops, old_fours, new_hops, new_fours)
+    fresh(
+        n,
+        hold_time,
+        step_time,
+        c,
+        rising,
+        old_hops,
+        old_fours,
+        new_hops,
+        new_fours,
+    )
 }
 
 // The new metrics, and the tables of both topologies.
@@ -239,6 +261,10 @@ pub fn blank() -> Record
         due: [0; WIDTH],
         states: [0; WIDTH],
         written: [0; WIDTH],
+        hold_time: 0,
+        step_time: 0,
+        clock: 0,
+        learn_times: [0; WIDTH],
     }
 }
 
@@ -246,6 +272,8 @@ pub fn blank() -> Record
 // what is due.
 fn fresh(
     n: usize,
+    hold_time: u16,
+    step_time: u16,
     root: usize,
     rising: bool,
     old_hops: &[Set],
@@ -255,7 +283,7 @@ fn fresh(
 ) -> Record
     requires { ⌜ (n ≤ width) × (root < width) ⌝ }
     ensures { λ r. ⌜
-        r ≡ started n root rising
+        r ≡ started n «hold_time» «step_time» root rising
         (orderOf n root rising (now («old_hops» .entry)) (now («new_hops» .entry)))
         (dueTable n (now («old_fours» .entry)) (now («new_fours» .entry))) ⌝ }
 {
@@ -270,5 +298,9 @@ fn fresh(
         due: due_table(n, old_fours, new_fours),
         states: [0; WIDTH],
         written: [0; WIDTH],
+        hold_time,
+        step_time,
+        clock: 0,
+        learn_times: [0; WIDTH],
     }
 }

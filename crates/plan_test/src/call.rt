@@ -103,6 +103,8 @@ fn first_cells(
     let g = read::size(case, 7, new_fours.len());
     plan::plan(
         n,
+        read::time(case, b'h', 0),
+        read::time(case, b'm', 1),
         old,
         list,
         &mut new[0..a],

@@ -37,12 +37,12 @@ pub fn stray(r: Record) -> u64 {
     count
 }
 
-// 1 where router k has a state or a written set, and from n on anything.
+// 1 where router k has a state, a written set or a learn time, and from n on anything.
 fn unlike_fresh(r: Record, k: usize) -> u64
     requires { ⌜ k < width ⌝ }
     ensures { λ c. ⌜ c ≤ 1 ⌝ }
 {
-    if r.states[k] != 0 || r.written[k] != 0 {
+    if r.states[k] != 0 || r.written[k] != 0 || r.learn_times[k] != 0 {
         return 1;
     }
     if k < r.n as usize {

@@ -12,7 +12,7 @@ use cases::print;
 use libc::STDIN_FILENO;
 
 fn main() {
-    let mut input = [0u8; 24576];
+    let mut input = [0u8; 32768];
     let length = io::read_full(STDIN_FILENO, &mut input);
     run(&input[..length]);
 }

@@ -57,12 +57,15 @@ fn record(n: usize, p: Planned) -> bool {
     let r = p.record;
     let stray = fresh::stray(r);
     print::form(
-        b": # routers # root # direction # stray #",
+        b": # routers # root # direction # hold # step # clock # stray #",
         &[
             v.number() as u64,
             r.n as u64,
             r.root as u64,
             r.direction as u64,
+            r.hold_time as u64,
+            r.step_time as u64,
+            r.clock as u64,
             stray,
         ],
     );

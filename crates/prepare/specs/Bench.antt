@@ -7,7 +7,8 @@ use lib.ListN.{take, drop}
 use Rattle.area.specs.Tests.{pick, orThen}
 use Rattle.plan.specs.declared.Record.{Record}
 use Rattle.plan.specs.Plan.{Tables, areTables, planRefusal, fresh, blank, filled}
-use Rattle.bench_file.specs.Sections.{routers, linkCount, links, changes}
+use Rattle.bench_file.specs.Sections.{routers, linkCount, links, changes, holdTime, stepTime}
+use Rattle.bench_file.specs.declared.Format.the-variants.{New}
 use Rattle.bench_file.specs.declared.Contents.{Contents}
 use Rattle.bench_file.specs.Read.{readRefusal, linked}
 
@@ -19,11 +20,11 @@ metrics f = linked (links f) (linkCount f)
 unfoldable pub refusal : (f m : List ℕ) (t : Tables) → ℕ
 refusal f m t =
     orThen (readRefusal f m)
-    (planRefusal (routers f) (metrics f) (changes f) (areTables (metrics f) t))
+    (planRefusal (routers f) (stepTime New f) (metrics f) (changes f) (areTables (metrics f) t))
 
 -- Plan's record, and the tables that it fills, of a file that is not refused
 abbrev pub planned : (f : List ℕ) → Record
-planned f = fresh (routers f) (metrics f) (changes f)
+planned f = fresh (routers f) (holdTime New f) (stepTime New f) (metrics f) (changes f)
 
 abbrev pub filledTables : (f : List ℕ) → Tables
 filledTables f = filled (routers f) (metrics f) (changes f)

@@ -24,31 +24,37 @@ use Rattle.plan.specs.declared.Record.{Record}
 use Rattle.plan.specs.Plan.{Tables, areTables, planRefusal, isPlanned, blank, recordOf, tablesOf as fills}
 use Rattle.plan.specs.PlanLaws.{Plan, plan-of, plan-count, planned-true, planned-false}
 use Rattle.plan.specs.PlanLaws.{record-planned, record-refused, tables-planned, tables-refused}
-use Rattle.bench_file.specs.Sections.{routers, changeCount, changesAt, changes, largest}
+use Rattle.bench_file.specs.Sections.{routers, changeCount, changesAt, changes, holdTime, stepTime, largest}
 use Rattle.bench_file.specs.declared.Format.the-variants.{New}
 use Rattle.bench_file.specs.FaultLaws.{Accepted}
 use Rattle.bench_file.specs.declared.Contents.{Contents}
 use Rattle.bench_file.specs.Read.{readRefusal, contents, contentsOf, metricsOf}
 use Rattle.bench_file.specs.ReadLaws.{contents-accepted, contents-refused, metrics-accepted}
 use Rattle.bench_file.specs.FileLaws.{table-sized, file-passed, file-accepted}
-use Rattle.bench_file.specs.FileLaws.{contents-n, contents-changes, no-contents-n, no-contents-changes}
+use Rattle.bench_file.specs.FileLaws.{contents-n, contents-changes, contents-times, no-contents-n, no-contents-changes}
 use Rattle.bench_file.specs.FileLaws.{file-largest, first-bytes}
 use Rattle.prepare.specs.Bench.{metrics, refusal, planned, filledTables, recordAt, tablesAt, listed}
 
 module _ (f m : List ℕ) where
   -- ---- where Read refuses nothing, and where it refuses
   module _ (z : readRefusal f m ≡ 0) where
-    of-file : contentsOf f m ≡ contents f
+    of-file : contentsOf f m ≡ contents New f
     of-file = contents-accepted f m z
 
     n-is : contentsOf f m .n ≡ routers f
-    n-is = ap (λ (x : Contents). x .n) of-file ∙ contents-n f
+    n-is = ap (λ (x : Contents). x .n) of-file ∙ contents-n New f
 
     starts : contentsOf f m .changes .at ≡ changesAt f
-    starts = ap (λ (x : Contents). x .changes .at) of-file ∙ contents-changes f .0
+    starts = ap (λ (x : Contents). x .changes .at) of-file ∙ contents-changes New f .0
 
     counted : contentsOf f m .changes .count ≡ changeCount f
-    counted = ap (λ (x : Contents). x .changes .count) of-file ∙ contents-changes f .1
+    counted = ap (λ (x : Contents). x .changes .count) of-file ∙ contents-changes New f .1
+
+    hold-is : contentsOf f m .«hold_time» ≡ holdTime New f
+    hold-is = ap (λ (x : Contents). x .«hold_time») of-file ∙ contents-times New f .0
+
+    step-is : contentsOf f m .«step_time» ≡ stepTime New f
+    step-is = ap (λ (x : Contents). x .«step_time») of-file ∙ contents-times New f .1
 
     list-is : listed f (contentsOf f m) ≡ changes f
     list-is = rw (starts, counted) refl
@@ -77,7 +83,7 @@ module _ (f m : List ℕ) where
     module _ (z : refusal f m t ≡ 0) where
       both :
           (readRefusal f m ≡ 0)
-          × (planRefusal (routers f) (metrics f) (changes f) (areTables (metrics f) t) ≡ 0)
+          × (planRefusal (routers f) (stepTime New f) (metrics f) (changes f) (areTables (metrics f) t) ≡ 0)
       unfolding refusal
       both = then-both (readRefusal f m) _ z
 
@@ -88,7 +94,7 @@ module _ (f m : List ℕ) where
       file-of = file-accepted f m read-passed
 
       pub plan-passed : Plan (routers f) (metrics f) (changes f)
-      plan-passed = plan-of (routers f) (metrics f) (changes f) t (both .1)
+      plan-passed = plan-of (routers f) (stepTime New f) (metrics f) (changes f) t (both .1)
 
       pub record-passed : recordAt f m t ≡ planned f
       unfolding recordAt
@@ -109,25 +115,31 @@ module _ (f m : List ℕ) where
       tables-kept = rw (ne-eqb (refusal f m t) 0 g) refl
 
     -- ---- Read, and then Plan on what Read gives
-    -- its n, its list, and Plan's refusal
+    -- its n, its times, its list, and Plan's refusal
     abbrev n : ℕ
     n = contentsOf f m .n
+
+    abbrev hold : ℕ
+    hold = contentsOf f m .«hold_time»
+
+    abbrev step : ℕ
+    step = contentsOf f m .«step_time»
 
     abbrev list : List ℕ
     list = listed f (contentsOf f m)
 
     abbrev then : ℕ
-    then = planRefusal n (metricsOf f m) list (areTables (metricsOf f m) t)
+    then = planRefusal n step (metricsOf f m) list (areTables (metricsOf f m) t)
 
     then-is :
         readRefusal f m ≡ 0
-        → then ≡ planRefusal (routers f) (metrics f) (changes f) (areTables (metrics f) t)
-    then-is z = rw (n-is z, old-is z, list-is z) refl
+        → then ≡ planRefusal (routers f) (stepTime New f) (metrics f) (changes f) (areTables (metrics f) t)
+    then-is z = rw (n-is z, step-is z, old-is z, list-is z) refl
 
     then-refused : readRefusal f m ≢ 0 → then ≢ 0
     then-refused g e =
         let none = router-count-low n (omega (arith, refused-n g)) in
-        let three = plan-count n (metricsOf f m) list (areTables (metricsOf f m) t) none in
+        let three = plan-count n step (metricsOf f m) list (areTables (metricsOf f m) t) none in
         omega (arith, three, e)
 
     refusal-both : orThen (readRefusal f m) then ≡ refusal f m t
@@ -146,28 +158,29 @@ module _ (f m : List ℕ) where
         go (yes z) = g (sym refusal-both ∙ then-none (readRefusal f m) then z ∙ e)
         go (no h) = then-refused h e
 
-    planned-is : refusal f m t ≡ 0 → isPlanned (routers f) (metrics f) (changes f) t ≡ true
-    planned-is z = planned-true (routers f) (metrics f) (changes f) t (both z .1)
+    planned-is : refusal f m t ≡ 0 → isPlanned (routers f) (stepTime New f) (metrics f) (changes f) t ≡ true
+    planned-is z = planned-true (routers f) (stepTime New f) (metrics f) (changes f) t (both z .1)
 
-    record-both : recordOf n (metricsOf f m) list t ≡ recordAt f m t
+    record-both : recordOf n hold step (metricsOf f m) list t ≡ recordAt f m t
     record-both = go (ℕ-discrete (refusal f m t) 0)
       where
-        go : Dec (refusal f m t ≡ 0) → recordOf n (metricsOf f m) list t ≡ recordAt f m t
+        go : Dec (refusal f m t ≡ 0) → recordOf n hold step (metricsOf f m) list t ≡ recordAt f m t
         go (yes z) =
             let read = read-passed z in
-            let fresh = record-planned (routers f) (metrics f) (changes f) t (planned-is z) in
-            rw (n-is read, old-is read, list-is read) (fresh ∙ sym (record-passed z))
-        go (no g) = record-refused _ _ _ t (planned-false _ _ _ t (plan-refused g)) ∙ sym (record-blank g)
+            let fresh =
+            record-planned (routers f) (holdTime New f) (stepTime New f) (metrics f) (changes f) t (planned-is z) in
+            rw (n-is read, hold-is read, step-is read, old-is read, list-is read) (fresh ∙ sym (record-passed z))
+        go (no g) = record-refused _ _ _ _ _ t (planned-false _ _ _ _ t (plan-refused g)) ∙ sym (record-blank g)
 
-    tables-both : fills n (metricsOf f m) list t ≡ tablesAt f m t
+    tables-both : fills n step (metricsOf f m) list t ≡ tablesAt f m t
     tables-both = go (ℕ-discrete (refusal f m t) 0)
       where
-        go : Dec (refusal f m t ≡ 0) → fills n (metricsOf f m) list t ≡ tablesAt f m t
+        go : Dec (refusal f m t ≡ 0) → fills n step (metricsOf f m) list t ≡ tablesAt f m t
         go (yes z) =
             let read = read-passed z in
-            let new = tables-planned (routers f) (metrics f) (changes f) t (planned-is z) in
-            rw (n-is read, old-is read, list-is read) (new ∙ sym (tables-passed z))
-        go (no g) = tables-refused _ _ _ t (planned-false _ _ _ t (plan-refused g)) ∙ sym (tables-kept g)
+            let new = tables-planned (routers f) (stepTime New f) (metrics f) (changes f) t (planned-is z) in
+            rw (n-is read, step-is read, old-is read, list-is read) (new ∙ sym (tables-passed z))
+        go (no g) = tables-refused _ _ _ _ t (planned-false _ _ _ _ t (plan-refused g)) ∙ sym (tables-kept g)
 
     -- c is what Read says of the file, old the table that it leaves, and l the list that Plan gets
     module _
@@ -178,15 +191,18 @@ module _ (f m : List ℕ) where
         pub refusal-given :
             {a b k : ℕ}
             → a ≡ readRefusal f m
-            → b ≡ planRefusal (c .n) old l (areTables old t)
+            → b ≡ planRefusal (c .n) (c .«step_time») old l (areTables old t)
             → k ≡ orThen a b
             → k ≡ refusal f m t
         refusal-given u v w = w ∙ ap₂ orThen u (rw (part, filled, is) at v) ∙ refusal-both
 
-        pub record-given : {r : Record} → r ≡ recordOf (c .n) old l t → r ≡ recordAt f m t
+        pub record-given :
+            {r : Record}
+            → r ≡ recordOf (c .n) (c .«hold_time») (c .«step_time») old l t
+            → r ≡ recordAt f m t
         record-given u = (rw (part, filled, is) at u) ∙ record-both
 
-        pub tables-given : {u : Tables} → u ≡ fills (c .n) old l t → u ≡ tablesAt f m t
+        pub tables-given : {u : Tables} → u ≡ fills (c .n) (c .«step_time») old l t → u ≡ tablesAt f m t
         tables-given u = (rw (part, filled, is) at u) ∙ tables-both
 
 -- ---- the first bytes of an input, more than the largest file has

@@ -68,6 +68,8 @@ pub fn prepare(
     // With a refusal Read gives n as 0, so that Plan refuses too and fills nothing.
     let planned = plan(
         contents.n,
+        contents.hold_time,
+        contents.step_time,
         old,
         list,
         new,

@@ -6,6 +6,7 @@ use area::limits::LARGEST;
 use area::limits::Set;
 use area::limits::UNUSED;
 use report::REHEARSAL_ROOM;
+use report::Text;
 ghost use mathlib.Core.Path.{_≡_};
 ghost use mathlib.Core.List.{List};
 ghost use Prim.Native.Nat.{ℕ, _<_};
@@ -74,7 +75,8 @@ fn whole(
         → ReadOf input (now (file .entry)) count
         → take r (now (out .exit)) ≡ rehearsal input (now (old .entry)) lent) ⌝ }
 {
-    report::rehearse(
+    report::print(
+        Text::Rehearsal,
         &file[..count],
         old,
         new,

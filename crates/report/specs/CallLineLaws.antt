@@ -4,23 +4,26 @@
 --     lines-joined                                 one list of calls after another
 --     one-appended, member-called, member-uncalled  one call; a call for a member of a set, and none for another router
 --     each-start, each-next                        no list of calls, and one more
---     turn-called, sheet-called                    the calls of a turn, and of a whole sheet
+--     ticks-start, ticks-next                      no tick, and one more
+--     opening-called, turn-called, sheet-called    the calls before the turns, of a turn, and of a whole sheet
 --     section-whole, section-long                  the section, and one with too many steps
 --     places-called                                the calls of a sheet, by its places
-use Prim.Native.Nat.{ℕ, _+_, _/_, _%_, _≤_, _<_}
+use Prim.Native.Nat.{ℕ, zero, suc, _+_, _/_, _%_, _≤_, _<_}
 use mathlib.Core.Path.{_≡_, refl, sym, ap, subst, _∙_}
 use mathlib.Core.Bool.{Bool, true, false}
 use mathlib.Core.List.{List, [], _∷_, _++_, append-nil, append-assoc}
+use native.Mathlib.Numerals.{add-one}
 use borrow.Author.Tests.{le-leb, lt-leb}
 use lib.ListN.{length, getD}
 use Rattle.area.specs.Limits.{mostSteps}
 use Rattle.area.specs.Tests.{pick}
 use Rattle.sets.specs.Sets.{bit}
 use Rattle.plan.specs.declared.Record.{Record}
-use Rattle.machine.specs.Machine.{learnKind, releaseKind, writeKind, finishKind, deliverKind, dueOf, tellingOf}
-use Rattle.machine.specs.Run.{Call, call}
+use Rattle.machine.specs.Machine.{learnKind, releaseKind, writeKind, finishKind, deliverKind, tickKind}
+use Rattle.machine.specs.Machine.{dueOf, tellingOf}
+use Rattle.machine.specs.Run.{Call, call, ticks}
 use Rattle.sheet.specs.Sheet.{sheetOf}
-use Rattle.sheet.specs.Follow.{each, callEach, callMembers, turn, following, sheetCalls}
+use Rattle.sheet.specs.Follow.{each, callEach, callMembers, turn, holdTicks, following, sheetCalls}
 use Rattle.sheet.specs.EachLaws.{each-none, each-more}
 use Rattle.text.specs.Text.{Appended, word, line}
 use Rattle.text.specs.TextLaws.{appended-none, appended-then}
@@ -97,6 +100,37 @@ module _ (f : ℕ → List Call) where
       → Appended o a (callLines (each (k + 1) f)) q c
   each-next k u v = rw (each-more f k) (calls-appended (each k f) (f k) u v)
 
+-- ---- ticks
+pub ticks-start : (o : List ℕ) (a : ℕ) → a ≤ length o → Appended o a (callLines (ticks 0)) o a
+ticks-start o a h = no-calls o a h
+
+ticks-more : (k : ℕ) → ticks (k + 1) ≡ ticks k ++ (call tickKind 0 0 ∷ [])
+ticks-more k = rw add-one (last k)
+  where
+    last : (k : ℕ) → ticks (suc k) ≡ ticks k ++ (call tickKind 0 0 ∷ [])
+    last zero = refl
+    last (suc k) = ap (λ (l : List Call). call tickKind 0 0 ∷ l) (last k)
+
+pub ticks-next :
+    (k : ℕ) {o p q : List ℕ} {a b c : ℕ}
+    → Appended o a (callLines (ticks k)) p b
+    → Appended p b (callLine (call tickKind 0 0)) q c
+    → Appended o a (callLines (ticks (k + 1))) q c
+ticks-next k u v = rw (ticks-more k) (calls-appended (ticks k) _ u (one-appended _ v))
+
+-- ---- what comes before the turns
+abbrev pub opening : (n hold : ℕ) → List Call
+opening n hold =
+    callEach n (λ x. call learnKind x 0) ++ (ticks hold ++ callEach n (λ x. call releaseKind x 0))
+
+pub opening-called :
+    (n hold : ℕ) {o p q s : List ℕ} {a b c d : ℕ}
+    → Appended o a (callLines (callEach n (λ x. call learnKind x 0))) p b
+    → Appended p b (callLines (ticks hold)) q c
+    → Appended q c (callLines (callEach n (λ x. call releaseKind x 0))) s d
+    → Appended o a (callLines (opening n hold)) s d
+opening-called n hold u v w = calls-appended _ _ u (calls-appended _ _ v w)
+
 -- ---- a turn, and a sheet
 module _ (r : Record) where
   pub turn-called :
@@ -111,12 +145,27 @@ module _ (r : Record) where
       calls-appended _ _ (rw due at u) (calls-appended _ _ (one-appended _ v) (rw told at w))
 
   pub sheet-called :
-      (place : ℕ → ℕ) {o p q s : List ℕ} {a b c d : ℕ}
-      → Appended o a (callLines (callEach (r .n) (λ x. call learnKind x 0))) p b
-      → Appended p b (callLines (callEach (r .n) (λ x. call releaseKind x 0))) q c
-      → Appended q c (callLines (each (r .n) (λ k. turn r (place k)))) s d
-      → Appended o a (callLines (following r place)) s d
-  sheet-called place u v w = calls-appended _ _ u (calls-appended _ _ v w)
+      (place : ℕ → ℕ) {o p q : List ℕ} {a b c : ℕ}
+      → Appended o a (callLines (opening (r .n) (r .«hold_time»))) p b
+      → Appended p b (callLines (each (r .n) (λ k. turn r (place k)))) q c
+      → Appended o a (callLines (following r place)) q c
+  sheet-called place {o} {q = q} {a} {c = c} u v =
+      subst (λ (calls : List Call). Appended o a (callLines calls) q c) parts
+      (calls-appended (opening (r .n) (r .«hold_time»)) turns u v)
+    where
+      learning : List Call
+      learning = callEach (r .n) (λ x. call learnKind x 0)
+
+      releasing : List Call
+      releasing = callEach (r .n) (λ x. call releaseKind x 0)
+
+      turns : List Call
+      turns = each (r .n) (λ k. turn r (place k))
+
+      parts : opening (r .n) (r .«hold_time») ++ turns ≡ following r place
+      parts =
+          append-assoc learning (holdTicks r ++ releasing) turns
+          ∙ ap (λ (l : List Call). learning ++ l) (append-assoc (holdTicks r) releasing turns)
 
 -- ---- the section of a list of calls
 module _ (calls : List Call) (count : ℕ) (counted : count ≡ length calls) where

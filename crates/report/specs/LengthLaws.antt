@@ -19,7 +19,7 @@ use Rattle.plan.specs.declared.Record.{Record}
 use Rattle.machine.specs.Answers.{Reply, ok, ignored, refused}
 use Rattle.machine.specs.declared.states.State.{State}
 use Rattle.machine.specs.declared.states.State.the-variants.{Idle, Holding, Ongoing, Done}
-use Rattle.machine.specs.Machine.{done, stateOf, waitingOf, dueOf, tellingOf}
+use Rattle.machine.specs.Machine.{done, stateOf, waitingOf, dueOf, tellingOf, heldUntil, dueTime}
 use Rattle.machine.specs.States.{named}
 use Rattle.machine.specs.Run.{Call}
 use Rattle.needs.specs.Needs.{unwrittenOf}
@@ -30,7 +30,8 @@ use Rattle.report.specs.declared.lines.Path.{Path}
 use Rattle.report.specs.Lines.{routerLine, routerLines, answerText, stepLine, stepLines}
 use Rattle.report.specs.Lines.{pathText, routeLine, isPrinted, pairText, path, rowLines, routeLines}
 use Rattle.report.specs.Lines.{memberWord, memberText, setText, turnLine, turnLines}
-use Rattle.report.specs.Lines.{stateWord, unfinishedLine, unfinishedText, unfinishedLines}
+use Rattle.report.specs.Lines.{stateWord, holdText, lastWait, waitText, unfinishedLine, unfinishedText}
+use Rattle.report.specs.Lines.{unfinishedLines}
 use Rattle.report.specs.Lines.{countLine, callLine, callLines, stepSection}
 
 -- ---- one line
@@ -103,18 +104,42 @@ state-most Holding = omega arith
 state-most Ongoing = omega arith
 state-most Done = omega arith
 
-unfinished-most :
-    (i : ℕ) (s : State) (waits unwritten : ℕ)
-    → length (unfinishedLine i s waits unwritten) ≤ 52 + 42 * width
-unfolding unfinishedLine
-unfinished-most i s waits unwritten =
-    let named = field-most (word "router ") i in
-    simp length-append (omega (arith, state-most s, set-most waits, set-most unwritten))
+hold-most : (s : State) (until : ℕ) → length (holdText s until) ≤ 33
+unfolding holdText
+hold-most Idle until = omega arith
+hold-most Holding until = field-most (word " holds until ") until
+hold-most Ongoing until = omega arith
+hold-most Done until = omega arith
 
-unfinished-text-most : (r : Record) (i : ℕ) → length (unfinishedText r i) ≤ 52 + 42 * width
+last-wait-most : (s : State) (due : ℕ) → length (lastWait s due) ≤ 33
+unfolding lastWait
+last-wait-most Idle due = omega arith
+last-wait-most Holding due = field-most (word " waits until ") due
+last-wait-most Ongoing due = field-most (word " waits until ") due
+last-wait-most Done due = omega arith
+
+wait-most : (s : State) (waits due : ℕ) → length (waitText s waits due) ≤ 33
+unfolding waitText
+wait-most s waits due =
+    let most = last-wait-most s due in
+    ⊎-elim (λ t. rw t (omega arith)) (λ f. rw f most) (look (eqb waits 0))
+
+unfinished-most :
+    (i : ℕ) (s : State) (waits unwritten until due : ℕ)
+    → length (unfinishedLine i s waits unwritten until due) ≤ 118 + 42 * width
+unfolding unfinishedLine
+unfinished-most i s waits unwritten until due =
+    let named = field-most (word "router ") i in
+    let sets = set-most waits in
+    let more = set-most unwritten in
+    let times = hold-most s until in
+    simp length-append (omega (arith, state-most s, wait-most s waits due))
+
+unfinished-text-most : (r : Record) (i : ℕ) → length (unfinishedText r i) ≤ 118 + 42 * width
 unfolding unfinishedText
 unfinished-text-most r i =
-    let most = unfinished-most i (named (stateOf r i)) (waitingOf r i) (unwrittenOf r i) in
+    let most =
+    unfinished-most i (named (stateOf r i)) (waitingOf r i) (unwrittenOf r i) (heldUntil r i) (dueTime r i) in
     ⊎-elim (λ t. rw t (omega arith)) (λ f. rw f (omega arith)) (look (eqb (stateOf r i) done))
 
 count-most : (count : ℕ) → length (countLine count) ≤ 5
@@ -160,7 +185,7 @@ turns-most r places (suc k) =
     let a = getD places k 0 in
     simp length-append (omega (arith, turns-most r places k, turn-most (k + 1) a (dueOf r a) (tellingOf r a)))
 
-pub unfinished-lines-most : (r : Record) (k : ℕ) → length (unfinishedLines r k) ≤ (52 + 42 * width) * k
+pub unfinished-lines-most : (r : Record) (k : ℕ) → length (unfinishedLines r k) ≤ (118 + 42 * width) * k
 unfolding unfinishedLines
 unfinished-lines-most r zero = omega arith
 unfinished-lines-most r (suc k) =

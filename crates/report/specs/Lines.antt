@@ -13,7 +13,7 @@ use Rattle.plan.specs.declared.Record.{Record}
 use Rattle.machine.specs.Answers.{Reply, ok, ignored, refused}
 use Rattle.machine.specs.declared.states.State.{State}
 use Rattle.machine.specs.declared.states.State.the-variants.{Idle, Holding, Ongoing, Done}
-use Rattle.machine.specs.Machine.{done, stateOf, waitingOf, dueOf, tellingOf}
+use Rattle.machine.specs.Machine.{done, stateOf, waitingOf, dueOf, tellingOf, heldUntil, dueTime}
 use Rattle.machine.specs.States.{named}
 use Rattle.machine.specs.Run.{Call, run, replies, callsOf}
 use Rattle.needs.specs.Needs.{needs, unwrittenOf, missing}
@@ -159,35 +159,53 @@ stateWord Holding = word " holding"
 stateWord Ongoing = word " ongoing"
 stateWord Done = word " done"
 
--- router i in a state, with the routers that it still waits for, and what is due there and unwritten
-unfoldable pub unfinishedLine : (i : ℕ) (s : State) (waits unwritten : ℕ) → List ℕ
-unfinishedLine i s waits unwritten =
+-- until when a router holds, in the state in which it does (02, No. 10)
+unfoldable pub holdText : (s : State) (until : ℕ) → List ℕ
+holdText Idle until = []
+holdText Holding until = field (word " holds until ") until
+holdText Ongoing until = []
+holdText Done until = []
+
+-- when the timer lets a router go that has learned and waits for others
+unfoldable pub lastWait : (s : State) (due : ℕ) → List ℕ
+lastWait Idle due = []
+lastWait Holding due = field (word " waits until ") due
+lastWait Ongoing due = field (word " waits until ") due
+lastWait Done due = []
+
+unfoldable pub waitText : (s : State) (waits due : ℕ) → List ℕ
+waitText s waits due = pick (eqb waits 0) [] (lastWait s due)
+
+-- router i in a state, with the routers that it still waits for, what is due there and unwritten, and its times
+unfoldable pub unfinishedLine : (i : ℕ) (s : State) (waits unwritten until due : ℕ) → List ℕ
+unfinishedLine i s waits unwritten until due =
     field (word "router ") i ++
     (stateWord s ++
     (word " waits" ++
     (setText waits ++
     (word " unwritten" ++
     (setText unwritten ++
-    word "\n")))))
+    (holdText s until ++
+    (waitText s waits due ++
+    word "\n")))))))
 
 -- router i of a record; one that is done has no line
 unfoldable pub unfinishedText : (r : Record) (i : ℕ) → List ℕ
 unfinishedText r i =
     pick (eqb (stateOf r i) done) []
-    (unfinishedLine i (named (stateOf r i)) (waitingOf r i) (unwrittenOf r i))
+    (unfinishedLine i (named (stateOf r i)) (waitingOf r i) (unwrittenOf r i) (heldUntil r i) (dueTime r i))
 
 -- the first k routers of a record
 unfoldable pub unfinishedLines : (r : Record) (k : ℕ) → List ℕ
 unfinishedLines r zero = []
 unfinishedLines r (suc k) = unfinishedLines r k ++ unfinishedText r k
 
--- what is left of n routers in a record: a line for each that is not done, and how many answers "ok" are still to come
-abbrev pub unfinishedIn : (n : ℕ) (r : Record) → List ℕ
-unfinishedIn n r = unfinishedLines r n ++ line (word "missing ") (missing r)
-
--- the same after the steps that the bytes stand for
+-- what is left after the steps that the bytes stand for: a line for each router that is not done, and how many answers
+-- "ok" are still to come
 abbrev pub unfinishedAfter : (r : Record) (bytes : List ℕ) → List ℕ
-unfinishedAfter r bytes = unfinishedIn (r .n) (run r (callsOf bytes))
+unfinishedAfter r bytes =
+    let last = run r (callsOf bytes) in
+    unfinishedLines last (r .n) ++ line (word "missing ") (missing last)
 
 -- ---- calls, as the step section of a bench file in hexadecimal (01, "The bench file")
 -- the count of steps, two bytes with the high byte first

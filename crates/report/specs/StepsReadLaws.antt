@@ -1,10 +1,11 @@
 -- What is printed of a sheet's steps, read again. Decoded as a text in hexadecimal it is the count of the steps and the
 -- bytes of the calls, and these bytes stand for the calls: so what is put into a bench file is what was meant.
--- Each number of a call fits a byte: a kind is at most 5, and a place of the sheet holds at most n.
+-- Each number of a call fits a byte: a kind is at most 6, and a place of the sheet holds at most n.
 --     call-says, calls-say, count-says                 lines and all lines say what they are printed for
 --     InBytes, AllInBytes, sheet-in-bytes              calls whose numbers are bytes; those of a sheet are
 --     callBytes, calls-back                            the bytes of calls, and the calls that they stand for
---     steps-fit                                        up to 44 routers, a sheet never has too many steps for a file
+--     steps-fit                                        up to 44 routers, a sheet without hold time never has too many
+--                                                      steps for a file
 --     section-read, steps-read                         the section of such calls, and the steps of a file's sheet
 use Prim.Native.Nat.{ℕ, zero, suc, _+_, _/_, _%_, _≤_, _<_}
 use mathlib.Core.Path.{_≡_, ap, _∙_}
@@ -15,7 +16,7 @@ use native.Mathlib.Numerals.{add-one}
 use native.Mathlib.Omega.{arith}
 use borrow.Author.Tests.{le-leb}
 use lib.ListN.{length, getD}
-use Rattle.area.specs.Limits.{width, mostSteps}
+use Rattle.area.specs.Limits.{width, longestTime, mostSteps}
 use Rattle.area.specs.Tests.{pick, lowest}
 use Rattle.area.specs.SizeLaws.{router-count-most}
 use Rattle.area.specs.LowestLaws.{lowest-below, lowest-none}
@@ -25,14 +26,15 @@ use Rattle.plan.specs.Plan.{Tables}
 use Rattle.plan.specs.FreshLaws.{fresh-count}
 use Rattle.machine.specs.Machine.{learnKind, releaseKind, writeKind, finishKind, deliverKind}
 use Rattle.machine.specs.Machine.{waitingOf, dueOf, tellingOf}
-use Rattle.machine.specs.Run.{Call, call, callsOf}
+use Rattle.machine.specs.Run.{Call, call, ticks, callsOf}
 use Rattle.machine.specs.CallLaws.{no-call, next-call}
 use Rattle.sheet.specs.Sheet.{couldCome, placed, sheetOf}
 use Rattle.sheet.specs.SheetLaws.{sheet-at}
-use Rattle.sheet.specs.Follow.{each, callEach, callMembers, turn, sheetCalls}
+use Rattle.sheet.specs.Follow.{each, callEach, callMembers, turn, holdTicks, sheetCalls}
 use Rattle.sheet.specs.LengthLaws.{alwaysFit, fresh-fits}
 use Rattle.sheet.specs.EachLaws.{each-none, each-more}
-use Rattle.bench_file.specs.Sections.{routers, changes}
+use Rattle.bench_file.specs.declared.Format.the-variants.{New}
+use Rattle.bench_file.specs.Sections.{routers, changes, holdTime, stepTime}
 use Rattle.hex.specs.Hex.{most, unhexed}
 use Rattle.hex.specs.PairLaws.{Says, says-none, says-then, byte-says, says-blank, says-newline, says-whole}
 use Rattle.prepare.specs.Bench.{metrics, refusal, planned}
@@ -114,6 +116,10 @@ members-of n set c small = all-of n (λ k. pick (bit set k) (c k ∷ []) []) (λ
     by-test k h true = (small k h, tt)
     by-test k h false = tt
 
+ticks-of : (count : ℕ) → AllInBytes (ticks count)
+ticks-of zero = tt
+ticks-of (suc count) = ((omega arith, omega arith, omega arith), ticks-of count)
+
 module _ (r : Record) (few : r .n ≤ width) where
   place-most : (k : ℕ) → k < r .n → getD (sheetOf r) k 0 ≤ width
   place-most k h =
@@ -147,19 +153,24 @@ module _ (r : Record) (few : r .n ≤ width) where
       let n = r .n in
       joined (callEach n (λ x. call learnKind x 0)) _
       (all-of n (λ x. call learnKind x 0 ∷ []) (λ k h. ((omega arith, omega arith, omega arith), tt)))
+      (joined (holdTicks r) _ (ticks-of (r .«hold_time»))
       (joined (callEach n (λ x. call releaseKind x 0)) _
       (all-of n (λ x. call releaseKind x 0 ∷ []) (λ k h. ((omega arith, omega arith, omega arith), tt)))
-      (all-of n (λ k. turn r (getD (sheetOf r) k 0)) (λ k h. turn-of (getD (sheetOf r) k 0) (place-most k h))))
+      (all-of n (λ k. turn r (getD (sheetOf r) k 0)) (λ k h. turn-of (getD (sheetOf r) k 0) (place-most k h)))))
 
 -- ---- the steps of a file's sheet
 module _ (f m : List ℕ) (t : Tables) (z : refusal f m t ≡ 0) where
   few-routers : planned f .n ≤ width
   few-routers =
       let few = router-count-most (routers f) (file-of f m t z .routers-in) in
-      omega (arith, fresh-count (routers f) (metrics f) (changes f))
+      omega (arith, fresh-count (routers f) (holdTime New f) (stepTime New f) (metrics f) (changes f))
 
-  pub steps-fit : routers f ≤ alwaysFit → length (sheetCalls (planned f)) ≤ mostSteps
-  steps-fit = fresh-fits (routers f) (metrics f) (changes f) (plan-passed f m t z)
+  pub steps-fit :
+      holdTime New f ≤ longestTime
+      → routers f ≤ alwaysFit
+      → length (sheetCalls (planned f)) ≤ mostSteps + holdTime New f
+  steps-fit =
+      fresh-fits (routers f) (holdTime New f) (stepTime New f) (metrics f) (changes f) (plan-passed f m t z)
 
   -- decoded, what is printed is a count of two bytes, and bytes that stand for the calls of the sheet
   pub steps-read :

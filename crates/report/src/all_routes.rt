@@ -5,96 +5,34 @@ use crate::lines::route_line;
 use area::limits::Set;
 use area::limits::UNREACHED;
 use area::limits::WIDTH;
-use prepare::prepare;
 use text::append;
-use text::refused_line;
 ghost use mathlib.Core.Path.{_≡_};
 ghost use Prim.Native.Nat.{_≤_, _<_};
 ghost use lib.ListN.{length};
 ghost use Rattle.area.specs.Limits.{width};
-ghost use Rattle.plan.specs.Plan.{tablesIn};
-ghost use Rattle.bench_file.specs.Read.{metricsOf};
 ghost use Rattle.text.specs.Text.{Appended};
-ghost use Rattle.prepare.specs.Bench.{tablesAt};
 ghost use Rattle.report.specs.Lines.{isPrinted, pairText, rowLines, routeLines, routesLines};
-ghost use Rattle.report.specs.Report.{unlessRefused, routes};
 ghost use Rattle.report.specs.ReportLaws.{Full};
 
-// Puts all that is printed of a file's routes at the start of `out`, as far as that has room, and gives its length.
-// The tables are lent to be filled, whatever they hold, and are left as `prepare` leaves them.
-pub fn routes(
-    file: &[u8],
-    old: &mut [u32],
-    new: &mut [u32],
-    old_dist: &mut [u32],
-    old_hops: &mut [Set],
-    old_fours: &mut [Set],
-    new_dist: &mut [u32],
-    new_hops: &mut [Set],
-    new_fours: &mut [Set],
-    out: &mut [u8],
-) -> usize
-    ensures text { λ r.
-        let lent = tablesIn (new .entry)
-        («old_dist» .entry) («old_hops» .entry) («old_fours» .entry)
-        («new_dist» .entry) («new_hops» .entry) («new_fours» .entry) in
-        ⌜ Appended (now (out .entry)) 0 (routes (now (file .entry)) (now (old .entry)) lent) (now (out .exit)) r ⌝ }
-    ensures metrics { λ _. ⌜ now (old .exit) ≡ metricsOf (now (file .entry)) (now (old .entry)) ⌝ }
-    ensures tables { λ _.
-        let lent = tablesIn (new .entry)
-        («old_dist» .entry) («old_hops» .entry) («old_fours» .entry)
-        («new_dist» .entry) («new_hops» .entry) («new_fours» .entry) in
-        let left = tablesIn (new .exit)
-        («old_dist» .exit) («old_hops» .exit) («old_fours» .exit)
-        («new_dist» .exit) («new_hops» .exit) («new_fours» .exit) in
-        ⌜ left ≡ tablesAt (now (file .entry)) (now (old .entry)) lent ⌝ }
-{
-    let start = prepare(
-        file,
-        old,
-        new,
-        old_dist,
-        old_hops,
-        old_fours,
-        new_dist,
-        new_hops,
-        new_fours,
-    );
-    printed(
-        start.refusal,
-        start.record.n,
-        old_dist,
-        old_hops,
-        new_dist,
-        new_hops,
-        out,
-    )
-}
-
-// The refusal of this number, or what sets are printed and the lines of all pairs.
-fn printed(
-    number: u8,
-    n: u8,
+// What sets are printed, and the lines of all pairs.
+pub(crate) fn printed(
+    n: usize,
     old_dist: &[u32],
     old_hops: &[Set],
     new_dist: &[u32],
     new_hops: &[Set],
     out: &mut [u8],
 ) -> usize
-    requires { ⌜
-        (number ≡ 0
-        → (n ≤ width) × Full (now «old_dist») (now «old_hops») (now «new_dist») (now «new_hops»)) ⌝ }
-    ensures text { λ r.
+    requires { ⌜ n ≤ width ⌝ }
+    requires { ⌜ Full (now «old_dist») (now «old_hops») (now «new_dist») (now «new_hops») ⌝ }
+    ensures lines { λ r.
         let lines = routesLines
         (now («old_dist» .entry)) (now («old_hops» .entry))
         (now («new_dist» .entry)) (now («new_hops» .entry)) n in
-        ⌜ Appended (now (out .entry)) 0 (unlessRefused number lines) (now (out .exit)) r ⌝ }
+        ⌜ Appended (now (out .entry)) 0 lines (now (out .exit)) r ⌝ }
 {
-    if number != 0 {
-        return refused_line(out, 0, number);
-    }
     let at = append(out, 0, b"full next-hop sets\n");
-    route_lines(n as usize, old_dist, old_hops, new_dist, new_hops, out, at)
+    route_lines(n, old_dist, old_hops, new_dist, new_hops, out, at)
 }
 
 // The lines of all pairs.

@@ -17,7 +17,8 @@ ghost use Rattle.machine.specs.Answers.{replyOf};
 ghost use Rattle.text.specs.Text.{Appended, word, field};
 ghost use Rattle.report.specs.Lines.{routerLine, answerText, stepLine, pathText, routeLine};
 ghost use Rattle.report.specs.Lines.{memberWord, memberText, setText, turnLine};
-ghost use Rattle.report.specs.Lines.{stateWord, unfinishedLine};
+ghost use Rattle.report.specs.Lines.{stateWord, holdText, lastWait, waitText, unfinishedLine};
+ghost use Rattle.report.specs.UnfinishedLaws.{timesEnd};
 
 // The distance between two routers, and the next-hop set by which it is reached.
 pub struct Path {
@@ -127,23 +128,69 @@ pub(crate) fn turn_line(
     append(out, at, b"\n")
 }
 
-// The line of router i, in a state: whom it still waits for, and what is due there and unwritten.
+// The line of router i, in a state: whom it still waits for, what is due there and unwritten, and its times.
 pub(crate) fn unfinished_line(
     i: u64,
     state: State,
     waits: Set,
     unwritten: Set,
+    until: u64,
+    due: u64,
     out: &mut [u8],
     at: usize,
 ) -> usize
     ensures line { λ r. ⌜
-        Appended (now (out .entry)) at (unfinishedLine i state waits unwritten) (now (out .exit)) r ⌝ }
+        Appended (now (out .entry)) at
+        (unfinishedLine i state waits unwritten until due) (now (out .exit)) r ⌝ }
 {
     let at = field(out, at, b"router ", i);
     let at = state_word(state, out, at);
     let at = named_set(b" waits", waits, out, at);
     let at = named_set(b" unwritten", unwritten, out, at);
+    times_end(state, waits, until, due, out, at)
+}
+
+// The times of a router, and the end of its line.
+fn times_end(state: State, waits: Set, until: u64, due: u64, out: &mut [u8], at: usize) -> usize
+    ensures text { λ r. ⌜ Appended (now (out .entry)) at (timesEnd state waits until due) (now (out .exit)) r ⌝ }
+{
+    let at = hold_text(state, until, out, at);
+    let at = wait_text(state, waits, due, out, at);
     append(out, at, b"\n")
+}
+
+// Until when a router holds, where it does.
+fn hold_text(state: State, until: u64, out: &mut [u8], at: usize) -> usize
+    ensures text { λ r. ⌜ Appended (now (out .entry)) at (holdText state until) (now (out .exit)) r ⌝ }
+{
+    match state {
+        State::Idle => append(out, at, b""),
+        State::Holding => field(out, at, b" holds until ", until),
+        State::Ongoing => append(out, at, b""),
+        State::Done => append(out, at, b""),
+    }
+}
+
+// When the timer lets a router go, where it waits for others.
+fn wait_text(state: State, waits: Set, due: u64, out: &mut [u8], at: usize) -> usize
+    ensures text { λ r. ⌜ Appended (now (out .entry)) at (waitText state waits due) (now (out .exit)) r ⌝ }
+{
+    if waits == 0 {
+        return append(out, at, b"");
+    }
+    last_wait(state, due, out, at)
+}
+
+// The same of a router that waits for others.
+fn last_wait(state: State, due: u64, out: &mut [u8], at: usize) -> usize
+    ensures text { λ r. ⌜ Appended (now (out .entry)) at (lastWait state due) (now (out .exit)) r ⌝ }
+{
+    match state {
+        State::Idle => append(out, at, b""),
+        State::Holding => field(out, at, b" waits until ", due),
+        State::Ongoing => field(out, at, b" waits until ", due),
+        State::Done => append(out, at, b""),
+    }
 }
 
 // The name of a state.

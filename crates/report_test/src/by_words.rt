@@ -1,4 +1,5 @@
-// The file of an area and a change that words say: n64 S0=1 H0=16777215. It has no step.
+// The file of an area and a change that words say: n64 S0=1 H0=16777215. Its hold time is 0 and its step time 1, and it
+// has no step.
 use crate::largest::LINKS_AT;
 use area::limits::CELLS;
 use area::limits::ENTRY;
@@ -58,7 +59,7 @@ fn link(file: &mut [u8; LARGEST + 1], e: usize, n: usize, k: usize, metric: u32)
     e + 1
 }
 
-// The changes with their count at this place, and no step after them. Gives where the file ends.
+// The changes with their count at this place, and after them the times and no step. Gives where the file ends.
 fn changes(file: &mut [u8; LARGEST + 1], at: usize, list: &[u8; LONG_LIST], bytes: usize) -> usize
     requires { ⌜ (at ≤ 3 + 5 * (width * width)) × (bytes ≤ 5 * (mostChanges + 2)) ⌝ }
 {
@@ -66,5 +67,7 @@ fn changes(file: &mut [u8; LARGEST + 1], at: usize, list: &[u8; LONG_LIST], byte
     for k in 0..bytes {
         file[at + 1 + k] = list[k];
     }
-    at + 1 + bytes + 2
+    let times_at = at + 1 + bytes;
+    file[times_at + 3] = 1;
+    times_at + 4 + 2
 }

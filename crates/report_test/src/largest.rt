@@ -1,5 +1,5 @@
 // The largest file: WIDTH routers, a link from each to each other, and as many changes and steps as may be, each by a
-// rule.
+// rule. Its hold time is 0; its step time is so large that no due time but those of rank 0 comes.
 use area::limits::ENTRY;
 use area::limits::LARGEST;
 use area::limits::MOST_CHANGES;
@@ -14,12 +14,14 @@ const OTHERS: usize = WIDTH - 1;
 
 const LINKS: usize = WIDTH * OTHERS;
 
-// Where the links begin, the changes and the steps. Before each part stands its count.
+// Where the links begin, the changes, the times and the steps. Before links, changes and steps stands their count.
 pub const LINKS_AT: usize = 3;
 
 const CHANGES_AT: usize = LINKS_AT + ENTRY * LINKS + 1;
 
-const STEPS_AT: usize = CHANGES_AT + ENTRY * MOST_CHANGES + 2;
+const TIMES_AT: usize = CHANGES_AT + ENTRY * MOST_CHANGES;
+
+const STEPS_AT: usize = TIMES_AT + 4 + 2;
 
 // The file, and after it a byte that is one too many.
 pub fn fill(file: &mut [u8; LARGEST + 1]) {
@@ -42,6 +44,9 @@ fn part(at: usize) -> usize
     if STEPS_AT - 2 <= at {
         return two(MOST_STEPS, at - (STEPS_AT - 2));
     }
+    if TIMES_AT <= at {
+        return time(at - TIMES_AT);
+    }
     if CHANGES_AT <= at {
         return change((at - CHANGES_AT) / ENTRY, (at - CHANGES_AT) % ENTRY);
     }
@@ -57,6 +62,11 @@ fn part(at: usize) -> usize
 // A byte of a count, the high one first.
 fn two(count: usize, place: usize) -> usize {
     if place == 0 { count / 256 } else { count }
+}
+
+// A byte of the hold time, 0, or of the step time, 65,535.
+fn time(place: usize) -> usize {
+    if place < 2 { 0 } else { 255 }
 }
 
 // The links of router 0, then those of router 1, and so on.

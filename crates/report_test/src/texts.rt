@@ -5,6 +5,7 @@ use cases::LONG_TABLE;
 use cases::print;
 use cases::read;
 use report::ROUTES_ROOM;
+use report::Text;
 ghost use mathlib.Core.Path.{_≡_};
 ghost use Prim.Native.Nat.{_≤_};
 ghost use lib.ListN.{length, take};
@@ -52,8 +53,8 @@ fn text(words: &[u8], file: &[u8], out: &mut [u8]) -> usize
     let g = read::size(words, 6, LONG_TABLE);
     let h = read::size(words, 7, LONG_TABLE);
     let bytes = room(words, out.len());
-    by_letter(
-        words,
+    report::print(
+        by_letter(words),
         file,
         &mut old[..a],
         &mut new[..b],
@@ -80,35 +81,20 @@ fn room(words: &[u8], most: usize) -> usize
 }
 
 // The routes (r), the running sheet (t), its steps (s), what is unfinished (u), or with no letter the rehearsal.
-// The distances, the full sets and the sets of four have short names here: of the old (o) and of the new topology (n).
-fn by_letter(
-    words: &[u8],
-    file: &[u8],
-    old: &mut [u32],
-    new: &mut [u32],
-    od: &mut [u32],
-    oh: &mut [Set],
-    of: &mut [Set],
-    nd: &mut [u32],
-    nh: &mut [Set],
-    nf: &mut [Set],
-    out: &mut [u8],
-) -> usize
-    ensures { λ r. ⌜ (r ≤ length (now (out .exit))) × (r ≡ length (take r (now (out .exit)))) ⌝ }
-{
+fn by_letter(words: &[u8]) -> Text {
     if has(words, b'r') {
-        return report::routes(file, old, new, od, oh, of, nd, nh, nf, out);
+        return Text::Routes;
     }
     if has(words, b't') {
-        return report::sheet_turns(file, old, new, od, oh, of, nd, nh, nf, out);
+        return Text::SheetTurns;
     }
     if has(words, b's') {
-        return report::sheet_steps(file, old, new, od, oh, of, nd, nh, nf, out);
+        return Text::SheetSteps;
     }
     if has(words, b'u') {
-        return report::unfinished(file, old, new, od, oh, of, nd, nh, nf, out);
+        return Text::Unfinished;
     }
-    report::rehearse(file, old, new, od, oh, of, nd, nh, nf, out)
+    Text::Rehearsal
 }
 
 fn has(words: &[u8], letter: u8) -> bool {

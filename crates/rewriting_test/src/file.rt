@@ -1,12 +1,14 @@
 // The file of a case.
-use crate::half_dead;
+use crate::large;
 use crate::output;
 use cases::read;
 
-// The word `half` stands for the file by a rule: no digit of a file is an h.
+// The words `half` and `full` stand for files by a rule: no digit of a file is an h or an l.
 pub fn run(words: &[u8]) {
     if read::find(words, b'h') < words.len() {
-        half_dead::run();
+        large::half();
+    } else if read::find(words, b'l') < words.len() {
+        large::full();
     } else {
         written(words);
     }

@@ -1,11 +1,11 @@
 // Prints what is written for the stored files of the cases of standard input, and so what the old reader says of them.
 // The first lines of stdin say what a case is.
-//     run          the lines of the input: of a case its name is printed, and under it what its file gives
-//     file         the file of a case, from its hexadecimal or by a rule
-//     half_dead    all links of most routers, of which every other one is dead
-//     output       prints what is written for a file
+//     run       the lines of the input: of a case its name is printed, and under it what its file gives
+//     file      the file of a case, from its hexadecimal or by a rule
+//     large     files by a rule: all links of most routers
+//     output    prints what is written for a file
 mod file;
-mod half_dead;
+mod large;
 mod output;
 
 use cases::lines;

@@ -1,20 +1,36 @@
 // What is written for a file: the line of a refusal, or bytes, which are printed in hexadecimal.
 use cases::print;
 
+// What is written for the file; and where that is a file, what is written for this one.
 pub fn print(file: &[u8]) {
     let mut out = [0u8; 1024];
     let length = rewriting::rewrite(file, &mut out);
     show(&out[..length]);
+    if !is_line(&out[..length]) {
+        again(&out[..length]);
+    }
 }
 
-// No file begins with the letter r: it would have 114 routers.
+// What is written for a file that has been rewritten.
+pub fn again(file: &[u8]) {
+    let mut out = [0u8; 1024];
+    let length = rewriting::rewrite(file, &mut out);
+    print::text(b"again ");
+    show(&out[..length]);
+}
+
 fn show(written: &[u8]) {
-    if 0 < written.len() && written[0] == b'r' {
+    if is_line(written) {
         print::text(written);
     } else {
         hexadecimal(written);
         print::byte(b'\n');
     }
+}
+
+// No file begins with the letter r: it would have 114 routers.
+fn is_line(written: &[u8]) -> bool {
+    0 < written.len() && written[0] == b'r'
 }
 
 fn hexadecimal(bytes: &[u8]) {

@@ -7,6 +7,7 @@ use area::limits::LARGEST;
 use area::limits::Set;
 use area::limits::UNUSED;
 use report::ROUTES_ROOM;
+use report::Text;
 ghost use mathlib.Core.Path.{_≡_};
 ghost use mathlib.Core.List.{List};
 ghost use Prim.Native.Nat.{ℕ, _<_};
@@ -75,7 +76,8 @@ fn whole(
         → ReadOf input (now (file .entry)) count
         → take r (now (out .exit)) ≡ routes input (now (old .entry)) lent) ⌝ }
 {
-    report::routes(
+    report::print(
+        Text::Routes,
         &file[..count],
         old,
         new,

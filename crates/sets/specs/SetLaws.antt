@@ -3,7 +3,8 @@
 --     setOf-lt, bit-setOf, bit-beyond          what stands in `setOf w p`
 --     setOf-same, is-setOf, same-set, same-members
 --                                              when two sets are equal
---     setOf-none, none-setOf, member-some      when a set is empty
+--     setOf-none, none-setOf, member-some, no-members
+--                                              when a set is empty
 --     bit-added, bit-removed, bit-union, bit-without, subset-at, at-subset
 --                                              the members of each
 --     added-self, added-other, added-cases, added-still, removed-self, removed-other, removed-still
@@ -150,6 +151,11 @@ none-setOf w p e k h = sym (bit-setOf w p k h) ∙ ap (λ (s : ℕ). bit s k) e 
 
 pub member-some : (s k : ℕ) → bit s k ≡ true → s ≢ 0
 member-some s k e z = false≢true (sym (bit-zero k) ∙ ap (λ (t : ℕ). bit t k) (sym z) ∙ e)
+
+pub no-members : (s : ℕ) → ((k : ℕ) → bit s k ≡ true → ⊥) → s ≡ 0
+no-members s none =
+    same-members s 0
+    (λ k. same-test (bit s k) (bit 0 k) (λ t. absurd (none k t)) (λ t. absurd (false≢true (sym (bit-zero k) ∙ t))))
 
 -- ---- the members of a set that was added to, removed from, joined
 added-lt : (w s k : ℕ) → added w s k < 2 ^ w

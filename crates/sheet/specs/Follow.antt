@@ -1,6 +1,8 @@
--- Following a sheet (02, No. 1): the calls by which every router learns of the change and is released, and then each
--- in turn writes all that is due, finishes, and has its message delivered to each router that it tells.
---     turn, following     the calls of one turn, and those of a whole sheet
+-- Following a sheet (02, No. 1 and No. 10): the calls by which every router learns of the change and, after the ticks
+-- of the hold time, is released; and then each in turn writes all that is due, finishes, and has its message delivered
+-- to each router that it tells.
+--     turn, holdTicks     the calls of one turn, and the ticks of the hold time
+--     following           the calls of a whole sheet
 --     sheetCalls          those of a record's own sheet
 --     AllOk               no call is refused or ignored
 use Prim.Native.Nat.{ℕ, zero, suc}
@@ -12,7 +14,7 @@ use Rattle.sets.specs.Sets.{bit}
 use Rattle.plan.specs.declared.Record.{Record}
 use Rattle.machine.specs.Answers.{ok}
 use Rattle.machine.specs.Machine.{learnKind, releaseKind, writeKind, finishKind, deliverKind, dueOf, tellingOf}
-use Rattle.machine.specs.Run.{Call, call, step}
+use Rattle.machine.specs.Run.{Call, call, step, ticks}
 use Rattle.sheet.specs.Sheet.{sheetOf}
 
 -- the calls f 0, f 1, .. f (n - 1), one list after another
@@ -34,12 +36,18 @@ turn r a =
     ++ ((call finishKind a 0 ∷ [])
     ++ callMembers (r .n) (tellingOf r a) (λ t. call deliverKind a t))
 
--- All routers learn, all are released, and then the router at place 0 has its turn, the one at place 1, and so on.
+-- the ticks between learning and being released
+abbrev pub holdTicks : (r : Record) → List Call
+holdTicks r = ticks (r .«hold_time»)
+
+-- All routers learn, the hold time goes by, all are released, and then the router at place 0 has its turn, the one at
+-- place 1, and so on.
 abbrev pub following : (r : Record) (place : ℕ → ℕ) → List Call
 following r place =
     callEach (r .n) (λ x. call learnKind x 0)
+    ++ (holdTicks r
     ++ (callEach (r .n) (λ x. call releaseKind x 0)
-    ++ each (r .n) (λ k. turn r (place k)))
+    ++ each (r .n) (λ k. turn r (place k))))
 
 abbrev pub sheetCalls : (r : Record) → List Call
 sheetCalls r = following r (λ k. getD (sheetOf r) k 0)

@@ -34,8 +34,8 @@ use Rattle.plan.specs.Waiting.{waiting}
 use Rattle.plan.specs.Plan.{Tables, areTables, planRefusal, zeros, fresh, recordOf}
 use Rattle.plan.specs.PlanLaws.{plan-of, planned-true, record-planned, refused-count}
 use Rattle.plan.specs.FreshLaws.{fresh-count, fresh-waiting}
-use Rattle.machine.specs.Machine.{waitingOf}
-use Rattle.machine.specs.OrderedLaws.{rankOf, Ordered, fresh-ordered}
+use Rattle.machine.specs.Machine.{waitingOf, rankOf}
+use Rattle.machine.specs.OrderedLaws.{Ordered, fresh-ordered}
 use Rattle.sheet.specs.Sheet.{couldCome, nextAfter, placed, placeAt, sheetOf, Before, IsSheet}
 
 -- ---- who could come next, and who does
@@ -344,15 +344,18 @@ same-waiting {n} {w} {v} {sheet} same s = record {
     member r x h = ap (λ (y : ℕ). bit y x) (same r h)
 
 -- ---- the sheet of a plan, and of a refusal
-module _ (n : ℕ) (m l : List ℕ) (t : Tables) where
-  pub sheet-is : planRefusal n m l (areTables m t) ≡ 0 → IsSheet n (waiting n m l) (sheetOf (recordOf n m l t))
+module _ (n hold step : ℕ) (m l : List ℕ) (t : Tables) where
+  pub sheet-is :
+      planRefusal n step m l (areTables m t) ≡ 0
+      → IsSheet n (waiting n m l) (sheetOf (recordOf n hold step m l t))
   sheet-is z =
-      let p = plan-of n m l t z in
-      let count = fresh-count n m l in
+      let p = plan-of n step m l t z in
+      let count = fresh-count n hold step m l in
       let is = same-waiting
-      (λ r h. fresh-waiting n m l (p .ready .most) r (omega (arith, count))) (sheet-of (fresh-ordered n m l p)) in
-      rw (record-planned n m l t (planned-true n m l t z))
-      (subst (λ (k : ℕ). IsSheet k (waiting n m l) (sheetOf (fresh n m l))) count is)
+      (λ r h. fresh-waiting n hold step m l (p .ready .most) r (omega (arith, count)))
+      (sheet-of (fresh-ordered n hold step m l p)) in
+      rw (record-planned n hold step m l t (planned-true n step m l t z))
+      (subst (λ (k : ℕ). IsSheet k (waiting n m l) (sheetOf (fresh n hold step m l))) count is)
 
-  pub sheet-refused : planRefusal n m l (areTables m t) ≢ 0 → sheetOf (recordOf n m l t) ≡ zeros
-  sheet-refused f = sheet-none (recordOf n m l t) (refused-count n m l t f)
+  pub sheet-refused : planRefusal n step m l (areTables m t) ≢ 0 → sheetOf (recordOf n hold step m l t) ≡ zeros
+  sheet-refused f = sheet-none (recordOf n hold step m l t) (refused-count n hold step m l t f)

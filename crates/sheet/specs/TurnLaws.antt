@@ -11,7 +11,7 @@
 use Prim.Native.Nat.{ℕ, suc, _≤_, _<_}
 use mathlib.Core.Path.{_≡_, refl, sym, ap, _∙_}
 use mathlib.Core.Bool.{Bool, true, false, not, _&&_, false≢true}
-use mathlib.Core.Logic.{_≢_, _⊎_, inl, inr, ⊎-elim}
+use mathlib.Core.Logic.{_≢_, ⊎-elim}
 use mathlib.Core.List.{List, [], _∷_}
 use native.Mathlib.Decide.{ℕ-discrete, decLt}
 use native.Mathlib.Nat.{eq-or-lt-of-le, le-of-suc-le-suc}
@@ -23,16 +23,17 @@ use lib.Seq.{getD-set-same, getD-set-other}
 use Rattle.area.specs.Limits.{width}
 use Rattle.area.specs.TestLaws.{look, and-true, and-false}
 use Rattle.sets.specs.Sets.{bit, added, removed}
-use Rattle.sets.specs.SetLaws.{bit-zero, same-members, at-subset}
+use Rattle.sets.specs.SetLaws.{bit-zero, no-members, at-subset}
 use Rattle.sets.specs.SetLaws.{added-self, added-other, removed-self, removed-other}
 use Rattle.plan.specs.declared.Record.{Record}
 use Rattle.machine.specs.Machine.{ongoing, done, writeKind, finishKind, deliverKind}
-use Rattle.machine.specs.Machine.{stateOf, waitingOf, tellingOf, dueOf, writtenOf}
+use Rattle.machine.specs.Machine.{stateOf, waitingOf, tellingOf, dueOf, writtenOf, rankOf}
 use Rattle.machine.specs.Machine.{withState, withWaiting, withWritten}
 use Rattle.machine.specs.Run.{Call, call, run}
+use Rattle.machine.specs.StepLaws.{waits-none, Free}
 use Rattle.machine.specs.HeldLaws.{Held, state-held, written-held, waiting-held}
 use Rattle.machine.specs.OkLaws.{writes, finishes, delivers}
-use Rattle.machine.specs.OrderedLaws.{rankOf, Ordered, sound}
+use Rattle.machine.specs.OrderedLaws.{Ordered, sound}
 use Rattle.sheet.specs.SheetLaws.{Placed, Taken}
 use Rattle.sheet.specs.Follow.{callMembers, turn}
 use Rattle.sheet.specs.WentLaws.{Went, went-one, went-then, went-members}
@@ -99,18 +100,14 @@ module _ {first : Record} (o : Ordered first) where
     free :
         (now : Record) → Held first now
         → ((v : ℕ) → v < width → bit (waitingOf now a) v ≡ left first s a v)
-        → waitingOf now a ≡ 0
-    free now h f =
-        same-members (waitingOf now a) 0 (λ v. none v (look (bit (waitingOf now a) v)) ∙ sym (bit-zero v))
+        → Free now a
+    free now h f = waits-none (no-members (waitingOf now a) none)
       where
-        none :
-            (v : ℕ)
-            → (bit (waitingOf now a) v ≡ true) ⊎ (bit (waitingOf now a) v ≡ false)
-            → bit (waitingOf now a) v ≡ false
-        none v (inr e) = e
-        none v (inl e) =
+        none : (v : ℕ) → bit (waitingOf now a) v ≡ true → ⊥
+        none v e =
             let waited = h .waits a v e in
-            f v (wide (o .inside a v (t .router) waited)) ∙ rw (waited, t .after v waited) refl
+            let none-left : left first s a v ≡ false = rw (waited, t .after v waited) refl in
+            false≢true (sym none-left ∙ sym (f v (wide (o .inside a v (t .router) waited))) ∙ e)
 
     due-still : (now : Record) (d : ℕ) → Held first now → bit (dueOf now a) d ≡ bit (dueOf first a) d
     due-still now d h = ap (λ (l : List ℕ). bit (getD l a 0) d) (h .due)

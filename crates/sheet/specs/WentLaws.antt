@@ -2,20 +2,24 @@
 -- a sheet are: one list after another, one for each router, one for each member of a set.
 --     Went             such a list
 --     went-none, went-one, went-then       no call, one call, one list and then another
+--     went-ticks                           so many ticks, as far as the clock can go
 --     went-each, went-members              for each router, and for each member of a set: P says how far the calls have
 --                                          come, and goes up with them
-use Prim.Native.Nat.{ℕ, zero, suc, _<_}
+use Prim.Native.Nat.{ℕ, zero, suc, _+_, _≤_, _<_}
 use mathlib.Core.Path.{_≡_, refl, sym, ap, _∙_, subst}
 use mathlib.Core.Bool.{Bool, true, false}
 use mathlib.Core.List.{List, [], _∷_, _++_}
 use native.Mathlib.Omega.{arith}
+use Rattle.area.specs.Limits.{lastTime}
 use Rattle.area.specs.Tests.{pick}
 use Rattle.sets.specs.Sets.{bit}
 use Rattle.plan.specs.declared.Record.{Record}
 use Rattle.machine.specs.Answers.{ok, gives, Outcome}
-use Rattle.machine.specs.Machine.{stepOf}
-use Rattle.machine.specs.Run.{Call, call, step, run}
+use Rattle.machine.specs.Machine.{withClock, isRecord, stepOf}
+use Rattle.machine.specs.Run.{Call, call, step, run, ticks}
 use Rattle.machine.specs.CallLaws.{run-empty, run-one, run-joined}
+use Rattle.machine.specs.OkLaws.{ticks-on}
+use Rattle.machine.specs.TimelyLaws.{ticks-clock}
 use Rattle.sheet.specs.Follow.{each, callMembers, AllOk}
 
 pub record Went (P : Record → Type 0) (r : Record) (calls : List Call) : Type 0 where
@@ -57,6 +61,29 @@ went-then {Q = Q} {r} calls more x f =
       all-ok = ok-then r calls more (x .all-ok) (y .all-ok);
       reached = subst Q (sym (run-joined r calls more)) (y .reached);
     }
+
+-- ticks move the clock and nothing else
+ticks-ok :
+    (r : Record) (count : ℕ)
+    → isRecord r ≡ true
+    → r .clock + count ≤ lastTime
+    → AllOk r (ticks count)
+ticks-ok r zero good h = tt
+ticks-ok r (suc count) good h =
+    let on = ticks-on r good (λ q. omega arith) in
+    let more = ticks-ok (withClock r (r .clock + 1)) count good (omega arith) in
+    (ap (λ (y : Outcome). y .reply) on, subst (λ (y : Outcome). AllOk (y .next) (ticks count)) (sym on) more)
+
+pub went-ticks :
+    {P : Record → Type 0} {r : Record} (count : ℕ)
+    → isRecord r ≡ true
+    → r .clock + count ≤ lastTime
+    → P (withClock r (r .clock + count))
+    → Went P r (ticks count)
+went-ticks {P} {r} count good h x = record {
+  all-ok = ticks-ok r count good h;
+  reached = subst P (sym (ticks-clock r count good h)) x;
+}
 
 -- a description that says how far the calls have come goes up with them
 pub went-each :

@@ -36,6 +36,8 @@ pub struct RunningSheet {
 // The running sheet of a change. It takes what Plan takes, and it answers and fills the tables as Plan does.
 pub fn sheet(
     n: usize,
+    hold_time: u16,
+    step_time: u16,
     old: &[u32],
     list: &[u8],
     new: &mut [u32],
@@ -51,12 +53,13 @@ pub fn sheet(
         («old_dist» .entry) («old_hops» .entry) («old_fours» .entry)
         («new_dist» .entry) («new_hops» .entry) («new_fours» .entry) in
         ⌜ verdictNumber (r .answer)
-        ≡ planRefusal n (now (old .entry)) (now (list .entry)) (areTables (now (old .entry)) lent) ⌝ }
+        ≡ planRefusal n «step_time» (now (old .entry)) (now (list .entry)) (areTables (now (old .entry)) lent) ⌝ }
     ensures routers { λ r.
         let lent = tablesIn (new .entry)
         («old_dist» .entry) («old_hops» .entry) («old_fours» .entry)
         («new_dist» .entry) («new_hops» .entry) («new_fours» .entry) in
-        ⌜ r .routers ≡ sheetOf (recordOf n (now (old .entry)) (now (list .entry)) lent) ⌝ }
+        ⌜ r .routers
+        ≡ sheetOf (recordOf n «hold_time» «step_time» (now (old .entry)) (now (list .entry)) lent) ⌝ }
     ensures tables { λ _.
         let lent = tablesIn (new .entry)
         («old_dist» .entry) («old_hops» .entry) («old_fours» .entry)
@@ -64,10 +67,12 @@ pub fn sheet(
         let left = tablesIn (new .exit)
         («old_dist» .exit) («old_hops» .exit) («old_fours» .exit)
         («new_dist» .exit) («new_hops» .exit) («new_fours» .exit) in
-        ⌜ left ≡ tablesOf n (now (old .entry)) (now (list .entry)) lent ⌝ }
+        ⌜ left ≡ tablesOf n «step_time» (now (old .entry)) (now (list .entry)) lent ⌝ }
 {
     let planned = plan(
         n,
+        hold_time,
+        step_time,
         old,
         list,
         new,

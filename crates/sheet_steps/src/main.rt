@@ -7,6 +7,7 @@ use area::limits::LARGEST;
 use area::limits::Set;
 use area::limits::UNUSED;
 use report::SHEET_STEPS_ROOM;
+use report::Text;
 ghost use mathlib.Core.Path.{_≡_};
 ghost use mathlib.Core.List.{List};
 ghost use Prim.Native.Nat.{ℕ, _<_};
@@ -75,7 +76,8 @@ fn whole(
         → ReadOf input (now (file .entry)) count
         → take r (now (out .exit)) ≡ sheetSteps input (now (old .entry)) lent) ⌝ }
 {
-    report::sheet_steps(
+    report::print(
+        Text::SheetSteps,
         &file[..count],
         old,
         new,

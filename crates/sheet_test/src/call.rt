@@ -115,6 +115,8 @@ fn first_cells(
     let g = read::size(words, 7, new_fours.len());
     sheet(
         n,
+        read::time(words, b'h', 0),
+        read::time(words, b'm', 1),
         old,
         list,
         &mut new[0..a],

@@ -22,15 +22,16 @@ use Rattle.plan.specs.declared.Record.{Record}
 use Rattle.plan.specs.NewMetrics.{newCell, newMetrics}
 use Rattle.plan.specs.Direction.{areAtMost, isSame, isRise, isFall}
 use Rattle.plan.specs.Waiting.{oldHops, newHops, oldFours, newFours, waiting, telling}
-use Rattle.plan.specs.Plan.{Tables, areTables, planRefusal, isPlanned, fresh, blank, filled, recordOf, tablesOf}
+use Rattle.plan.specs.Plan.{Tables, areTables, changeRefusal, planRefusal, isPlanned, fresh, blank, filled, recordOf}
+use Rattle.plan.specs.Plan.{tablesOf}
 use Rattle.machine.specs.Answers.{Reply, refused}
-use Rattle.machine.specs.Machine.{learn, release, ready, write, finish, listens, deliver, isSound, isKind, readsB}
-use Rattle.machine.specs.Machine.{areRouters, callOf, stepOf}
+use Rattle.machine.specs.Machine.{learn, release, mustWait, ready, write, finish, listens, deliver, tick, isSound}
+use Rattle.machine.specs.Machine.{isKind, readsA, readsB, areRouters, callOf, stepOf}
 use Rattle.machine.specs.Run.{callsOf, run, replies}
 use Rattle.needs.specs.Needs as counts
 use Rattle.sheet.specs.Sheet.{placed, sheetOf}
 use Rattle.bench_file.specs.Sections.{changes, steps}
-use Rattle.bench_file.specs.declared.Format.the-variants.{Old}
+use Rattle.bench_file.specs.declared.Format.the-variants.{Old, New}
 use Rattle.bench_file.specs.Faults.{mostLinks, deadRefusal, linkRefusal, restRefusal, fileRefusal}
 use Rattle.bench_file.specs.Read.{readRefusal, contents, noContents, contentsOf, linked, metricsBy, metricsOf}
 use Rattle.rewriting.specs.Live.{live, liveCount}
@@ -61,6 +62,11 @@ pub data Question : Type 0 where
   setBy : (n : ℕ) (table : List ℕ) (i j : ℕ) → Question
   -- the running sheet, all of its entries: the routers in their order, and then zeros
   sheet : Question
+  -- the times of the plan's record, and those of the record after all steps: hold time, step time, clock, and the learn
+  -- time of each router; and the time from which on router r waits no longer, after all steps
+  times : Question
+  timesAfter : Question
+  dueTime : (r : ℕ) → Question
   -- the plan's full set of (i, j) before the change, and after it; and its sets of four
   oldSet : (i j : ℕ) → Question
   newSet : (i j : ℕ) → Question
@@ -90,6 +96,9 @@ Value ranks = List ℕ
 Value waits = List ℕ
 Value (due r) = ℕ
 Value sheet = List ℕ
+Value times = List ℕ
+Value timesAfter = List ℕ
+Value (dueTime r) = ℕ
 Value (distance i j) = ℕ
 Value (set i j) = ℕ
 Value (four i j) = ℕ
@@ -120,10 +129,16 @@ abbrev lentSeven : Tables
 lentSeven = record { metrics = lent; old = lentThree; new = lentThree }
 
 -- ---- what comes of the file
--- Read: the number of routers, and the metric table. Where Read refuses, there is no router, and Paths and Plan refuse
--- in turn.
+-- Read: the number of routers, the times, and the metric table. Where Read refuses, there is no router, and Paths and
+-- Plan refuse in turn.
 abbrev routers : (f : List ℕ) → ℕ
 routers f = contentsOf f lent .n
+
+abbrev hold : (f : List ℕ) → ℕ
+hold f = contentsOf f lent .«hold_time»
+
+abbrev pace : (f : List ℕ) → ℕ
+pace f = contentsOf f lent .«step_time»
 
 abbrev metrics : (f : List ℕ) → List ℕ
 metrics f = metricsOf f lent
@@ -134,21 +149,25 @@ paths f = pathsOf (routers f) (metrics f) lentThree
 
 -- Plan: its refusal, its record and its tables
 abbrev refusedBy : (f : List ℕ) → ℕ
-refusedBy f = planRefusal (routers f) (metrics f) (changes f) (areTables (metrics f) lentSeven)
+refusedBy f = planRefusal (routers f) (pace f) (metrics f) (changes f) (areTables (metrics f) lentSeven)
 
 abbrev planned : (f : List ℕ) → Record
-planned f = recordOf (routers f) (metrics f) (changes f) lentSeven
+planned f = recordOf (routers f) (hold f) (pace f) (metrics f) (changes f) lentSeven
 
 abbrev filledIn : (f : List ℕ) → Tables
-filledIn f = tablesOf (routers f) (metrics f) (changes f) lentSeven
+filledIn f = tablesOf (routers f) (pace f) (metrics f) (changes f) lentSeven
 
 -- Step: the replies to the file's steps, the first of which gets Plan's record
 abbrev replied : (f : List ℕ) → List Reply
-replied f = replies (planned f) (callsOf (steps f))
+replied f = replies (planned f) (callsOf (steps New f))
 
 -- and the record after the last of them
 abbrev reached : (f : List ℕ) → Record
-reached f = run (planned f) (callsOf (steps f))
+reached f = run (planned f) (callsOf (steps New f))
+
+-- the times of a record of so many routers
+abbrev timesOf : (n : ℕ) (r : Record) → List ℕ
+timesOf n r = r .«hold_time» ∷ r .«step_time» ∷ r .clock ∷ take n (r .«learn_times»)
 
 -- The answer to a question. A step that the file does not have is `refused 0`: no refusal has this number. The names
 -- under the signature are what has to be unfolded to compute it.
@@ -159,18 +178,22 @@ unfolding readRefusal fileRefusal mostLinks deadRefusal linkRefusal restRefusal 
     Rattle.topology.specs.Distance.distance isNext nextHops isMetric areMetrics arePaths pathsRefusal distanceCell
     hopCell fourCell Rattle.sets.specs.Four.four filledPaths pathsOf areAtMost isSame isRise isFall isCommon
     Rattle.changes.specs.Root.root newCell newMetrics oldHops newHops oldFours newFours waiting telling
-    Rattle.plan.specs.Waiting.due greatest above longest rank areTables planRefusal isPlanned fresh blank filled
-    recordOf tablesOf learn release ready write finish listens deliver isSound isKind readsB areRouters callOf
-    stepOf callsOf run replies lowest placed sheetOf total size counts.needs counts.missing digits decimal field line
-    Rattle.prepare.specs.Bench.refusal refusedLine routerLine routerLines answerText stepLine stepLines rehearsal
-    live liveCount rewritten written itemAt itemsFrom itemsAt rowsRefusal rowOf isOf neighbourRefusal
-    itemsRefusal lowestTo lengthAt listRefusal listedTo listsRefusal areaRefusal isisRefusal listed noLinks isisMetrics
+    Rattle.plan.specs.Waiting.due greatest above longest rank areTables changeRefusal planRefusal isPlanned fresh
+    blank filled recordOf tablesOf learn release mustWait ready write finish listens deliver tick isSound isKind
+    readsA readsB areRouters callOf stepOf callsOf run replies lowest placed sheetOf total size counts.needs
+    counts.missing digits decimal field line Rattle.prepare.specs.Bench.refusal refusedLine routerLine routerLines
+    answerText stepLine stepLines rehearsal live liveCount rewritten written itemAt itemsFrom itemsAt rowsRefusal
+    rowOf isOf neighbourRefusal itemsRefusal lowestTo lengthAt listRefusal listedTo listsRefusal areaRefusal
+    isisRefusal listed noLinks isisMetrics
 answer f refusal = orThen (readRefusal f lent) (refusedBy f)
 answer f root = planned f .root
 answer f ranks = take (routers f) (planned f .ranks)
 answer f waits = take (routers f) (planned f .waiting)
 answer f (due r) = getD (planned f .due) r 0
 answer f sheet = sheetOf (planned f)
+answer f times = timesOf (routers f) (planned f)
+answer f timesAfter = timesOf (routers f) (reached f)
+answer f (dueTime r) = Rattle.machine.specs.Machine.dueTime (reached f) r
 answer f (distance i j) = cell width (paths f .distances) i j
 answer f (set i j) = cell width (paths f .hops) i j
 answer f (four i j) = cell width (paths f .fours) i j

@@ -10,6 +10,7 @@
 --     largest          the largest areas, and those that are too large (02, No. 7)
 --     counted          how many calls a change needs, and how many are missing (02, No. 8)
 --     fiveNextHops     more next hops than a set of four holds (02, No. 9)
+--     timers           clock, hold-down and due times; files with times and without (02, No. 10)
 --     rehearsed        and all that the rehearsal replies and prints
 --     agreed           the theorem
 use Prim.Native.Nat.{ℕ, zero, suc, _/_, _%_}
@@ -20,10 +21,11 @@ use Rattle.machine.specs.Answers.{ok, ignored, refused}
 use Rattle.text.specs.Text.{word}
 use Rattle.small_areas.specs.Questions.{Question, refusal, root, ranks, waits, due, distance, set, four}
 use Rattle.small_areas.specs.Questions.{oldSet, newSet, oldFour, newFour, distanceBy, setBy, sheet, step}
+use Rattle.small_areas.specs.Questions.{times, timesAfter, dueTime}
 use Rattle.small_areas.specs.Questions.{allSteps, needs, missing, printed, oldRefusal, rewrites, isis}
 use Rattle.small_areas.specs.Questions.{isisMetric, Value, answer}
 
--- ---- bench files as bytes (01, "The bench file")
+-- ---- bench files as bytes (01, "The bench file"; 02, No. 10)
 -- a number in two bytes
 abbrev two : (k : ℕ) → List ℕ
 two k = k / 256 ∷ k % 256 ∷ []
@@ -56,10 +58,25 @@ finish a = 4 ∷ a ∷ 0 ∷ []
 abbrev deliver : (a b : ℕ) → List ℕ
 deliver a b = 5 ∷ a ∷ b ∷ []
 
--- the file of n routers, with the count before each section
+-- a tick reads neither a nor b
+abbrev tick : (a b : ℕ) → List ℕ
+tick a b = 6 ∷ a ∷ b ∷ []
+
+-- the file of n routers, with the count before each section, and with these bytes between the changes and the steps
+abbrev sections : (n : ℕ) (links changes between steps : List ℕ) → List ℕ
+sections n links changes between steps =
+    n ∷ two (length links / 5) ++ links ++ (length changes / 5 ∷ changes) ++ between
+    ++ two (length steps / 3) ++ steps
+
+-- the file with a hold time and a step time; with hold time 0 and step time 1; and a stored file, which has none
+abbrev timed : (hold pace n : ℕ) (links changes steps : List ℕ) → List ℕ
+timed hold pace n links changes steps = sections n links changes (two hold ++ two pace) steps
+
 abbrev bench : (n : ℕ) (links changes steps : List ℕ) → List ℕ
-bench n links changes steps =
-    n ∷ two (length links / 5) ++ links ++ (length changes / 5 ∷ changes) ++ two (length steps / 3) ++ steps
+bench n links changes steps = timed 0 1 n links changes steps
+
+abbrev stored : (n : ℕ) (links changes steps : List ℕ) → List ℕ
+stored n links changes steps = sections n links changes [] steps
 
 -- C1's links, where 0–2 is at m: 3 in C1 itself
 --
@@ -70,7 +87,7 @@ bench n links changes steps =
 abbrev triangle : (m : ℕ) → List ℕ
 triangle m = both 0 1 1 ++ both 1 2 1 ++ both 0 2 m
 
--- the file of 01, "The rehearsal", byte for byte
+-- the file of 01, "The rehearsal", byte for byte, with the times of 02, No. 10
 abbrev rehearsal : List ℕ
 rehearsal =
     0x03
@@ -84,6 +101,7 @@ rehearsal =
     ∷ 0x02
     ∷ 0x01 ∷ 0x02 ∷ 0xFF ∷ 0xFF ∷ 0xFF
     ∷ 0x02 ∷ 0x01 ∷ 0xFF ∷ 0xFF ∷ 0xFF
+    ∷ 0x00 ∷ 0x00 ∷ 0x00 ∷ 0x01
     ∷ 0x00 ∷ 0x0A
     ∷ 0x01 ∷ 0x01 ∷ 0x00
     ∷ 0x02 ∷ 0x01 ∷ 0x00
@@ -347,34 +365,43 @@ halfLinks =
     ∷ afterEntries ∷ beforeCommon ∷ mixed ∷ notMixed ∷ []
 
 -- ---- dead links (02, No. 5)
--- Read refuses a file that lists one, and the old reader accepts it; it is rewritten without it.
+-- Read refuses a file that lists one, and the old reader accepts it; it is rewritten without it, and with times.
 abbrev deadLink : Case
 deadLink =
     case (0x02 ∷ 0x00 ∷ 0x01 ∷ 0x00 ∷ 0x01 ∷ 0xFF ∷ 0xFF ∷ 0xFF ∷ 0x00 ∷ 0x00 ∷ 0x00 ∷ [])
     (refusal is 30 ∷ oldRefusal is 0
-    ∷ rewrites is (0x02 ∷ 0x00 ∷ 0x00 ∷ 0x00 ∷ 0x00 ∷ 0x00 ∷ []) ∷ [])
+    ∷ rewrites is (0x02 ∷ 0x00 ∷ 0x00 ∷ 0x00 ∷ 0x00 ∷ 0x00 ∷ 0x00 ∷ 0x01 ∷ 0x00 ∷ 0x00 ∷ [])
+    ∷ [])
 
 -- The others keep their order, and changes and steps stay as they are.
 abbrev deadAmongLive : Case
 deadAmongLive =
     case
-    (bench 3 (link 2 0 down ++ link 0 1 1 ++ link 1 2 down ++ link 1 0 1 ++ link 2 1 down) (both 1 2 down) (learn 1))
+    (stored 3 (link 2 0 down ++ link 0 1 1 ++ link 1 2 down ++ link 1 0 1 ++ link 2 1 down) (both 1 2 down) (learn 1))
     (refusal is 30 ∷ rewrites is bench 3 (both 0 1 1) (both 1 2 down) (learn 1) ∷ [])
 
 -- The same dead link twice: 30 comes before 7, and for the old reader the pair is in the list already.
 abbrev deadTwice : Case
 deadTwice =
-    case (bench 2 (link 0 1 down ++ link 0 1 down) [] [])
+    case (stored 2 (link 0 1 down ++ link 0 1 down) [] [])
     (refusal is 30 ∷ oldRefusal is 7 ∷ rewrites is word "refused 7\n" ∷ [])
 
 -- 4, 5 and 6 come before 30, and the first link with a fault decides.
 abbrev deadElsewhere : (links : List ℕ) (number old : ℕ) → Case
 deadElsewhere links number old =
-    case (bench 2 links [] []) (refusal is number ∷ oldRefusal is old ∷ [])
+    case (stored 2 links [] []) (refusal is number ∷ oldRefusal is old ∷ [])
 
--- A change may take a link down: C1.
+-- A change may take a link down: C1. The old reader takes the hold time for the count of no step, and all behind it is
+-- too much, so that a file is rewritten once.
 abbrev deadChange : Case
-deadChange = case rehearsal (refusal is 0 ∷ oldRefusal is 0 ∷ rewrites is rehearsal ∷ [])
+deadChange = case rehearsal (refusal is 0 ∷ oldRefusal is 2 ∷ rewrites is word "refused 2\n" ∷ [])
+
+-- C1 as a stored file. Read takes the count of the steps, 10, for the hold time, and the first four bytes of the steps
+-- for the step time and the count of two steps: there is too much behind these.
+abbrev storedChange : Case
+storedChange =
+    case (stored 3 (triangle 3) (both 1 2 down) tenSteps)
+    (refusal is 2 ∷ oldRefusal is 0 ∷ rewrites is rehearsal ∷ [])
 
 abbrev deadLinks : List Case
 deadLinks =
@@ -383,7 +410,7 @@ deadLinks =
     ∷ deadElsewhere (link 1 1 down) 5 5
     ∷ deadElsewhere (link 0 1 0 ++ link 1 0 down) 6 6
     ∷ deadElsewhere (link 0 1 down ++ link 1 0 0) 30 6
-    ∷ deadChange ∷ []
+    ∷ deadChange ∷ storedChange ∷ []
 
 -- ---- areas from IS-IS (02, No. 6)
 -- an identity, all of whose seven bytes are x; a row of the table of identities; an entry at the metric m
@@ -464,7 +491,7 @@ hub (suc k) = hub k ++ both 0 (suc k) down
 
 -- A file has up to 64 routers.
 abbrev sixtyFour : Case
-sixtyFour = case (bench 64 (both 62 63 1) [] []) (oldRefusal is 0 ∷ [])
+sixtyFour = case (stored 64 (both 62 63 1) [] []) (oldRefusal is 0 ∷ [])
 
 abbrev sixtyFive : Case
 sixtyFive = case (bench 65 (both 62 63 1) [] []) (refusal is 3 ∷ oldRefusal is 3 ∷ [])
@@ -607,6 +634,91 @@ notDueWaits =
 abbrev fiveNextHops : List Case
 fiveNextHops = fiveEqual ∷ highestGoes ∷ lowestGoes ∷ notDueWaitedFor ∷ notDueWaits ∷ []
 
+-- ---- rank timers (02, No. 10)
+-- C1 with a hold time and a step time
+abbrev timedC1 : (hold pace : ℕ) (steps : List ℕ) → List ℕ
+timedC1 hold pace steps = timed hold pace 3 (triangle 3) (both 1 2 down) steps
+
+-- The record has the times of the file, high byte first; the clock and the learn times are 0. They change no rank.
+abbrev freshTimes : Case
+freshTimes =
+    case (timedC1 258 772 [])
+    (times is (258 ∷ 772 ∷ 0 ∷ 0 ∷ 0 ∷ 0 ∷ []) ∷ ranks is (0 ∷ 1 ∷ 0 ∷ []) ∷ needs is 15 ∷ [])
+
+abbrev longestTimes : Case
+longestTimes =
+    case (timedC1 65_535 65_535 [])
+    (refusal is 0 ∷ times is (65_535 ∷ 65_535 ∷ 0 ∷ 0 ∷ 0 ∷ 0 ∷ []) ∷ [])
+
+-- Read takes a step time of 0, and Plan refuses it, before all that is wrong with the changes: here there is none. The
+-- record has no time.
+abbrev noStepTime : Case
+noStepTime = case (timedC1 7 0 []) (refusal is 36 ∷ times is (0 ∷ 0 ∷ 0 ∷ 0 ∷ 0 ∷ 0 ∷ []) ∷ [])
+
+abbrev noStepTimeFirst : Case
+noStepTimeFirst = case (timed 7 0 3 (triangle 3) [] []) (refusal is 36 ∷ [])
+
+-- A tick moves the clock, whatever its other bytes are. Learn notes it, and release does not. There is no kind 7.
+abbrev learnTimes : Case
+learnTimes =
+    case
+    (timedC1 0 1
+    (tick 0 0 ++ learn 0 ++ tick 64 255 ++ learn 2 ++ tick 3 3 ++ release 0 ++ (7 ∷ 0 ∷ 0 ∷ [])))
+    (allSteps is (ok ∷ ok ∷ ok ∷ ok ∷ ok ∷ ok ∷ refused 21 ∷ [])
+    ∷ timesAfter is (0 ∷ 1 ∷ 3 ∷ 1 ∷ 0 ∷ 2 ∷ []) ∷ [])
+
+-- With hold time 2, router 0 learns at 1 and is held until 3. An idle router is refused for its state.
+abbrev holdDown : Case
+holdDown =
+    case
+    (timedC1 2 1 (release 0 ++ tick 0 0 ++ learn 0 ++ release 0 ++ tick 0 0 ++ release 0 ++ tick 0 0 ++ release 0))
+    (allSteps is (refused 23 ∷ ok ∷ ok ∷ refused 34 ∷ ok ∷ refused 34 ∷ ok ∷ ok ∷ []) ∷ [])
+
+-- The only link of two routers goes down, as above, with hold time 1 and step time 2. Router 0 waits for 1, and so has
+-- rank 1. It learns at 0: due at 0 + 1 + 1 * 2 = 3, and 24 up to then. No message comes. Of its calls four count, and 5
+-- are missing: router 1 learns, is released, writes and finishes, and its message.
+abbrev timedLink : (steps : List ℕ) → List ℕ
+timedLink steps = timed 1 2 2 (both 0 1 1) (both 0 1 down) steps
+
+abbrev byTimer : Case
+byTimer =
+    case
+    (timedLink
+    (learn 0 ++ tick 0 0 ++ release 0 ++ tick 0 0 ++ write 0 1 ++ finish 0 ++ tick 0 0
+    ++ finish 0 ++ write 0 1 ++ finish 0))
+    (dueTime 0 is 3
+    ∷ allSteps is (ok ∷ ok ∷ ok ∷ ok ∷ refused 24 ∷ refused 24 ∷ ok ∷ refused 26 ∷ ok ∷ ok ∷ [])
+    ∷ needs is 9 ∷ missing is 5 ∷ [])
+
+-- both learn, are released at 1, and 0 writes by its timer at 3; then 1 is done
+abbrev writtenByTimer : List ℕ
+writtenByTimer =
+    learn 0 ++ learn 1 ++ tick 0 0 ++ release 0 ++ release 1 ++ tick 0 0 ++ tick 0 0
+    ++ write 0 1 ++ write 1 0 ++ finish 1
+
+-- The message still comes while 0 is ongoing, and is taken: nine calls count, and the three ticks do not.
+abbrev lateMessage : Case
+lateMessage =
+    case (timedLink (writtenByTimer ++ deliver 1 0 ++ finish 0))
+    (allSteps is replicate 12 ok ∷ needs is 9 ∷ missing is 0 ∷ [])
+
+-- It comes once 0 is done, and is ignored: all routers are done, and one call is missing.
+abbrev lostMessage : Case
+lostMessage =
+    case (timedLink (writtenByTimer ++ finish 0 ++ deliver 1 0))
+    (allSteps is (replicate 11 ok ++ (ignored ∷ [])) ∷ needs is 9 ∷ missing is 1 ∷ [])
+
+-- The same with a longer hold time, of which the due time has all: router 1 learns at 2.
+abbrev dueTimes : Case
+dueTimes =
+    case (timed 300 1_000 2 (both 0 1 1) (both 0 1 down) (tick 0 0 ++ learn 0 ++ tick 0 0 ++ learn 1))
+    (dueTime 0 is 1_301 ∷ dueTime 1 is 302 ∷ [])
+
+abbrev timers : List Case
+timers =
+    freshTimes ∷ longestTimes ∷ noStepTime ∷ noStepTimeFirst ∷ learnTimes ∷ holdDown ∷ byTimer
+    ∷ lateMessage ∷ lostMessage ∷ dueTimes ∷ []
+
 -- ---- the rehearsal, with the lines that 01 has below its file, as they are since 02, No. 2, and the one of No. 8
 abbrev routerLines : List ℕ
 routerLines =
@@ -639,7 +751,7 @@ cases : List Case
 cases =
     C1 ∷ C2 ∷ C3 ∷ C4 ∷ C5 ∷ C6 ∷ C7 ∷ C8 ∷ C9 ∷ C10 ∷ C11 ∷ C12 ∷ C13
     ∷ sheets ++ orders ++ halfLinks ++ deadLinks ++ isisAreas ++ isisFaults ++ largest ++ counted ++ fiveNextHops
-    ++ rehearsed
+    ++ timers ++ rehearsed
 
 -- the questions of a row, with the definitions' answers
 abbrev answered : (c : Case) → List Result
@@ -650,39 +762,46 @@ abbrev Agree : (cs : List Case) → Type 0
 Agree [] = Unit {0}
 Agree (c ∷ cs) = (answered c ≡ c .results) × Agree cs
 
--- The definitions agree with the list: both sides are computed, in each of its 78 rows.
+-- The definitions agree with the list: both sides are computed, in each of its 89 rows.
 last-rows : Agree rehearsed
 unfolding answer
 last-rows = (refl, (refl, tt))
 
-five-rows : Agree (fiveNextHops ++ rehearsed)
+timed-rows : Agree (timers ++ rehearsed)
 unfolding answer
-five-rows = (refl, (refl, (refl, (refl, (refl, last-rows)))))
+timed-rows = (refl, (refl, (refl, (refl, (refl, (refl, (refl, (refl, (refl, (refl, last-rows))))))))))
 
-counted-rows : Agree (counted ++ fiveNextHops ++ rehearsed)
+five-rows : Agree (fiveNextHops ++ timers ++ rehearsed)
+unfolding answer
+five-rows = (refl, (refl, (refl, (refl, (refl, timed-rows)))))
+
+counted-rows : Agree (counted ++ fiveNextHops ++ timers ++ rehearsed)
 unfolding answer
 counted-rows = (refl, (refl, (refl, (refl, (refl, (refl, (refl, (refl, (refl, five-rows)))))))))
 
-large-rows : Agree (largest ++ counted ++ fiveNextHops ++ rehearsed)
+large-rows : Agree (largest ++ counted ++ fiveNextHops ++ timers ++ rehearsed)
 unfolding answer hub
 large-rows = (refl, (refl, (refl, (refl, (refl, counted-rows)))))
 
-isis-rows : Agree (isisFaults ++ largest ++ counted ++ fiveNextHops ++ rehearsed)
+isis-rows : Agree (isisFaults ++ largest ++ counted ++ fiveNextHops ++ timers ++ rehearsed)
 unfolding answer
 isis-rows = (refl, (refl, (refl, (refl, (refl, (refl, (refl, (refl, (refl, (refl, (refl, (refl, large-rows))))))))))))
 
-dead-rows : Agree (deadLinks ++ isisAreas ++ isisFaults ++ largest ++ counted ++ fiveNextHops ++ rehearsed)
-unfolding answer
-dead-rows = (refl, (refl, (refl, (refl, (refl, (refl, (refl, (refl, (refl, (refl, (refl, (refl, isis-rows))))))))))))
+dead-rows : Agree (deadLinks ++ isisAreas ++ isisFaults ++ largest ++ counted ++ fiveNextHops ++ timers ++ rehearsed)
+unfolding answer tenSteps
+dead-rows =
+    (refl, (refl, (refl, (refl, (refl, (refl, (refl, (refl, (refl, (refl, (refl, (refl, (refl, isis-rows)))))))))))))
 
-half-rows : Agree (halfLinks ++ deadLinks ++ isisAreas ++ isisFaults ++ largest ++ counted ++ fiveNextHops ++ rehearsed)
+half-rows :
+    Agree
+    (halfLinks ++ deadLinks ++ isisAreas ++ isisFaults ++ largest ++ counted ++ fiveNextHops ++ timers ++ rehearsed)
 unfolding answer
 half-rows = (refl, (refl, (refl, (refl, (refl, (refl, (refl, (refl, (refl, (refl, (refl, dead-rows)))))))))))
 
 others :
     Agree
     (sheets ++ orders ++ halfLinks ++ deadLinks ++ isisAreas ++ isisFaults ++ largest ++ counted ++ fiveNextHops
-    ++ rehearsed)
+    ++ timers ++ rehearsed)
 unfolding answer
 others = (refl, (refl, (refl, (refl, (refl, (refl, (refl, (refl, (refl, half-rows)))))))))
 

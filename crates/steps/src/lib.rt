@@ -1,25 +1,29 @@
 // The steps of an ordered update (01, "The steps"): a machine over the record that a plan hands back.
 // The way of a step, from its bytes to the record:
 //     run, Machine::step       a list of steps as bytes, and one step, on a record by value: both take the record's
-//                              tables out of it, lend them to `lent::step`, and put them back
-//     lent::step               one step over n and lent tables: the refusals that every kind has, and then the call
-//     moves, messages          the call of each kind: learn, release, write and finish of one router, deliver between
-//                              two. Here a router's entries are read and written, by its index
+//                              tables and clock out of it, lend them to `lent::step`, and put them back
+//     lent::step               one step over n, lent tables and times: the refusals that every kind has, and then the
+//                              call
+//     moves, messages, timers  the call of each kind: learn, release, write and finish of one router, deliver between
+//                              two, and tick. Here a router's entries are read and written, by its index
 // The machine is defined in the crate machine, specs/Machine.antt. What the functions over lent tables promise of it
 // has a name in specs/Lent.antt; their proofs cite a law of machine's StepLaws for each way that a call can end.
 pub mod lent;
 mod messages;
 mod moves;
+pub mod timers;
 
 use machine::Answer;
 use machine::DELIVER;
 use machine::FINISH;
 use machine::LEARN;
 use machine::RELEASE;
+use machine::TICK;
 use machine::WRITE;
 use plan::Record;
 ghost use mathlib.Core.Path.{_≡_};
-ghost use Rattle.machine.specs.Machine.{learnKind, releaseKind, writeKind, finishKind, deliverKind, stepOf};
+ghost use Rattle.machine.specs.Machine.{learnKind, releaseKind, writeKind, finishKind, deliverKind, tickKind};
+ghost use Rattle.machine.specs.Machine.{stepOf};
 ghost use Rattle.machine.specs.Run.{run, callsOf};
 ghost use Rattle.steps.specs.Outcomes.{outcomeOf};
 
@@ -70,23 +74,38 @@ impl Machine {
         self.step(DELIVER, from, to)
     }
 
+    // The clock goes on.
+    pub fn tick(self) -> Stepped
+        ensures outcome { λ r. ⌜ outcomeOf r ≡ stepOf (self .now) tickKind 0 0 ⌝ }
+    {
+        self.step(TICK, 0, 0)
+    }
+
     // One step, by its kind.
     pub fn step(self, kind: u8, a: u8, b: u8) -> Stepped
         ensures outcome { λ r. ⌜ outcomeOf r ≡ stepOf (self .now) kind a b ⌝ }
     {
         let mut next = self.now;
+        let ranks = next.ranks;
         let mut waiting = next.waiting;
         let telling = next.telling;
         let due = next.due;
         let mut states = next.states;
         let mut written = next.written;
+        let mut clock = next.clock;
+        let mut learn_times = next.learn_times;
         let answer = lent::step(
             next.n,
+            &ranks,
             &mut waiting,
             &telling,
             &due,
             &mut states,
             &mut written,
+            next.hold_time,
+            next.step_time,
+            &mut clock,
+            &mut learn_times,
             kind,
             a,
             b,
@@ -94,6 +113,8 @@ impl Machine {
         next.waiting = waiting;
         next.states = states;
         next.written = written;
+        next.clock = clock;
+        next.learn_times = learn_times;
         Stepped { next, answer }
     }
 }
@@ -103,11 +124,16 @@ pub fn run(first: Record, bytes: &[u8]) -> Record
     ensures last { λ r. ⌜ r ≡ run first (callsOf (now (bytes .entry))) ⌝ }
 {
     let n = first.n;
+    let ranks = first.ranks;
     let mut waiting = first.waiting;
     let telling = first.telling;
     let due = first.due;
     let mut states = first.states;
     let mut written = first.written;
+    let hold_time = first.hold_time;
+    let step_time = first.step_time;
+    let mut clock = first.clock;
+    let mut learn_times = first.learn_times;
     let mut at = 0;
     while at + 2 < bytes.len() {
         let kind = bytes[at];
@@ -115,11 +141,16 @@ pub fn run(first: Record, bytes: &[u8]) -> Record
         let b = bytes[at + 2];
         lent::step(
             n,
+            &ranks,
             &mut waiting,
             &telling,
             &due,
             &mut states,
             &mut written,
+            hold_time,
+            step_time,
+            &mut clock,
+            &mut learn_times,
             kind,
             a,
             b,
@@ -130,5 +161,7 @@ pub fn run(first: Record, bytes: &[u8]) -> Record
     last.waiting = waiting;
     last.states = states;
     last.written = written;
+    last.clock = clock;
+    last.learn_times = learn_times;
     last
 }

@@ -1,6 +1,9 @@
-// The moves of one router, over the tables per router that each reads and changes. Each is the call of its kind: first
-// the refusals in their order, of which 23 is that the event leads nowhere from the router's state (`State::after`);
-// then one entry is written. What they promise is specs/Lent.antt.
+// The moves of one router, over the tables per router that each reads and changes, and the times. Each is the call of
+// its kind: first the refusals in their order, of which 23 is that the event leads nowhere from the router's state
+// (`State::after`); then its entry is written. What they promise is specs/Lent.antt.
+use crate::timers::due_time;
+use crate::timers::held_until;
+use crate::timers::must_wait;
 use area::limits::Set;
 use area::limits::WIDTH;
 use area::refusal::Refusal;
@@ -17,49 +20,75 @@ ghost use Rattle.machine.specs.Answers.{replyOf};
 ghost use Rattle.steps.specs.Lent.{Learns, Releases, Writes, Finishes};
 
 // A router learns of the change.
-pub(crate) fn learn(states: &mut [u8; WIDTH], i: usize) -> Answer
+pub(crate) fn learn(
+    states: &mut [u8; WIDTH],
+    clock: u32,
+    learn_times: &mut [u32; WIDTH],
+    i: usize,
+) -> Answer
     requires { ⌜ i < width ⌝ }
-    ensures { λ r. ⌜ Learns (now (states .entry)) (now (states .exit)) i (replyOf r) ⌝ }
+    ensures { λ r. ⌜
+        Learns clock (now (states .entry)) (now («learn_times» .entry))
+        (now (states .exit)) (now («learn_times» .exit)) i (replyOf r) ⌝ }
 {
     let NextState::To(holding) = named(states[i]).after(Event::Learn) else {
         return Answer::Refused(Refusal::State);
     };
     states[i] = holding.number();
+    learn_times[i] = clock;
     Answer::Ok
 }
 
 // The hold-down of a router is over.
-pub(crate) fn release(states: &mut [u8; WIDTH], i: usize) -> Answer
+pub(crate) fn release(
+    states: &mut [u8; WIDTH],
+    hold_time: u16,
+    clock: u32,
+    learn_times: &[u32; WIDTH],
+    i: usize,
+) -> Answer
     requires { ⌜ i < width ⌝ }
-    ensures { λ r. ⌜ Releases (now (states .entry)) (now (states .exit)) i (replyOf r) ⌝ }
+    ensures { λ r. ⌜
+        Releases «hold_time» clock (now («learn_times» .entry))
+        (now (states .entry)) (now (states .exit)) i (replyOf r) ⌝ }
 {
     let NextState::To(ongoing) = named(states[i]).after(Event::Release) else {
         return Answer::Refused(Refusal::State);
     };
+    let now = clock as u64;
+    if now < held_until(learn_times[i], hold_time) {
+        return Answer::Refused(Refusal::TooEarly);
+    }
     states[i] = ongoing.number();
     Answer::Ok
 }
 
 // A router writes its new next hops to destination d.
 pub(crate) fn write(
+    ranks: &[u8; WIDTH],
     waiting: &[Set; WIDTH],
     due: &[Set; WIDTH],
     states: &[u8; WIDTH],
     written: &mut [Set; WIDTH],
+    hold_time: u16,
+    step_time: u16,
+    clock: u32,
+    learn_times: &[u32; WIDTH],
     i: usize,
     d: usize,
 ) -> Answer
     requires { ⌜ i < width ⌝ }
     ensures { λ r. ⌜
-        Writes (now (waiting .entry)) (now (due .entry)) (now (states .entry))
+        Writes (now (ranks .entry)) (now (waiting .entry)) (now (due .entry)) (now (states .entry))
+        «hold_time» «step_time» clock (now («learn_times» .entry))
         (now (written .entry)) (now (written .exit)) i d (replyOf r) ⌝ }
 {
     // The next state is ongoing again, so it need not be stored.
     let NextState::To(_) = named(states[i]).after(Event::Write) else {
         return Answer::Refused(Refusal::State);
     };
-    let waits_for = waiting[i];
-    if waits_for != 0 {
+    let due_at = due_time(learn_times[i], hold_time, ranks[i], step_time);
+    if must_wait(waiting[i], clock, due_at) {
         return Answer::Refused(Refusal::Waiting);
     }
     if !member(due[i], d) {
@@ -75,22 +104,28 @@ pub(crate) fn write(
 
 // A router has written all that is due, and is done.
 pub(crate) fn finish(
+    ranks: &[u8; WIDTH],
     waiting: &[Set; WIDTH],
     due: &[Set; WIDTH],
     states: &mut [u8; WIDTH],
     written: &[Set; WIDTH],
+    hold_time: u16,
+    step_time: u16,
+    clock: u32,
+    learn_times: &[u32; WIDTH],
     i: usize,
 ) -> Answer
     requires { ⌜ i < width ⌝ }
     ensures { λ r. ⌜
-        Finishes (now (waiting .entry)) (now (due .entry)) (now (written .entry))
+        Finishes (now (ranks .entry)) (now (waiting .entry)) (now (due .entry)) (now (written .entry))
+        «hold_time» «step_time» clock (now («learn_times» .entry))
         (now (states .entry)) (now (states .exit)) i (replyOf r) ⌝ }
 {
     let NextState::To(done) = named(states[i]).after(Event::Finish) else {
         return Answer::Refused(Refusal::State);
     };
-    let unheard = waiting[i];
-    if unheard != 0 {
+    let last_wait = due_time(learn_times[i], hold_time, ranks[i], step_time);
+    if must_wait(waiting[i], clock, last_wait) {
         return Answer::Refused(Refusal::Waiting);
     }
     let all_written = is_subset(due[i], written[i]);

@@ -17,7 +17,8 @@ pub(crate) fn kind(words: &[u8], k: usize) -> u8 {
         b'W' => 3,
         b'F' => 4,
         b'D' => 5,
-        b'S' => 6,
+        b'T' => 6,
+        b'S' => 7,
         b'X' => 255,
         _ => 0,
     }

@@ -2,15 +2,19 @@
 // of stdin say what a case is.
 //     run        the lines of the input
 //     records    the first record of a case: Plan's, one made by hand, or the one that the case before has left
+//     planning   Plan's record, and its sets of four
 //     taking     takes the steps of a case, one by one and then all at once
 //     call       the numbers of a step
 //     others     other ways to take a step, which must not differ
 //     compare    in how many entries two records differ
 //     show       parts of a line of the output
+//     pointers   where packets go after the last step
 //     table      the table of states and events, which comes last
 mod call;
 mod compare;
 mod others;
+mod planning;
+mod pointers;
 mod records;
 mod show;
 mod table;
@@ -22,7 +26,7 @@ use libc::STDIN_FILENO;
 use plan::Record;
 
 fn main() {
-    let mut input = [0u8; 16384];
+    let mut input = [0u8; 32768];
     let length = io::read_full(STDIN_FILENO, &mut input);
     run(&input[..length]);
     table::show();
@@ -48,5 +52,7 @@ fn case(left: Record, line: &[u8]) -> Record {
 // The words of the record, and after a colon those of the steps.
 fn parts(left: Record, words: &[u8]) -> Record {
     let first = records::with_words(left, lines::name(words));
-    taking::steps(first, lines::words(words))
+    let last = taking::steps(first, lines::words(words));
+    pointers::show(last, lines::name(words));
+    last
 }

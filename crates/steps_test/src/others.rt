@@ -32,12 +32,13 @@ pub(crate) fn method(now: Record, kind: u8, a: u8, b: u8) -> Stepped {
         3 => machine.write(a, b),
         4 => machine.finish(a),
         5 => machine.deliver(a, b),
+        6 => machine.tick(),
         _ => machine.step(kind, a, b),
     }
 }
 
 fn unlike(x: Stepped, y: Stepped) -> u64
-    ensures { λ r. ⌜ r ≤ 6 * width + 4 ⌝ }
+    ensures { λ r. ⌜ r ≤ 7 * width + 7 ⌝ }
 {
     let x_next = x.next;
     let y_next = y.next;

@@ -1,14 +1,9 @@
 // Records: Plan's, and those made by hand.
-use area::limits::CELLS;
+use crate::planning;
 use area::limits::WIDTH;
-use cases::LONG_LIST;
-use cases::LONG_TABLE;
-use cases::lists;
-use cases::metrics;
 use cases::read;
 use plan::Record;
-ghost use Prim.Native.Nat.{_*_, _+_, _<_, _≤_};
-ghost use Rattle.area.specs.Limits.{mostChanges};
+ghost use Prim.Native.Nat.{_<_};
 
 // The record with what the words say.
 pub(crate) fn with_words(left: Record, words: &[u8]) -> Record {
@@ -26,15 +21,18 @@ fn with_word(r: Record, words: &[u8], k: usize) -> Record
     let letter = read::mark(words, k);
     let x = read::number(words, k);
     if letter == b'p' {
-        return planned(x as usize, words);
+        return planning::record(words);
     }
     if letter == b'n' {
         return blank(x, read::value(words, b'r', 0), read::value(words, b'q', 0));
     }
+    if letter == b'h' || letter == b'm' || letter == b'y' {
+        return with_time(r, letter, x);
+    }
     with_entry(r, letter, x as usize, read::number(words, k + 1))
 }
 
-// A record in which all else is 0.
+// A record with step time 1, in which all else is 0.
 pub(crate) fn blank(n: u64, root: u64, direction: u64) -> Record {
     Record {
         n: byte(n),
@@ -46,7 +44,21 @@ pub(crate) fn blank(n: u64, root: u64, direction: u64) -> Record {
         due: [0; WIDTH],
         states: [0; WIDTH],
         written: [0; WIDTH],
+        hold_time: 0,
+        step_time: 1,
+        clock: 0,
+        learn_times: [0; WIDTH],
     }
+}
+
+// The record with another hold time, step time or clock.
+fn with_time(mut r: Record, letter: u8, x: u64) -> Record {
+    match letter {
+        b'h' => r.hold_time = (x % 65536) as u16,
+        b'm' => r.step_time = (x % 65536) as u16,
+        _ => r.clock = time(x),
+    }
+    r
 }
 
 // The record with one entry of router i replaced.
@@ -61,6 +73,7 @@ fn with_entry(mut r: Record, letter: u8, i: usize, x: u64) -> Record {
         b't' => r.telling[i] = x,
         b'd' => r.due[i] = x,
         b'v' => r.written[i] = x,
+        b'l' => r.learn_times[i] = time(x),
         _ => {}
     }
     r
@@ -70,38 +83,6 @@ fn byte(x: u64) -> u8 {
     (x % 256) as u8
 }
 
-// Plan's record for the links and the changes of the words: all 0 where it refuses.
-fn planned(n: usize, words: &[u8]) -> Record {
-    let mut old = [0; LONG_TABLE];
-    let mut list = [0; LONG_LIST];
-    metrics::fill(&mut old, words);
-    let bytes = lists::fill(&mut list, words);
-    plan(n, &old, &list, bytes)
-}
-
-fn plan(n: usize, old: &[u32; LONG_TABLE], list: &[u8; LONG_LIST], bytes: usize) -> Record
-    requires { ⌜ bytes ≤ 5 * (mostChanges + 2) ⌝ }
-{
-    let mut new = [0; CELLS];
-    let mut old_dist = [0; CELLS];
-    let mut old_hops = [0; CELLS];
-    let mut old_fours = [0; CELLS];
-    let mut new_dist = [0; CELLS];
-    let mut new_hops = [0; CELLS];
-    let mut new_fours = [0; CELLS];
-    let table = &old[..];
-    let changes = &list[..];
-    let p = plan::plan(
-        n,
-        &table[0..CELLS],
-        &changes[0..bytes],
-        &mut new,
-        &mut old_dist,
-        &mut old_hops,
-        &mut old_fours,
-        &mut new_dist,
-        &mut new_hops,
-        &mut new_fours,
-    );
-    p.record
+fn time(x: u64) -> u32 {
+    (x % 4294967296) as u32
 }

@@ -37,22 +37,30 @@ pub(crate) fn outcome(number: u8) {
     }
 }
 
-// State, waiting, due and written set of each router of the area.
+pub(crate) fn clock(time: u32) {
+    print::form(b"; clock #", &[time as u64]);
+}
+
+// State, waiting, due and written set and learn time of each router of the area.
 pub(crate) fn routers<'a>(
     n: u8,
     states: &'a [u8; WIDTH],
     waiting: &'a [Set; WIDTH],
     due: &'a [Set; WIDTH],
     written: &'a [Set; WIDTH],
+    learn_times: &'a [u32; WIDTH],
 ) {
     print::byte(b';');
     for k in 0..WIDTH {
         if k < n as usize {
-            router(states[k], waiting[k], due[k], written[k]);
+            router(states[k], waiting[k], due[k], written[k], learn_times[k]);
         }
     }
 }
 
-fn router(state: u8, waiting: Set, due: Set, written: Set) {
-    print::form(b" #/#/#/#", &[state as u64, waiting, due, written]);
+fn router(state: u8, waiting: Set, due: Set, written: Set, learn_time: u32) {
+    print::form(
+        b" #/#/#/#/#",
+        &[state as u64, waiting, due, written, learn_time as u64],
+    );
 }

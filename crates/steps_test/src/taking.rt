@@ -21,7 +21,15 @@ pub(crate) fn steps(first: Record, words: &[u8]) -> Record {
         end = call::put(&mut bytes, end, words, k);
         now = step(now, words, k);
     }
-    show::routers(now.n, &now.states, &now.waiting, &now.due, &now.written);
+    show::clock(now.clock);
+    show::routers(
+        now.n,
+        &now.states,
+        &now.waiting,
+        &now.due,
+        &now.written,
+        &now.learn_times,
+    );
     print::form(b"; methods # run", &[differing]);
     again(first, now, &bytes, end);
     now

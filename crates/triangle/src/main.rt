@@ -29,6 +29,8 @@ fn main() {
     let changes = [1, 2, 255, 255, 255, 2, 1, 255, 255, 255]; // the links 1 to 2 and 2 to 1 go down
     let planned = plan::plan(
         3,
+        0, // hold time
+        1, // step time
         &old,
         &changes,
         &mut new,

@@ -6,6 +6,7 @@ use area::limits::CELLS;
 use area::limits::LARGEST;
 use area::limits::Set;
 use area::limits::UNUSED;
+use report::Text;
 use report::UNFINISHED_ROOM;
 ghost use mathlib.Core.Path.{_≡_};
 ghost use mathlib.Core.List.{List};
@@ -76,7 +77,8 @@ fn whole(
         → ReadOf input (now (file .entry)) count
         → take r (now (out .exit)) ≡ unfinished input (now (old .entry)) lent) ⌝ }
 {
-    report::unfinished(
+    report::print(
+        Text::Unfinished,
         &file[..count],
         old,
         new,

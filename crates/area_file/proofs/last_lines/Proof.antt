@@ -4,29 +4,32 @@ use Rattle.area_file.specs.LineLaws.{last-appended}
 use Rattle.area_file.proofs.last_lines.Statement.{statement}
 use Rattle.area_file.proofs.last_lines.Tie as tie
 
-slice-aggregate-hex-bytes : tie.Need-slice-aggregate-hex-bytes
-slice-aggregate-hex-bytes c = search needs
+slice-aggregate-words-line : tie.Need-slice-aggregate-words-line
+slice-aggregate-words-line c = search needs
 
-hex-bytes-requires : tie.Need-hex-bytes-requires
-hex-bytes-requires c κs = search needs
+slice-aggregate-words-line-2 : tie.Need-slice-aggregate-words-line-2
+slice-aggregate-words-line-2 c = search needs
 
-slice-aggregate-append : tie.Need-slice-aggregate-append
-slice-aggregate-append c = search needs
+words-line-requires : tie.Need-words-line-requires
+words-line-requires c κs = search needs
 
-append-requires : tie.Need-append-requires
-append-requires c κs = search needs
+slice-aggregate-words-line-3 : tie.Need-slice-aggregate-words-line-3
+slice-aggregate-words-line-3 c = search needs
 
-slice-aggregate-hex-bytes-2 : tie.Need-slice-aggregate-hex-bytes-2
-slice-aggregate-hex-bytes-2 c = search needs
+slice-aggregate-words-line-4 : tie.Need-slice-aggregate-words-line-4
+slice-aggregate-words-line-4 c = search needs
 
-hex-bytes-requires-2 : tie.Need-hex-bytes-requires-2
-hex-bytes-requires-2 c κs = search needs
+words-line-requires-2 : tie.Need-words-line-requires-2
+words-line-requires-2 c κs = search needs
 
-slice-aggregate-append-2 : tie.Need-slice-aggregate-append-2
-slice-aggregate-append-2 c = search needs
+slice-aggregate-words-line-5 : tie.Need-slice-aggregate-words-line-5
+slice-aggregate-words-line-5 c = search needs
 
-append-requires-2 : tie.Need-append-requires-2
-append-requires-2 c κs = search needs
+slice-aggregate-words-line-6 : tie.Need-slice-aggregate-words-line-6
+slice-aggregate-words-line-6 c = search needs
+
+words-line-requires-3 : tie.Need-words-line-requires-3
+words-line-requires-3 c κs = search needs
 
 same-length : tie.Need-same-length
 same-length c = search needs
@@ -38,13 +41,14 @@ pub last-lines-spec : {M : Type 1} → statement M
 last-lines-spec =
     tie.close
     (tie.spec
-    slice-aggregate-hex-bytes
-    hex-bytes-requires
-    slice-aggregate-append
-    append-requires
-    slice-aggregate-hex-bytes-2
-    hex-bytes-requires-2
-    slice-aggregate-append-2
-    append-requires-2
+    slice-aggregate-words-line
+    slice-aggregate-words-line-2
+    words-line-requires
+    slice-aggregate-words-line-3
+    slice-aggregate-words-line-4
+    words-line-requires-2
+    slice-aggregate-words-line-5
+    slice-aggregate-words-line-6
+    words-line-requires-3
     same-length
     returns)

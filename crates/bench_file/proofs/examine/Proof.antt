@@ -38,7 +38,7 @@ module _
       none : fileRefusal format f ≡ 0
       none = sym told ∙ eqb-true (verdictNumber v) 0 (sym good ∙ not-false ok h)
 
-      passed : (c : Contents) → c ≡ contents f → Owed c
+      passed : (c : Contents) → c ≡ contents format f → Owed c
       passed c e = (told, e ∙ sym (by-accepted format f none))
 
 judge-requires : tie.Need-judge-requires

@@ -86,11 +86,11 @@ module _ (f t : List ℕ) where
         long : 3 ≤ length f
         long = omega (arith, whole .size)
 
-        is-contents : x .contents ≡ contents f
+        is-contents : x .contents ≡ contents New f
         is-contents = said ∙ by-accepted New f none
 
         links-is : x .contents .links ≡ linkCount f
-        links-is = ap (λ (c : Contents). c .links) is-contents ∙ contents-links f
+        links-is = ap (λ (c : Contents). c .links) is-contents ∙ contents-links New f
 
         in-table : InTable (lent f) (x .contents .links)
         in-table = rw (lent-is f, links-is) ends
@@ -107,7 +107,7 @@ module _ (f t : List ℕ) where
             → Owed (verdictNumber (x .answer)) (x .contents) m
         passed m g = (answered, (is-contents ∙ sym same, g ∙ ap₂ linked (lent-is f) links-is ∙ sym filled))
           where
-            same : contentsOf f t ≡ contents f
+            same : contentsOf f t ≡ contents New f
             same = contents-accepted f t (read-file f t a ∙ none)
 
             filled : metricsOf f t ≡ linked (links f) (linkCount f)

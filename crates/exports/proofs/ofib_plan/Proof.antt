@@ -37,7 +37,8 @@ same-length-7 c = search needs
 returns : tie.Need-returns
 returns c =
     let handed = c .before .hand-back in
-    let handing = c .before .before .before .before .before .before .before .before .before .before .before in
+    let timed = c .before .before .before .before .before in
+    let handing = timed .before .before .before .before .before .before .before .before .before .before in
     let tables = handing .before .before .before .before .before .before .before in
     let plan = tables .before .before .before .before .before .before .before .plan in
     (c .number .ensures ∙ plan .ensures .0, (handed .ensures ∙ plan .ensures .1 .0, plan .ensures .1 .1))

@@ -55,7 +55,8 @@ returns c =
     let root-in = plan-root (a .n) (now (a .old)) (now (a .list)) p in
     let judged = start .pre .1 .0 in (
       c .fresh .ensures
-          ∙ fresh-is (a .n) (now (a .old)) (now (a .list)) (p .ready .most) root-in (a .c) (a .rising) _
+          ∙ fresh-is (a .n) (a .hold-time) (a .step-time) (now (a .old)) (now (a .list)) (p .ready .most) root-in
+          (a .c) (a .rising) _
           (judged .0) (judged .1) filled,
       filled,
     )

@@ -15,7 +15,7 @@ use Rattle.plan.proofs.fresh.Statement.{statement}
 use Rattle.plan.proofs.fresh.Tie as tie
 
 started-is :
-    (n c d : ℕ) (rising : Bool) (o p : Order) (u v : List ℕ)
+    (n h s c d : ℕ) (rising : Bool) (o p : Order) (u v : List ℕ)
     → o ≡ p
     → u ≡ v
     → d ≡ pick rising 1 2
@@ -29,18 +29,22 @@ started-is :
       due = u;
       states = zeros;
       written = zeros;
+      «hold_time» = h;
+      «step_time» = s;
+      clock = 0;
+      «learn_times» = zeros;
     }
-    ≡ started n c rising p v
-started-is n c d rising o p u v e g f = rw (e, g, f) refl
+    ≡ started n h s c rising p v
+started-is n h s c d rising o p u v e g f = rw (e, g, f) refl
 
 order-of-requires : tie.Need-order-of-requires
 order-of-requires c κs = search needs
 
-cast-t15 : tie.Need-cast-t15
-cast-t15 c = search needs
-
 cast-t17 : tie.Need-cast-t17
 cast-t17 c = search needs
+
+cast-t19 : tie.Need-cast-t19
+cast-t19 c = search needs
 
 due-table-requires : tie.Need-due-table-requires
 due-table-requires c κs = search needs
@@ -52,9 +56,10 @@ returns c =
     let a = way .before .before .before .before .before .before .args in
     let order = orderOf (a .n) (a .root) (a .rising) (now (a .old-hops)) (now (a .new-hops)) in
     let due = dueTable (a .n) (now (a .old-fours)) (now (a .new-fours)) in
-    started-is (a .n) (a .root) (way .if1 .t20) (a .rising) (made .result) order (c .due-table .result) due
+    started-is (a .n) (a .hold-time) (a .step-time) (a .root) (way .if1 .t22) (a .rising) (made .result) order
+    (c .due-table .result) due
     (made .ensures) (c .due-table .ensures)
     (⊎-elim (λ w. rw (w .0 .taken) (w .1)) (λ w. rw (w .0 .left) (w .1)) (way .if1 .came))
 
 pub fresh-spec : {M : Type 1} → statement M
-fresh-spec = tie.close (tie.spec order-of-requires cast-t15 cast-t17 due-table-requires returns)
+fresh-spec = tie.close (tie.spec order-of-requires cast-t17 cast-t19 due-table-requires returns)

@@ -20,21 +20,21 @@ use Rattle.plan.proofs.plan.Tie as tie
 
 -- what the calls before a return say of the input
 module _
-    (n : ℕ) (m l : List ℕ) (t : Tables) (sized : Bool) (told : sized ≡ areTables m t)
-    (v : Verdict) (judged : verdictNumber v ≡ planRefusal n m l sized) (ok : Bool) (is : ok ≡ eqb (verdictNumber v) 0)
+    (n s : ℕ) (m l : List ℕ) (t : Tables) (sized : Bool) (told : sized ≡ areTables m t)
+    (v : Verdict) (judged : verdictNumber v ≡ planRefusal n s m l sized) (ok : Bool) (is : ok ≡ eqb (verdictNumber v) 0)
   where
-    answered : verdictNumber v ≡ planRefusal n m l (areTables m t)
-    answered = judged ∙ ap (planRefusal n m l) told
+    answered : verdictNumber v ≡ planRefusal n s m l (areTables m t)
+    answered = judged ∙ ap (planRefusal n s m l) told
 
-    refused : not ok ≡ true → isPlanned n m l t ≡ false
-    refused h = planned-false n m l t (λ z. eqb-false (verdictNumber v) 0 (sym is ∙ not-true ok h) (answered ∙ z))
+    refused : not ok ≡ true → isPlanned n s m l t ≡ false
+    refused h = planned-false n s m l t (λ z. eqb-false (verdictNumber v) 0 (sym is ∙ not-true ok h) (answered ∙ z))
 
     module _ (h : not ok ≡ false) where
-      none : planRefusal n m l sized ≡ 0
+      none : planRefusal n s m l sized ≡ 0
       none = sym judged ∙ eqb-true (verdictNumber v) 0 (sym is ∙ not-false ok h)
 
-      planned : isPlanned n m l t ≡ true
-      planned = planned-true n m l t (ap (planRefusal n m l) (sym told) ∙ none)
+      planned : isPlanned n s m l t ≡ true
+      planned = planned-true n s m l t (ap (planRefusal n s m l) (sym told) ∙ none)
 
 -- the tables that were lent
 abbrev lent : tie.Start → Tables
@@ -88,14 +88,16 @@ returns c =
     let asked = sizes .before .before .before .before .before .before .before .before in
     let start = asked .before .before .before .before .before .before .before .before .before in
     let n = start .args .n in
+    let h = start .args .hold-time in
+    let s = start .args .step-time in
     let m = now (start .args .old) in
     let l = now (start .args .list) in
     let t = lent start in
-    let told = answered n m l t (sized .result) (sized .ensures) (judged .result .answer) (judged .ensures .0) in
-    let is-refused = refused n m l t (sized .result) (sized .ensures) (judged .result .answer) (judged .ensures .0) in
+    let told = answered n s m l t (sized .result) (sized .ensures) (judged .result .answer) (judged .ensures .0) in
+    let is-refused = refused n s m l t (sized .result) (sized .ensures) (judged .result .answer) (judged .ensures .0) in
     let no = is-refused (accepted .result) (accepted .ensures) (at .if1 .taken) in (
       told (accepted .result) (accepted .ensures),
-      (c .blank .ensures ∙ sym (record-refused n m l t no), sym (tables-refused n m l t no)),
+      (c .blank .ensures ∙ sym (record-refused n h s m l t no), sym (tables-refused n s m l t no)),
     )
 
 fill-requires : tie.Need-fill-requires
@@ -108,14 +110,16 @@ fill-requires c κs =
     let asked = sizes .before .before .before .before .before .before .before .before in
     let start = asked .before .before .before .before .before .before .before .before .before in
     let n = start .args .n in
+    let h = start .args .hold-time in
+    let s = start .args .step-time in
     let m = now (start .args .old) in
     let l = now (start .args .list) in
     let t = lent start in
-    let zero = none n m l t (sized .result) (sized .ensures) (judged .result .answer) (judged .ensures .0) in
-    let yes = planned n m l t (sized .result) (sized .ensures) (judged .result .answer) (judged .ensures .0) in
-    let known = planned-is n m l t .0 (yes (accepted .result) (accepted .ensures) (at .if1 .left)) in
+    let zero = none n s m l t (sized .result) (sized .ensures) (judged .result .answer) (judged .ensures .0) in
+    let yes = planned n s m l t (sized .result) (sized .ensures) (judged .result .answer) (judged .ensures .0) in
+    let known = planned-is n s m l t .0 (yes (accepted .result) (accepted .ensures) (at .if1 .left)) in
     let found = judged .ensures .1 (zero (accepted .result) (accepted .ensures) (at .if1 .left)) in
-    (known .1, (found, sized-of m t (known .0)))
+    (known .2, (found, sized-of m t (known .0)))
 
 same-length-8 : tie.Need-same-length-8
 same-length-8 c = search needs
@@ -150,15 +154,17 @@ returns-2 c =
     let asked = sizes .before .before .before .before .before .before .before .before in
     let start = asked .before .before .before .before .before .before .before .before .before in
     let n = start .args .n in
+    let h = start .args .hold-time in
+    let s = start .args .step-time in
     let m = now (start .args .old) in
     let l = now (start .args .list) in
     let t = lent start in
-    let told = answered n m l t (sized .result) (sized .ensures) (judged .result .answer) (judged .ensures .0) in
-    let is-planned = planned n m l t (sized .result) (sized .ensures) (judged .result .answer) (judged .ensures .0) in
+    let told = answered n s m l t (sized .result) (sized .ensures) (judged .result .answer) (judged .ensures .0) in
+    let is-planned = planned n s m l t (sized .result) (sized .ensures) (judged .result .answer) (judged .ensures .0) in
     let yes = is-planned (accepted .result) (accepted .ensures) (at .if1 .left) in
     let made = filled .fill .ensures in (
       told (accepted .result) (accepted .ensures),
-      (made .0 ∙ sym (record-planned n m l t yes), made .1 ∙ sym (tables-planned n m l t yes)),
+      (made .0 ∙ sym (record-planned n h s m l t yes), made .1 ∙ sym (tables-planned n s m l t yes)),
     )
 
 pub plan-spec : {M : Type 1} → statement M

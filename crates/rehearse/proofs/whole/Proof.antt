@@ -1,22 +1,23 @@
 -- The output buffer has room for the whole text (rehearsal-room), and what was read of the input decides it
--- (rehearsal-first).
+-- (text-first).
 use native.Mathlib.Omega.{arith}
 use borrow.Author.Needs.{needs}
 use lib.ListN.{length}
 use denote.Ref.{now}
 use Rattle.plan.specs.Plan.{tablesIn}
 use Rattle.report.specs.Report.{rehearsal}
+use Rattle.report.specs.declared.Text.the-variants.{Rehearsal}
 use Rattle.report.specs.RoomLaws.{rehearsal-room}
-use Rattle.report.specs.FirstBytesLaws.{rehearsal-first}
+use Rattle.report.specs.FirstBytesLaws.{text-first}
 use Rattle.streams.specs.StreamLaws.{whole-text}
 use Rattle.rehearse.proofs.whole.Statement.{statement}
 use Rattle.rehearse.proofs.whole.Tie as tie
 
-slice-aggregate-rehearse : tie.Need-slice-aggregate-rehearse
-slice-aggregate-rehearse c = search needs
+slice-aggregate-print : tie.Need-slice-aggregate-print
+slice-aggregate-print c = search needs
 
-rehearse-requires : tie.Need-rehearse-requires
-rehearse-requires c κs = search needs
+print-requires : tie.Need-print-requires
+print-requires c κs = search needs
 
 same-length : tie.Need-same-length
 same-length c = search needs
@@ -53,16 +54,16 @@ returns c =
     let m = now (a .old) in
     let t =
     tablesIn (a .new) (a .old-dist) (a .old-hops) (a .old-fours) (a .new-dist) (a .new-hops) (a .new-fours) in
-    whole-text (λ f. rehearsal f m t) file (a .count) (called .rehearse .ensures .0)
+    whole-text (λ f. rehearsal f m t) file (a .count) (called .print .ensures .0)
     (λ f. omega (arith, rehearsal-room f m t))
-    (λ f. rehearsal-first f m t (length file) (omega arith))
+    (λ f. text-first f m t (length file) (omega arith) Rehearsal)
 
 pub whole-spec : {M : Type 1} → statement M
 whole-spec =
     tie.close
     (tie.spec
-    slice-aggregate-rehearse
-    rehearse-requires
+    slice-aggregate-print
+    print-requires
     same-length
     same-length-2
     same-length-3

@@ -31,23 +31,14 @@ part-links-end c = search needs
 links-requires : tie.Need-links-requires
 links-requires c κs = search needs
 
-mul-append : tie.Need-mul-append
-mul-append c = search needs
+mul-timed-rest : tie.Need-mul-timed-rest
+mul-timed-rest c = search needs
 
-add-append : tie.Need-add-append
-add-append c = search needs
+add-timed-rest : tie.Need-add-timed-rest
+add-timed-rest c = search needs
 
-sub-append : tie.Need-sub-append
-sub-append c = search needs
-
-part-append-start : tie.Need-part-append-start
-part-append-start c = search needs
-
-part-append-end : tie.Need-part-append-end
-part-append-end c = search needs
-
-append-requires : tie.Need-append-requires
-append-requires c κs = search needs
+timed-rest-requires : tie.Need-timed-rest-requires
+timed-rest-requires c κs = search needs
 
 same-length : tie.Need-same-length
 same-length c = search needs
@@ -68,11 +59,8 @@ whole-spec =
     part-links-start
     part-links-end
     links-requires
-    mul-append
-    add-append
-    sub-append
-    part-append-start
-    part-append-end
-    append-requires
+    mul-timed-rest
+    add-timed-rest
+    timed-rest-requires
     same-length
     returns)

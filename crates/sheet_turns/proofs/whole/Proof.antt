@@ -1,22 +1,23 @@
 -- The output buffer has room for the whole text (sheet-turns-room), and what was read of the input decides it
--- (sheet-turns-first).
+-- (text-first).
 use native.Mathlib.Omega.{arith}
 use borrow.Author.Needs.{needs}
 use lib.ListN.{length}
 use denote.Ref.{now}
 use Rattle.plan.specs.Plan.{tablesIn}
 use Rattle.report.specs.Report.{sheetTurns}
+use Rattle.report.specs.declared.Text.the-variants.{SheetTurns}
 use Rattle.report.specs.RoomLaws.{sheet-turns-room}
-use Rattle.report.specs.FirstBytesLaws.{sheet-turns-first}
+use Rattle.report.specs.FirstBytesLaws.{text-first}
 use Rattle.streams.specs.StreamLaws.{whole-text}
 use Rattle.sheet_turns.proofs.whole.Statement.{statement}
 use Rattle.sheet_turns.proofs.whole.Tie as tie
 
-slice-aggregate-sheet-turns : tie.Need-slice-aggregate-sheet-turns
-slice-aggregate-sheet-turns c = search needs
+slice-aggregate-print : tie.Need-slice-aggregate-print
+slice-aggregate-print c = search needs
 
-sheet-turns-requires : tie.Need-sheet-turns-requires
-sheet-turns-requires c κs = search needs
+print-requires : tie.Need-print-requires
+print-requires c κs = search needs
 
 same-length : tie.Need-same-length
 same-length c = search needs
@@ -53,16 +54,16 @@ returns c =
     let m = now (a .old) in
     let t =
     tablesIn (a .new) (a .old-dist) (a .old-hops) (a .old-fours) (a .new-dist) (a .new-hops) (a .new-fours) in
-    whole-text (λ f. sheetTurns f m t) file (a .count) (called .sheet-turns .ensures .0)
+    whole-text (λ f. sheetTurns f m t) file (a .count) (called .print .ensures .0)
     (λ f. omega (arith, sheet-turns-room f m t))
-    (λ f. sheet-turns-first f m t (length file) (omega arith))
+    (λ f. text-first f m t (length file) (omega arith) SheetTurns)
 
 pub whole-spec : {M : Type 1} → statement M
 whole-spec =
     tie.close
     (tie.spec
-    slice-aggregate-sheet-turns
-    sheet-turns-requires
+    slice-aggregate-print
+    print-requires
     same-length
     same-length-2
     same-length-3

@@ -8,13 +8,17 @@ use borrow.Author.Needs.{needs}
 use lib.ListN.{length, getD, drop}
 use Rattle.plan.specs.declared.Record.{Record}
 use Rattle.machine.specs.Answers.{Outcome}
-use Rattle.machine.specs.Machine.{withTables, stepOf}
+use Rattle.machine.specs.Machine.{withTables, withTimes, stepOf}
 use Rattle.machine.specs.Run.{run, callsOf}
 use Rattle.machine.specs.CallLaws.{run-none, run-next}
 use Rattle.steps.proofs.run.Statement.{statement}
 use Rattle.steps.proofs.run.Tie as tie
 
 -- ---- the record at hand
+abbrev atHand : (first : Record) (waiting states written : List ℕ) (clock : ℕ) (learned : List ℕ) → Record
+atHand first waiting states written clock learned =
+    withTables (withTimes first clock learned) waiting states written
+
 module _ (first : Record) (l : List ℕ) where
   abbrev Left : Record → ℕ → Type 0
   Left r i = run first (callsOf l) ≡ run r (callsOf (drop i l))
@@ -30,11 +34,14 @@ module _ (first : Record) (l : List ℕ) where
   left-none r i e h = sym (e ∙ run-none l i r h)
 
 abbrev Inv-loop : tie.InvT-loop
-Inv-loop first bytes n waiting₀ telling due states₀ written₀ at₀ waiting states written at =
-    (at ≤ length bytes) × Left first bytes (withTables first waiting states written) at
+Inv-loop first bytes n ranks waiting₀ telling due states₀ written₀ hold step clock₀ learned₀ at₀
+    waiting states written clock learned at =
+    (at ≤ length bytes) × Left first bytes (atHand first waiting states written clock learned) at
 
 abbrev μ-loop : tie.MeasureT-loop
-μ-loop first bytes n waiting₀ telling due states₀ written₀ at₀ waiting states written at = length bytes - at
+μ-loop first bytes n ranks waiting₀ telling due states₀ written₀ hold step clock₀ learned₀ at₀
+    waiting states written clock learned at =
+    length bytes - at
 
 loop-holds : tie.Need-loop-holds Inv-loop μ-loop
 loop-holds c = (omega arith, refl)
@@ -68,19 +75,22 @@ loop-less c = omega arith
 
 loop-again : tie.Need-loop-again Inv-loop μ-loop
 loop-again c =
-    let here = c .before .before .before .before .before .before .before .before .before .before in
-    let start = here .before .before .before .before .before .before .before .args in
+    let stepped = c .before .before .before .before .before .before .before .before in
+    let here = stepped .before .before .before .before .before in
+    let start = here .before .before .before .before .before .before .before .before .before .args in
     let at-loop = here .loop in
-    let r = withTables (start .first) (at-loop .waiting) (at-loop .states) (at-loop .written) in
-    let stepped = c .step .ensures (start .first) in
+    let r = atHand (start .first) (at-loop .waiting) (at-loop .states) (at-loop .written) (at-loop .clock)
+    (at-loop .learn-times) in
+    let outcome = c .step .ensures (start .first) in
     let left = at-loop .inv .1 in
-    (omega arith, left-more (start .first) (start .bytes .now) r (at-loop .at) _ left (omega arith) stepped)
+    (omega arith, left-more (start .first) (start .bytes .now) r (at-loop .at) _ left (omega arith) outcome)
 
 returns : tie.Need-returns Inv-loop μ-loop
 returns c =
-    let start = c .before .before .before .before .before .before .before .before .args in
+    let start = c .before .before .before .before .before .before .before .before .before .before .args in
     let at-loop = c .before .loop in
-    let r = withTables (start .first) (at-loop .waiting) (at-loop .states) (at-loop .written) in
+    let r = atHand (start .first) (at-loop .waiting) (at-loop .states) (at-loop .written) (at-loop .clock)
+    (at-loop .learn-times) in
     left-none (start .first) (start .bytes .now) r (at-loop .at) (at-loop .inv .1) (omega arith)
 
 pub run-spec : {M : Type 1} → statement M

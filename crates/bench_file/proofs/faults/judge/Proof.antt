@@ -75,7 +75,7 @@ module _ (format : Format) (f : List ℕ) where
               passes :
                   not ok ≡ false
                   → (w : Verdict)
-                  → verdictNumber w ≡ restRefusal f
+                  → verdictNumber w ≡ restRefusal format f
                   → verdictNumber w ≡ fileRefusal format f
               passes h w e =
                   let accepted = eqb-true (verdictNumber v) 0 (sym good ∙ not-false ok h) in

@@ -10,6 +10,8 @@ use lib.ListN.{length, getD}
 use Rattle.area.specs.Bytes.{two}
 use Rattle.area.specs.Limits.{mostChanges, mostSteps}
 use Rattle.area.specs.Refusals.{incomplete, trailing, tooMany}
+use Rattle.bench_file.specs.declared.Format.{Format}
+use Rattle.bench_file.specs.Formats.{timesSize}
 use Rattle.bench_file.specs.Sections.{linkCount, changeCount, changesAt, stepCount, stepsAt, end}
 use Rattle.bench_file.specs.Faults.{restRefusal}
 use Rattle.bench_file.specs.FaultLaws.{read-changes, read-steps, rest-cut-count, rest-many-changes}
@@ -18,9 +20,9 @@ use Rattle.bench_file.proofs.faults.rest.Statement.{statement}
 use Rattle.bench_file.proofs.faults.rest.Tie as tie
 
 -- k links, x changes and y steps have been counted
-module _ (f : List ℕ) (k : ℕ) (is : k ≡ linkCount f) where
-  cut-count : length f < 3 + 5 * k + 1 → incomplete ≡ restRefusal f
-  cut-count a = sym (rest-cut-count f (omega (arith, is)))
+module _ (format : Format) (f : List ℕ) (k : ℕ) (is : k ≡ linkCount f) where
+  cut-count : length f < 3 + 5 * k + 1 → incomplete ≡ restRefusal format f
+  cut-count a = sym (rest-cut-count format f (omega (arith, is)))
 
   module _ (a : 3 + 5 * k + 1 ≤ length f) (x : ℕ) (told : x ≡ getD f (3 + 5 * k) 0) where
     counted : changesAt f ≤ length f
@@ -29,45 +31,47 @@ module _ (f : List ℕ) (k : ℕ) (is : k ≡ linkCount f) where
     changes : x ≡ changeCount f
     changes = read-changes f is told
 
-    many-changes : mostChanges < x → tooMany ≡ restRefusal f
-    many-changes b = sym (rest-many-changes f counted (omega (arith, changes)))
+    many-changes : mostChanges < x → tooMany ≡ restRefusal format f
+    many-changes b = sym (rest-many-changes format f counted (omega (arith, changes)))
 
-    module _ (b : x ≤ mostChanges) where
+    module _ (b : x ≤ mostChanges) (z : ℕ) (times : (z ≡ timesSize format) × (z ≤ 4)) where
       few-changes : changeCount f ≤ mostChanges
       few-changes = omega (arith, changes)
 
-      cut-changes : length f < 3 + 5 * k + 1 + 5 * x + 2 → incomplete ≡ restRefusal f
-      cut-changes c = sym (rest-cut-changes f counted few-changes (omega (arith, is, changes)))
+      cut-changes : length f < 3 + 5 * k + 1 + 5 * x + z + 2 → incomplete ≡ restRefusal format f
+      cut-changes c = sym (rest-cut-changes format f counted few-changes (omega (arith, is, changes, times .0)))
 
-      module _ (c : 3 + 5 * k + 1 + 5 * x + 2 ≤ length f) (y : ℕ) (stepped : y ≡ two f (3 + 5 * k + 1 + 5 * x)) where
-        whole : stepsAt f ≤ length f
-        whole = omega (arith, is, changes)
+      module _
+          (c : 3 + 5 * k + 1 + 5 * x + z + 2 ≤ length f)
+          (y : ℕ) (stepped : y ≡ two f (3 + 5 * k + 1 + 5 * x + z)) where
+        whole : stepsAt format f ≤ length f
+        whole = omega (arith, is, changes, times .0)
 
-        steps : y ≡ stepCount f
-        steps = read-steps f is told stepped
+        steps : y ≡ stepCount format f
+        steps = read-steps f is told format (times .0) stepped
 
-        many-steps : mostSteps < y → tooMany ≡ restRefusal f
-        many-steps d = sym (rest-many-steps f counted few-changes whole (omega (arith, steps)))
+        many-steps : mostSteps < y → tooMany ≡ restRefusal format f
+        many-steps d = sym (rest-many-steps format f counted few-changes whole (omega (arith, steps)))
 
         module _ (d : y ≤ mostSteps) where
-          few-steps : stepCount f ≤ mostSteps
+          few-steps : stepCount format f ≤ mostSteps
           few-steps = omega (arith, steps)
 
-          ends : end f ≡ 3 + 5 * k + 1 + 5 * x + 2 + 3 * y
-          ends = omega (arith, is, changes, steps)
+          ends : end format f ≡ 3 + 5 * k + 1 + 5 * x + z + 2 + 3 * y
+          ends = omega (arith, is, changes, steps, times .0)
 
-          cut-steps : length f < 3 + 5 * k + 1 + 5 * x + 2 + 3 * y → incomplete ≡ restRefusal f
-          cut-steps e = sym (rest-cut-steps f counted few-changes whole few-steps (omega (arith, ends)))
+          cut-steps : length f < 3 + 5 * k + 1 + 5 * x + z + 2 + 3 * y → incomplete ≡ restRefusal format f
+          cut-steps e = sym (rest-cut-steps format f counted few-changes whole few-steps (omega (arith, ends)))
 
-          module _ (e : 3 + 5 * k + 1 + 5 * x + 2 + 3 * y ≤ length f) where
-            there : end f ≤ length f
+          module _ (e : 3 + 5 * k + 1 + 5 * x + z + 2 + 3 * y ≤ length f) where
+            there : end format f ≤ length f
             there = omega (arith, ends)
 
-            more : 3 + 5 * k + 1 + 5 * x + 2 + 3 * y < length f → trailing ≡ restRefusal f
-            more g = sym (rest-more f counted few-changes whole few-steps there (omega (arith, ends)))
+            more : 3 + 5 * k + 1 + 5 * x + z + 2 + 3 * y < length f → trailing ≡ restRefusal format f
+            more g = sym (rest-more format f counted few-changes whole few-steps there (omega (arith, ends)))
 
-            passes : length f ≤ 3 + 5 * k + 1 + 5 * x + 2 + 3 * y → 0 ≡ restRefusal f
-            passes g = sym (rest-passes f counted few-changes whole few-steps there (omega (arith, ends)))
+            passes : length f ≤ 3 + 5 * k + 1 + 5 * x + z + 2 + 3 * y → 0 ≡ restRefusal format f
+            passes g = sym (rest-passes format f counted few-changes whole few-steps there (omega (arith, ends)))
 
 mul-change-count-at : tie.Need-mul-change-count-at
 mul-change-count-at c = search needs
@@ -95,6 +99,12 @@ mul-step-count-at c = search needs
 
 add-step-count-at-2 : tie.Need-add-step-count-at-2
 add-step-count-at-2 c = search needs
+
+times-size-requires : tie.Need-times-size-requires
+times-size-requires c κs = search needs
+
+add-step-count-at-3 : tie.Need-add-step-count-at-3
+add-step-count-at-3 c = search needs
 
 add-if3 : tie.Need-add-if3
 add-if3 c = search needs
@@ -139,6 +149,8 @@ rest-spec =
     add-step-count-at
     mul-step-count-at
     add-step-count-at-2
+    times-size-requires
+    add-step-count-at-3
     add-if3
     returns-3
     two-requires

@@ -13,7 +13,7 @@ use Rattle.area.specs.Tests.{first}
 use Rattle.entries.specs.Entries.{entryCount, listedRefusal}
 use Rattle.changes.specs.ChangeLaws.{Sound, sound-of}
 use Rattle.plan.specs.declared.judging.Judged.{Judged}
-use Rattle.plan.specs.PlanLaws.{Listed, plan-faulty}
+use Rattle.plan.specs.PlanLaws.{Listed, change-faulty}
 use Rattle.plan.specs.Parts.{Judges}
 use Rattle.plan.proofs.judging.judge_changes.Statement.{statement}
 use Rattle.plan.proofs.judging.judge_changes.Tie as tie
@@ -26,7 +26,7 @@ module _
   faulty : Listed n m l → not ok ≡ true → (r : Judged) → r .answer ≡ v → Judges n m l true r
   faulty listed a r given =
       let some = eqb-false (verdictNumber v) 0 (sym good ∙ not-true ok a) in
-      let e = plan-faulty n m l listed (λ z. some (told ∙ z)) in
+      let e = change-faulty n m l listed (λ z. some (told ∙ z)) in
       (ap verdictNumber given ∙ told ∙ sym e, λ z. absurd (some (told ∙ sym e ∙ z)))
 
   sound : not ok ≡ false → Sound n l

@@ -14,7 +14,7 @@ use Rattle.area.specs.Limits.{mostChanges}
 use Rattle.entries.specs.Entries.{entryCount}
 use Rattle.paths.specs.PathsLaws.{Ready}
 use Rattle.plan.specs.declared.judging.Judged.{Judged}
-use Rattle.plan.specs.PlanLaws.{Listed, plan-cut, plan-many, plan-none}
+use Rattle.plan.specs.PlanLaws.{Listed, change-cut, change-many, change-none}
 use Rattle.plan.specs.Parts.{Judges}
 use Rattle.plan.proofs.Judgements.{judged-refused}
 use Rattle.plan.proofs.judging.judge_list.Statement.{statement}
@@ -23,19 +23,19 @@ use Rattle.plan.proofs.judging.judge_list.Tie as tie
 -- one law for each return, by the tests before it
 module _ (n : ℕ) (m l : List ℕ) (ready : Ready n m) where
   cut : length l % 5 ≢ 0 → (r : Judged) → r .answer ≡ Verdict.Refused Refusal.Incomplete → Judges n m l true r
-  cut a = judged-refused n m l true 0 (Verdict.Refused Refusal.Incomplete) (plan-cut n m l ready a) refl
+  cut a = judged-refused n m l true 0 (Verdict.Refused Refusal.Incomplete) (change-cut n m l ready a) refl
 
   module _ (a : length l % 5 ≡ 0) (k : ℕ) (counted : k ≡ entryCount l) where
     many : mostChanges < k → (r : Judged) → r .answer ≡ Verdict.Refused Refusal.TooMany → Judges n m l true r
     many b =
         judged-refused n m l true 8 (Verdict.Refused Refusal.TooMany)
-        (plan-many n m l ready a (omega (arith, counted))) refl
+        (change-many n m l ready a (omega (arith, counted))) refl
 
     module _ (b : k ≤ mostChanges) where
       none : k ≡ 0 → (r : Judged) → r .answer ≡ Verdict.Refused Refusal.NoChange → Judges n m l true r
       none c =
           judged-refused n m l true 9 (Verdict.Refused Refusal.NoChange)
-          (plan-none n m l ready a (omega (arith, counted)) (sym counted ∙ c)) refl
+          (change-none n m l ready a (omega (arith, counted)) (sym counted ∙ c)) refl
 
       listed : k ≢ 0 → Listed n m l
       listed c = record { ready = ready; whole = a; most = omega (arith, counted); some = λ q. c (counted ∙ q) }

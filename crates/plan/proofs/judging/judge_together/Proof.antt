@@ -12,7 +12,7 @@ use Rattle.changes.specs.Root.{isCommon, root}
 use Rattle.plan.specs.declared.judging.Judged.{Judged}
 use Rattle.plan.specs.Direction.{isSame, isRise, isFall}
 use Rattle.plan.specs.DirectionLaws.{same-both}
-use Rattle.plan.specs.PlanLaws.{Listed, plan-same, plan-mixed, plan-apart, plan-accepted}
+use Rattle.plan.specs.PlanLaws.{Listed, change-same, change-mixed, change-apart, change-accepted}
 use Rattle.plan.specs.Parts.{Judges}
 use Rattle.plan.proofs.Judgements.{judged-refused}
 use Rattle.plan.proofs.judging.judge_together.Statement.{statement}
@@ -29,7 +29,7 @@ module _
   no-effect : same ≡ true → (r : Judged) → r .answer ≡ Verdict.Refused Refusal.SameMetric → Judges n m l true r
   no-effect b =
       judged-refused n m l true 10 (Verdict.Refused Refusal.SameMetric)
-      (plan-same n m l (given .0) (of-sound n l (given .1)) (sym is-same ∙ b)) refl
+      (change-same n m l (given .0) (of-sound n l (given .1)) (sym is-same ∙ b)) refl
 
   module _ (b : same ≡ false) (way : Bool) (one : way ≡ (rising || falling)) where
     effect : isSame n m l ≡ false
@@ -41,7 +41,7 @@ module _
     both-ways : not way ≡ true → (r : Judged) → r .answer ≡ Verdict.Refused Refusal.Mixed → Judges n m l true r
     both-ways d =
         judged-refused n m l true 11 (Verdict.Refused Refusal.Mixed)
-        (plan-mixed n m l (given .0) (of-sound n l (given .1)) effect (sym one-way ∙ not-true way d)) refl
+        (change-mixed n m l (given .0) (of-sound n l (given .1)) effect (sym one-way ∙ not-true way d)) refl
 
     module _ (d : not way ≡ false) (c : ℕ) (at : c ≡ root l) (all : Bool) (common : all ≡ isCommon l c) where
       is-common : all ≡ isCommon l (root l)
@@ -55,12 +55,12 @@ module _
           → (r : Judged) → r .answer ≡ Verdict.Refused Refusal.NoCommonRouter → Judges n m l true r
       apart f =
           judged-refused n m l true 12 (Verdict.Refused Refusal.NoCommonRouter)
-          (plan-apart n m l (given .0) (of-sound n l (given .1)) effect is-way (sym is-common ∙ not-true all f)) refl
+          (change-apart n m l (given .0) (of-sound n l (given .1)) effect is-way (sym is-common ∙ not-true all f)) refl
 
       planned : not all ≡ false → Judges n m l true (record { answer = Verdict.Accepted; root = c; rising = rising })
       planned f =
           let common = sym is-common ∙ not-false all f in
-          (sym (plan-accepted n m l (given .0) (of-sound n l (given .1)) effect is-way common), λ _. (at, rise))
+          (sym (change-accepted n m l (given .0) (of-sound n l (given .1)) effect is-way common), λ _. (at, rise))
 
 direction-of-requires : tie.Need-direction-of-requires
 direction-of-requires c κs =

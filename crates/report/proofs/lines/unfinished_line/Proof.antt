@@ -25,11 +25,8 @@ slice-aggregate-named-set-2 c = search needs
 named-set-requires-2 : tie.Need-named-set-requires-2
 named-set-requires-2 c κs = search needs
 
-slice-aggregate-append : tie.Need-slice-aggregate-append
-slice-aggregate-append c = search needs
-
-append-requires : tie.Need-append-requires
-append-requires c κs = search needs
+times-end-requires : tie.Need-times-end-requires
+times-end-requires c κs = search needs
 
 same-length : tie.Need-same-length
 same-length c = search needs
@@ -37,13 +34,13 @@ same-length c = search needs
 returns : tie.Need-returns
 returns c =
     let ends = c .before .before in
-    let unwritten = ends .before .before .before .before .before in
+    let unwritten = ends .before .before .before .before in
     let waits = unwritten .before .before .before .before .before in
     let state = waits .before .before .before .before .before in
     let router = state .before .before .before .before in
-    unfinished-appended _ _ _ _
+    unfinished-appended _ _ _ _ _ _
     (router .field .ensures) (state .state-word .ensures) (waits .named-set .ensures) (unwritten .named-set2 .ensures)
-    (ends .append .ensures)
+    (ends .times-end .ensures)
 
 pub unfinished-line-spec : {M : Type 1} → statement M
 unfinished-line-spec =
@@ -56,7 +53,6 @@ unfinished-line-spec =
     named-set-requires
     slice-aggregate-named-set-2
     named-set-requires-2
-    slice-aggregate-append
-    append-requires
+    times-end-requires
     same-length
     returns)

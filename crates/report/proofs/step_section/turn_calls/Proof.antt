@@ -41,10 +41,10 @@ turn-calls-spec =
     cast-n
     slice-aggregate-entry
     entry-requires
-    member-calls-requires
-    call-line-requires
     slice-aggregate-entry-2
     entry-requires-2
+    member-calls-requires
+    call-line-requires
     member-calls-requires-2
     same-length
     returns)

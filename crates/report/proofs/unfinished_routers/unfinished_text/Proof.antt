@@ -25,6 +25,27 @@ element-copy-out-without-2 c = search needs
 without-requires : tie.Need-without-requires
 without-requires c κs = search needs
 
+mul-held-until : tie.Need-mul-held-until
+mul-held-until c = search needs
+
+element-copy-out-held-until : tie.Need-element-copy-out-held-until
+element-copy-out-held-until c = search needs
+
+held-until-requires : tie.Need-held-until-requires
+held-until-requires c κs = search needs
+
+mul-due-time : tie.Need-mul-due-time
+mul-due-time c = search needs
+
+element-copy-out-due-time : tie.Need-element-copy-out-due-time
+element-copy-out-due-time c = search needs
+
+element-copy-out-due-time-2 : tie.Need-element-copy-out-due-time-2
+element-copy-out-due-time-2 c = search needs
+
+due-time-requires : tie.Need-due-time-requires
+due-time-requires c κs = search needs
+
 named-requires : tie.Need-named-requires
 named-requires c κs = search needs
 
@@ -54,6 +75,13 @@ unfinished-text-spec =
     mul-without-2
     element-copy-out-without-2
     without-requires
+    mul-held-until
+    element-copy-out-held-until
+    held-until-requires
+    mul-due-time
+    element-copy-out-due-time
+    element-copy-out-due-time-2
+    due-time-requires
     named-requires
     mul-unfinished-line
     element-copy-out-unfinished-line

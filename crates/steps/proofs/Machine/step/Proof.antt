@@ -8,8 +8,8 @@ step-requires c κs = search needs
 
 returns : tie.Need-returns
 returns c =
-    let taken-out = c .before .before .before .before .before .before in
-    let self = taken-out .before .before .before .before .before .before .args .self in
+    let taken-out = c .before .before .before .before .before .before .before .before in
+    let self = taken-out .before .before .before .before .before .before .before .before .before .args .self in
     c .step .ensures (self .now)
 
 pub step-spec : {M : Type 1} → statement M

@@ -2,7 +2,6 @@
 use Prim.Native.Nat.{ℕ}
 use mathlib.Core.Path.{_≡_, sym, ap, _∙_}
 use mathlib.Core.Bool.{Bool, true, false, not}
-use mathlib.Core.Logic.{_≢_}
 use borrow.Author.Tests.{not-true, not-false}
 use borrow.Author.Needs.{needs}
 use Rattle.area.specs.Limits.{width}
@@ -10,19 +9,19 @@ use Rattle.area.specs.Refusals.{stillWaiting, unwritten}
 use Rattle.sets.specs.Sets.{subset}
 use Rattle.plan.specs.declared.Record.{Record}
 use Rattle.machine.specs.Answers.{ok, refused, gives}
-use Rattle.machine.specs.Machine.{ongoing, stateOf, waitingOf, dueOf, writtenOf, withState, finish}
+use Rattle.machine.specs.Machine.{ongoing, stateOf, waitingOf, dueOf, writtenOf, dueTime, withState, mustWait, finish}
 use Rattle.machine.specs.declared.states.State.{State}
 use Rattle.machine.specs.declared.states.Event.the-variants.{Finish}
 use Rattle.machine.specs.declared.states.NextState.{NextState}
 use Rattle.machine.specs.declared.states.NextState.the-variants.{To}
 use Rattle.machine.specs.States.{stateNumber, named, nextState}
-use Rattle.machine.specs.StepLaws.{finish-waiting, finish-unwritten, finish-ok}
+use Rattle.machine.specs.StepLaws.{waitsOn, finish-waiting, finish-unwritten, finish-ok}
 use Rattle.machine.specs.StateLaws.{finish-none, finish-at, finish-to}
 use Rattle.steps.proofs.Moving.{told}
 use Rattle.steps.proofs.moves.finish.Statement.{statement}
 use Rattle.steps.proofs.moves.finish.Tie as tie
 
--- what the next state says, and the test of the two sets
+-- what the next state says, and the tests of the due time and of the two sets
 module _ (r : Record) (a : ℕ) (now : State) (is-now : now ≡ named (stateOf r a)) (next : NextState) (to : State) where
   module _ (after : next ≡ nextState now Finish) (some : next ≡ To to) where
     leads : nextState (named (stateOf r a)) Finish ≡ To to
@@ -31,17 +30,22 @@ module _ (r : Record) (a : ℕ) (now : State) (is-now : now ≡ named (stateOf r
     at : stateOf r a ≡ ongoing
     at = finish-at (stateOf r a) to leads
 
-    still-waits : waitingOf r a ≢ 0 → finish r a ≡ gives r (refused stillWaiting)
-    still-waits = finish-waiting r a at
+    module _ (late : ℕ) (is-late : late ≡ dueTime r a) (must : Bool)
+        (is-must : must ≡ mustWait (waitingOf r a) (r .clock) late) where
+      waits : must ≡ waitsOn r a
+      waits = is-must ∙ ap (mustWait (waitingOf r a) (r .clock)) is-late
 
-    module _ (free : waitingOf r a ≡ 0) (all : Bool) (is-all : all ≡ subset width (dueOf r a) (writtenOf r a)) where
-      not-whole : not all ≡ true → finish r a ≡ gives r (refused unwritten)
-      not-whole f = finish-unwritten r a at free (sym is-all ∙ not-true all f)
+      still-waits : must ≡ true → finish r a ≡ gives r (refused stillWaiting)
+      still-waits t = finish-waiting r a at (sym waits ∙ t)
 
-      finishes : (v : ℕ) → v ≡ stateNumber to → not all ≡ false → finish r a ≡ gives (withState r a v) ok
-      finishes v e t =
-          rw (e ∙ ap stateNumber (finish-to (stateOf r a) to leads))
-          (finish-ok r a at free (sym is-all ∙ not-false all t))
+      module _ (free : must ≡ false) (all : Bool) (is-all : all ≡ subset width (dueOf r a) (writtenOf r a)) where
+        not-whole : not all ≡ true → finish r a ≡ gives r (refused unwritten)
+        not-whole f = finish-unwritten r a at (sym waits ∙ free) (sym is-all ∙ not-true all f)
+
+        finishes : (v : ℕ) → v ≡ stateNumber to → not all ≡ false → finish r a ≡ gives (withState r a v) ok
+        finishes v e t =
+            rw (e ∙ ap stateNumber (finish-to (stateOf r a) to leads))
+            (finish-ok r a at (sym waits ∙ free) (sym is-all ∙ not-false all t))
 
 element-copy-out-named : tie.Need-element-copy-out-named
 element-copy-out-named c = search needs
@@ -61,11 +65,26 @@ enum-told c = search needs
 returns : tie.Need-returns
 returns c = λ (x : Record). sym (search (finish-none, told))
 
-mul-unheard : tie.Need-mul-unheard
-mul-unheard c = search needs
+mul-due-time : tie.Need-mul-due-time
+mul-due-time c = search needs
 
-element-copy-out-unheard : tie.Need-element-copy-out-unheard
-element-copy-out-unheard c = search needs
+element-copy-out-due-time : tie.Need-element-copy-out-due-time
+element-copy-out-due-time c = search needs
+
+element-copy-out-due-time-2 : tie.Need-element-copy-out-due-time-2
+element-copy-out-due-time-2 c = search needs
+
+due-time-requires : tie.Need-due-time-requires
+due-time-requires c κs = search needs
+
+mul-must-wait : tie.Need-mul-must-wait
+mul-must-wait c = search needs
+
+element-copy-out-must-wait : tie.Need-element-copy-out-must-wait
+element-copy-out-must-wait c = search needs
+
+must-wait-requires : tie.Need-must-wait-requires
+must-wait-requires c κs = search needs
 
 returns-2 : tie.Need-returns-2
 returns-2 c = λ (x : Record). sym (search still-waits)
@@ -107,8 +126,13 @@ finish-spec =
     enum-known-done
     enum-told
     returns
-    mul-unheard
-    element-copy-out-unheard
+    mul-due-time
+    element-copy-out-due-time
+    element-copy-out-due-time-2
+    due-time-requires
+    mul-must-wait
+    element-copy-out-must-wait
+    must-wait-requires
     returns-2
     mul-is-subset
     element-copy-out-is-subset

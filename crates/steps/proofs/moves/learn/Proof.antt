@@ -31,6 +31,12 @@ number-requires c κs = search needs
 element-write-states : tie.Need-element-write-states
 element-write-states c = search needs
 
+mul-learn-times : tie.Need-mul-learn-times
+mul-learn-times c = search needs
+
+element-write-learn-times : tie.Need-element-write-learn-times
+element-write-learn-times c = search needs
+
 returns-2 : tie.Need-returns-2
 returns-2 c = λ (x : Record). sym (search (learn-to, told))
 
@@ -46,4 +52,6 @@ learn-spec =
     returns
     number-requires
     element-write-states
+    mul-learn-times
+    element-write-learn-times
     returns-2)

@@ -1,5 +1,5 @@
--- `compare::routers` is safe and ends, and gives at most six for each router. The loop has passed k of the routers, and
--- counted at most six for each.
+-- `compare::routers` is safe and ends, and gives at most seven for each router. The loop has passed k of the routers,
+-- and counted at most seven for each.
 use Prim.Native.Nat.{_-_, _≤_, _*_}
 use native.Mathlib.Omega.{arith}
 use borrow.Author.Needs.{needs}
@@ -8,7 +8,7 @@ use Rattle.steps_test.proofs.compare.routers.Statement.{statement}
 use Rattle.steps_test.proofs.compare.routers.Tie as tie
 
 abbrev Inv-loop : tie.InvT-loop
-Inv-loop x y count₀ k₀ count k = (count ≤ 6 * k) × (k ≤ width)
+Inv-loop x y count₀ k₀ count k = (count ≤ 7 * k) × (k ≤ width)
 
 abbrev μ-loop : tie.MeasureT-loop
 μ-loop x y count₀ k₀ count k = width - k

@@ -7,10 +7,10 @@ use Rattle.steps_test.proofs.show.routers.Statement.{statement}
 use Rattle.steps_test.proofs.show.routers.Tie as tie
 
 abbrev Inv-loop : tie.InvT-loop
-Inv-loop n states waiting due written k₀ k = k ≤ width
+Inv-loop n states waiting due written learn-times k₀ k = k ≤ width
 
 abbrev μ-loop : tie.MeasureT-loop
-μ-loop n states waiting due written k₀ k = width - k
+μ-loop n states waiting due written learn-times k₀ k = width - k
 
 pub routers-spec : {M : Type 1} → statement M
 routers-spec =
@@ -20,6 +20,8 @@ routers-spec =
     μ-loop
     (λ c κs. omega arith)
     (λ c. search needs)
+    (λ c. omega arith)
+    (λ c. omega arith)
     (λ c. omega arith)
     (λ c. omega arith)
     (λ c. omega arith)

@@ -26,6 +26,7 @@ steps-spec =
     (λ c. omega arith)
     (λ c. search needs)
     (λ c κs. omega arith)
+    (λ c κs. omega arith)
     (λ c. omega arith)
     (λ c. omega arith)
     (λ c κs. omega arith)
