@@ -1,22 +1,22 @@
 -- A table that is filled column by column, once for every width w. A column is no part of a slice, so the whole table
--- is lent, and what comes back is that table with one column written (`withColumn`).
+-- is lent, and what comes back is that table with one column written (`with_column`).
 --     ColumnTo w t c k f u             u is t with column c written down to row k
---     column-start, column-more, column-all
+--     column_start, column_more, column_all
 --                                      this holds of t and no row, of one row more when that is written, and after the
---                                      last row u is `withColumn`
---     written_at, kept_at, column-built
---                                      the cells of `withColumn`, and the column as a list
+--                                      last row u is `with_column`
+--     written_at, kept_at, column_built
+--                                      the cells of `with_column`, and the column as a list
 --     Columns w f g k t                the columns of t before column k are those of f, and the others those of g
---     columns-start, columns-more, columns-all
+--     columns_start, columns_more, columns_all
 --                                      this holds of the table of g, and of one column more when that comes back as
 --                                      f's; where the others are those of f too, t is the table of f
 use Rattle.std.specs.Prelude.{ℕ, ◌+◌, ◌*◌, ◌/◌, ◌%◌, ◌<◌, ◌≤◌, ◌≡◌, refl, ◌≢◌, ◌⊎◌, List, length, get_or, set, eqb}
 use Rattle.std.proofs.Common.{sym, ap, ◌∙◌, subst, inl, inr, ⊎_elim, eq-or-lt_of_le, arith, length-set, get_or-set_same, get_or-set_other, eq-eqb, ne_eqb}
 use Rattle.std.proofs.Math.Decide.{dec_lt, ℕ_discrete}
 use Rattle.area.specs.Tests.{pick}
-use Rattle.area.specs.Tables.{build, cell, tabulate, withColumn}
-use Rattle.area.specs.TableLaws.{build-at, cell_in, row_of, column-of}
-use Rattle.area.specs.TableLaws.{length-tabulate, cell-tabulate, is-tabulate}
+use Rattle.area.specs.Tables.{build, cell, tabulate, with_column}
+use Rattle.area.specs.TableLaws.{build_at, cell_in, row_of, column_of}
+use Rattle.area.specs.TableLaws.{length_tabulate, cell_tabulate, is_tabulate}
 
 -- ---- one column, row by row
 pub record ColumnTo (w : ℕ) (t : List ℕ) (c k : ℕ) (f : ℕ → ℕ) (u : List ℕ) : Type 0 where
@@ -24,8 +24,8 @@ pub record ColumnTo (w : ℕ) (t : List ℕ) (c k : ℕ) (f : ℕ → ℕ) (u : 
   pub done : (i : ℕ) → i < k → cell w u i c ≡ f i
   pub others : (i j : ℕ) → j < w → (j ≢ c) ⊎ (k ≤ i) → cell w u i j ≡ cell w t i j
 
-pub column-start : (w : ℕ) (t : List ℕ) (c : ℕ) (f : ℕ → ℕ) → length t ≡ w * w → ColumnTo w t c 0 f t
-column-start w t c f e = record {
+pub column_start : (w : ℕ) (t : List ℕ) (c : ℕ) (f : ℕ → ℕ) → length t ≡ w * w → ColumnTo w t c 0 f t
+column_start w t c f e = record {
   size = e;
   done = λ i h. absurd (let x : ⊥ = omega arith in x);
   others = λ i j h o. refl;
@@ -35,12 +35,12 @@ column-start w t c f e = record {
 same_row : (w i j r c : ℕ) → j < w → c < w → w * i + j ≡ w * r + c → i ≡ r
 same_row w i j r c a b e = sym (row_of w i j a) ∙ ap (λ (x : ℕ). x / w) e ∙ row_of w r c b
 
-same-column : (w i j r c : ℕ) → j < w → c < w → w * i + j ≡ w * r + c → j ≡ c
-same-column w i j r c a b e = sym (column-of w i j a) ∙ ap (λ (x : ℕ). x % w) e ∙ column-of w r c b
+same_column : (w i j r c : ℕ) → j < w → c < w → w * i + j ≡ w * r + c → j ≡ c
+same_column w i j r c a b e = sym (column_of w i j a) ∙ ap (λ (x : ℕ). x % w) e ∙ column_of w r c b
 
 module _ (w : ℕ) (t : List ℕ) (c k : ℕ) (f : ℕ → ℕ) (u : List ℕ) (to : ColumnTo w t c k f u) where
-  pub column-more : (v : ℕ) → k < w → c < w → v ≡ f k → ColumnTo w t c (k + 1) f (set u (w * k + c) v)
-  column-more v l b e = record {
+  pub column_more : (v : ℕ) → k < w → c < w → v ≡ f k → ColumnTo w t c (k + 1) f (set u (w * k + c) v)
+  column_more v l b e = record {
     size = length-set u (w * k + c) v ∙ to.size;
     done = λ i h. ⊎_elim (λ (q : i ≡ k). rw q new) (λ (a : i < k). old i a)
         (eq-or-lt_of_le (let x : i ≤ k = omega arith in x));
@@ -58,7 +58,7 @@ module _ (w : ℕ) (t : List ℕ) (c k : ℕ) (f : ℕ → ℕ) (u : List ℕ) (
 
       beside : (i j : ℕ) → j < w → j ≢ c → cell w (set u (w * k + c) v) i j ≡ cell w t i j
       beside i j h n =
-          get_or-set_other u (w * k + c) (w * i + j) v 0 (λ q. n (same-column w i j k c h b q))
+          get_or-set_other u (w * k + c) (w * i + j) v 0 (λ q. n (same_column w i j k c h b q))
           ∙ to.others i j h (inl n)
 
       below : (i j : ℕ) → j < w → k < i → cell w (set u (w * k + c) v) i j ≡ cell w t i j
@@ -67,50 +67,50 @@ module _ (w : ℕ) (t : List ℕ) (c k : ℕ) (f : ℕ → ℕ) (u : List ℕ) (
           (λ q. let x = same_row w i j k c h b q in let y : ⊥ = omega arith in y)
           ∙ to.others i j h (inr (omega arith))
 
-pub column-all :
+pub column_all :
     (w : ℕ) (t : List ℕ) (c : ℕ) (f : ℕ → ℕ) (u : List ℕ)
     → 0 < w
     → ColumnTo w t c w f u
-    → u ≡ withColumn w t c f
-unfolding withColumn
-column-all w t c f u pos to =
-    is-tabulate w (λ i j. pick (eqb j c) (f i) (cell w t i j)) u pos to.size
-    (λ i j a b. by-column i j a b (ℕ_discrete j c))
+    → u ≡ with_column w t c f
+unfolding with_column
+column_all w t c f u pos to =
+    is_tabulate w (λ i j. pick (eqb j c) (f i) (cell w t i j)) u pos to.size
+    (λ i j a b. by_column i j a b (ℕ_discrete j c))
   where
-    by-column : (i j : ℕ) → i < w → j < w → Dec (j ≡ c) → cell w u i j ≡ pick (eqb j c) (f i) (cell w t i j)
-    by-column i j a b (yes e) =
+    by_column : (i j : ℕ) → i < w → j < w → Dec (j ≡ c) → cell w u i j ≡ pick (eqb j c) (f i) (cell w t i j)
+    by_column i j a b (yes e) =
         ap (cell w u i) e ∙ to.done i a ∙ rw (eq-eqb j c e) refl
-    by-column i j a b (no n) = to.others i j b (inl n) ∙ rw (ne_eqb j c n) refl
+    by_column i j a b (no n) = to.others i j b (inl n) ∙ rw (ne_eqb j c n) refl
 
 -- ---- the cells of a table with one column written
 module _ (w : ℕ) (t : List ℕ) (c : ℕ) (f : ℕ → ℕ) (i j : ℕ) (a : i < w) (b : j < w) where
-  cell-is : cell w (withColumn w t c f) i j ≡ pick (eqb j c) (f i) (cell w t i j)
-  unfolding withColumn
-  cell-is = cell-tabulate w (λ i j. pick (eqb j c) (f i) (cell w t i j)) i j a b
+  cell_is : cell w (with_column w t c f) i j ≡ pick (eqb j c) (f i) (cell w t i j)
+  unfolding with_column
+  cell_is = cell_tabulate w (λ i j. pick (eqb j c) (f i) (cell w t i j)) i j a b
 
-  pub written_at : j ≡ c → cell w (withColumn w t c f) i j ≡ f i
-  written_at e = cell-is ∙ rw (eq-eqb j c e) refl
+  pub written_at : j ≡ c → cell w (with_column w t c f) i j ≡ f i
+  written_at e = cell_is ∙ rw (eq-eqb j c e) refl
 
-  pub kept_at : j ≢ c → cell w (withColumn w t c f) i j ≡ cell w t i j
-  kept_at n = cell-is ∙ rw (ne_eqb j c n) refl
+  pub kept_at : j ≢ c → cell w (with_column w t c f) i j ≡ cell w t i j
+  kept_at n = cell_is ∙ rw (ne_eqb j c n) refl
 
-length-column : (w : ℕ) (t : List ℕ) (c : ℕ) (f : ℕ → ℕ) → length (withColumn w t c f) ≡ w * w
-unfolding withColumn
-length-column w t c f = length-tabulate w (λ i j. pick (eqb j c) (f i) (cell w t i j))
+length_column : (w : ℕ) (t : List ℕ) (c : ℕ) (f : ℕ → ℕ) → length (with_column w t c f) ≡ w * w
+unfolding with_column
+length_column w t c f = length_tabulate w (λ i j. pick (eqb j c) (f i) (cell w t i j))
 
 -- what is written is the list of f
-pub column-built :
+pub column_built :
     (w : ℕ) (t : List ℕ) (c : ℕ) (f : ℕ → ℕ) (l : List ℕ)
     → 0 < w
     → l ≡ build w f
-    → withColumn w t c (λ i. get_or l i 0) ≡ withColumn w t c f
-unfolding withColumn
-column-built w t c f l pos e =
-    is-tabulate w (λ i j. pick (eqb j c) (f i) (cell w t i j)) (withColumn w t c (λ i. get_or l i 0)) pos
-    (length-column w t c (λ i. get_or l i 0))
+    → with_column w t c (λ i. get_or l i 0) ≡ with_column w t c f
+unfolding with_column
+column_built w t c f l pos e =
+    is_tabulate w (λ i j. pick (eqb j c) (f i) (cell w t i j)) (with_column w t c (λ i. get_or l i 0)) pos
+    (length_column w t c (λ i. get_or l i 0))
     (λ i j a b.
-    cell-is w t c (λ i. get_or l i 0) i j a b
-    ∙ ap (λ (x : ℕ). pick (eqb j c) x (cell w t i j)) (ap (λ (x : List ℕ). get_or x i 0) e ∙ build-at w f i a))
+    cell_is w t c (λ i. get_or l i 0) i j a b
+    ∙ ap (λ (x : ℕ). pick (eqb j c) x (cell w t i j)) (ap (λ (x : List ℕ). get_or x i 0) e ∙ build_at w f i a))
 
 -- ---- columns one after another, over a table that is there before
 pub record Columns (w : ℕ) (f g : ℕ → ℕ → ℕ) (k : ℕ) (t : List ℕ) : Type 0 where
@@ -118,25 +118,25 @@ pub record Columns (w : ℕ) (f g : ℕ → ℕ → ℕ) (k : ℕ) (t : List ℕ
   pub done : (i j : ℕ) → i < w → j < k → cell w t i j ≡ f i j
   pub left : (i j : ℕ) → i < w → k ≤ j → j < w → cell w t i j ≡ g i j
 
-pub columns-start :
+pub columns_start :
     (w : ℕ) (f g : ℕ → ℕ → ℕ) (t : List ℕ)
     → length t ≡ w * w
     → ((i j : ℕ) → i < w → j < w → cell w t i j ≡ g i j)
     → Columns w f g 0 t
-columns-start w f g t e all = record {
+columns_start w f g t e all = record {
   size = e;
   done = λ i j h l. absurd (let x : ⊥ = omega arith in x);
   left = λ i j h l. all i j h;
 }
 
-pub columns-more :
+pub columns_more :
     (w : ℕ) (f g : ℕ → ℕ → ℕ) (k : ℕ) (t u : List ℕ)
     → Columns w f g k t
     → k < w
-    → u ≡ withColumn w t k (λ i. f i k)
+    → u ≡ with_column w t k (λ i. f i k)
     → Columns w f g (k + 1) u
-columns-more w f g k t u before l e = subst (Columns w f g (k + 1)) (sym e) (record {
-  size = length-column w t k (λ i. f i k);
+columns_more w f g k t u before l e = subst (Columns w f g (k + 1)) (sym e) (record {
+  size = length_column w t k (λ i. f i k);
   done = λ i j a h. ⊎_elim
       (λ (q : j ≡ k). written_at w t k (λ i. f i k) i j a (omega arith) q ∙ ap (f i) (sym q))
       (λ (b : j < k). other i j a (omega arith) (λ q. let x : ⊥ = omega arith in x) ∙ before.done i j a b)
@@ -144,17 +144,17 @@ columns-more w f g k t u before l e = subst (Columns w f g (k + 1)) (sym e) (rec
   left = λ i j a h b. other i j a b (λ q. let x : ⊥ = omega arith in x) ∙ before.left i j a (omega arith) b;
 })
   where
-    other : (i j : ℕ) → i < w → j < w → j ≢ k → cell w (withColumn w t k (λ i. f i k)) i j ≡ cell w t i j
+    other : (i j : ℕ) → i < w → j < w → j ≢ k → cell w (with_column w t k (λ i. f i k)) i j ≡ cell w t i j
     other i j a b n = kept_at w t k (λ i. f i k) i j a b n
 
-pub columns-all :
+pub columns_all :
     (w : ℕ) (f g : ℕ → ℕ → ℕ) (n : ℕ) (t : List ℕ)
     → 0 < w
     → Columns w f g n t
     → ((i j : ℕ) → n ≤ j → g i j ≡ f i j)
     → t ≡ tabulate w f
-columns-all w f g n t pos all same =
-    is-tabulate w f t pos all.size
+columns_all w f g n t pos all same =
+    is_tabulate w f t pos all.size
     (λ i j a b. elim (dec_lt j n) [
       | yes h ↦ all.done i j a h
       | no h ↦ all.left i j a (omega arith) b ∙ same i j (omega arith)

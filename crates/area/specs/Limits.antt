@@ -14,17 +14,17 @@ abbrev pub unreached : ℕ
 unreached = 4294967295
 
 -- A change list has at most so many changes: those between one router and each of the others, both ways.
-abbrev pub mostChanges : ℕ
-mostChanges = 2 * (width - 1)
+abbrev pub most_changes : ℕ
+most_changes = 2 * (width - 1)
 
 -- A hold time is at most so many ticks, and so is a step time (02, No. 10).
-abbrev pub longestTime : ℕ
-longestTime = 65535
+abbrev pub longest_time : ℕ
+longest_time = 65535
 
 -- the last time that the clock can show
-abbrev pub lastTime : ℕ
-lastTime = 4294967295
+abbrev pub last_time : ℕ
+last_time = 4294967295
 
 -- a bench file has at most so many steps (01, "The bench file")
-abbrev pub mostSteps : ℕ
-mostSteps = 4096
+abbrev pub most_steps : ℕ
+most_steps = 4096

@@ -1,11 +1,11 @@
 -- Laws of the lowest number below n that passes a test p, and of one at which a measure is least. Each goes up by one
 -- number after another: the number n is taken only where none below it passes.
---     lowest-passes, lowest-some, lowest-below     it passes; it is at most every one that passes; none below it does
---     lowest-first, lowest-none                    what it is: the first that passes, and n where none does
---     lowest_start, lowest-skip, lowest-hit, lowest-out
+--     lowest_passes, lowest_some, lowest_below     it passes; it is at most every one that passes; none below it does
+--     lowest_first_lem, lowest_none                    what it is: the first that passes, and n where none does
+--     lowest_start, lowest_skip, lowest_hit, lowest_out
 --                                                  the same for a loop that goes through the numbers and returns at the
 --                                                  first that passes: `k ≡ lowest k p` says that none below k does
---     Least, some-least                            of the numbers that pass, one at which the measure is least
+--     Least, some_least                            of the numbers that pass, one at which the measure is least
 use Prim.Native.Nat.{ℕ, zero, suc, ◌+◌, ◌≤◌, ◌<◌}
 use Rattle.std.specs.Prelude.{◌≡◌, Bool, ◌⊎◌, ltb}
 use Rattle.std.proofs.Math.Path.{refl, sym}
@@ -24,20 +24,20 @@ module _ (p : ℕ → Bool) where
   abbrev next : (n : ℕ) → ℕ
   next n = pick (ltb (lowest n p) n) (lowest n p) (pick (p n) n (suc n))
 
-  lowest-top : (n : ℕ) → lowest n p ≤ n
+  lowest_top : (n : ℕ) → lowest n p ≤ n
   unfolding lowest
-  lowest-top zero = omega arith
-  lowest-top (suc n) = go (ltb (lowest n p) n) (p n) (lowest-top n)
+  lowest_top zero = omega arith
+  lowest_top (suc n) = go (ltb (lowest n p) n) (p n) (lowest_top n)
     where
       go : (a b : Bool) → lowest n p ≤ n → pick a (lowest n p) (pick b n (suc n)) ≤ suc n
       go true b h = omega arith
       go false true h = omega arith
       go false false h = omega arith
 
-  pub lowest-passes : (n : ℕ) → lowest n p < n → p (lowest n p) ≡ true
+  pub lowest_passes : (n : ℕ) → lowest n p < n → p (lowest n p) ≡ true
   unfolding lowest
-  lowest-passes zero h = absurd (not-suc-le-zero h)
-  lowest-passes (suc n) h = go (look (ltb (lowest n p) n)) (look (p n)) (lowest-passes n) h
+  lowest_passes zero h = absurd (not-suc-le-zero h)
+  lowest_passes (suc n) h = go (look (ltb (lowest n p) n)) (look (p n)) (lowest_passes n) h
     where
       go :
           (ltb (lowest n p) n ≡ true) ⊎ (ltb (lowest n p) n ≡ false)
@@ -49,11 +49,11 @@ module _ (p : ℕ → Bool) where
       go (inr a) (inl b) before h = rw (a, b) b
       go (inr a) (inr b) before h = absurd (let x : suc n < suc n = rw (a, b) at h in omega arith)
 
-  pub lowest-some : (n k : ℕ) → k < n → p k ≡ true → lowest n p ≤ k
+  pub lowest_some : (n k : ℕ) → k < n → p k ≡ true → lowest n p ≤ k
   unfolding lowest
-  lowest-some zero k h e = absurd (not-suc-le-zero h)
-  lowest-some (suc n) k h e =
-      go (look (ltb (lowest n p) n)) (λ l. lowest-some n k l e) (eq-or-lt_of_le (le_of_suc-le-suc h))
+  lowest_some zero k h e = absurd (not-suc-le-zero h)
+  lowest_some (suc n) k h e =
+      go (look (ltb (lowest n p) n)) (λ l. lowest_some n k l e) (eq-or-lt_of_le (le_of_suc-le-suc h))
     where
       go :
           (ltb (lowest n p) n ≡ true) ⊎ (ltb (lowest n p) n ≡ false)
@@ -65,29 +65,29 @@ module _ (p : ℕ → Bool) where
       go (inr a) before (inl q) = rw (a, sym (ap p q) ∙ e) (omega arith)
       go (inr a) before (inr l) = absurd (let x : ⊥ = omega (arith, before l, ltb-false (lowest n p) n a) in x)
 
-  pub lowest-below : (n k : ℕ) → k < lowest n p → p k ≡ false
-  lowest-below n k h = ⊎_elim (λ e. absurd (passed e)) (λ f. f) (look (p k))
+  pub lowest_below : (n k : ℕ) → k < lowest n p → p k ≡ false
+  lowest_below n k h = ⊎_elim (λ e. absurd (passed e)) (λ f. f) (look (p k))
     where
       passed : p k ≡ true → ⊥
-      passed e = omega (arith, lowest-top n, lowest-some n k (omega (arith, lowest-top n)) e)
+      passed e = omega (arith, lowest_top n, lowest_some n k (omega (arith, lowest_top n)) e)
 
   -- ---- what it is
-  pub lowest-none : (n : ℕ) → ((j : ℕ) → j < n → p j ≡ false) → n ≡ lowest n p
-  lowest-none n none = elim (dec_lt (lowest n p) n) [
-    | yes h ↦ absurd (false≢true (sym (none (lowest n p) h) ∙ lowest-passes n h))
-    | no f ↦ omega (arith, lowest-top n)
+  pub lowest_none : (n : ℕ) → ((j : ℕ) → j < n → p j ≡ false) → n ≡ lowest n p
+  lowest_none n none = elim (dec_lt (lowest n p) n) [
+    | yes h ↦ absurd (false≢true (sym (none (lowest n p) h) ∙ lowest_passes n h))
+    | no f ↦ omega (arith, lowest_top n)
   ]
 
-  pub lowest-first :
+  pub lowest_first_lem :
       (n k : ℕ)
       → k < n
       → ((j : ℕ) → j < k → p j ≡ false)
       → p k ≡ true
       → k ≡ lowest n p
-  lowest-first n k h none e =
-      let most = lowest-some n k h e in
+  lowest_first_lem n k h none e =
+      let most = lowest_some n k h e in
       elim (dec_lt (lowest n p) k) [
-        | yes l ↦ absurd (false≢true (sym (none (lowest n p) l) ∙ lowest-passes n (omega arith)))
+        | yes l ↦ absurd (false≢true (sym (none (lowest n p) l) ∙ lowest_passes n (omega arith)))
         | no f ↦ omega arith
       ]
 
@@ -97,21 +97,21 @@ module _ (p : ℕ → Bool) where
   lowest_start = refl
 
   below_all : (k : ℕ) → k ≡ lowest k p → (j : ℕ) → j < k → p j ≡ false
-  below_all k e j h = lowest-below k j (omega arith)
+  below_all k e j h = lowest_below k j (omega arith)
 
-  pub lowest-skip : (k : ℕ) → k ≡ lowest k p → p k ≡ false → k + 1 ≡ lowest (k + 1) p
-  lowest-skip k e f =
-      lowest-none (k + 1)
+  pub lowest_skip : (k : ℕ) → k ≡ lowest k p → p k ≡ false → k + 1 ≡ lowest (k + 1) p
+  lowest_skip k e f =
+      lowest_none (k + 1)
       (λ j h. ⊎_elim
       (λ (q : j ≡ k). ap p q ∙ f)
       (λ (l : j < k). below_all k e j l)
       (eq-or-lt_of_le (omega arith)))
 
-  pub lowest-hit : (n k : ℕ) → k < n → k ≡ lowest k p → p k ≡ true → k ≡ lowest n p
-  lowest-hit n k h e = lowest-first n k h (below_all k e)
+  pub lowest_hit : (n k : ℕ) → k < n → k ≡ lowest k p → p k ≡ true → k ≡ lowest n p
+  lowest_hit n k h e = lowest_first_lem n k h (below_all k e)
 
-  pub lowest-out : (n k : ℕ) → n ≤ k → k ≡ lowest k p → n ≡ lowest n p
-  lowest-out n k h e = lowest-none n (λ j l. below_all k e j (omega arith))
+  pub lowest_out : (n k : ℕ) → n ≤ k → k ≡ lowest k p → n ≡ lowest n p
+  lowest_out n k h e = lowest_none n (λ j l. below_all k e j (omega arith))
 
 -- ---- the least in some measure
 -- k is below n and passes, and of all those that do its measure f is least
@@ -129,35 +129,35 @@ module _ (p : ℕ → Bool) (f : ℕ → ℕ) where
   last_or n k h a b = ⊎_elim a b (eq-or-lt_of_le (le_of_suc-le-suc h))
 
   -- n does not pass, or its measure is no less: what was least is so still
-  least-still : (n k : ℕ) → Least p f n k → (p n ≡ true → f k ≤ f n) → Least p f (suc n) k
-  least-still n k t g = record {
+  least_still : (n k : ℕ) → Least p f n k → (p n ≡ true → f k ≤ f n) → Least p f (suc n) k
+  least_still n k t g = record {
     below = omega (arith, t.below);
     passes = t.passes;
     least = λ j h e. last_or n j h (λ (q : j ≡ n). rw q (g (sym (ap p q) ∙ e))) (λ l. t.least j l e);
   }
 
   -- n passes, and its measure is at most that of any other
-  least-last :
+  least_last :
       (n : ℕ)
       → p n ≡ true
       → ((j : ℕ) → j < n → p j ≡ true → f n ≤ f j)
       → Least p f (suc n) n
-  least-last n e g = record {
+  least_last n e g = record {
     below = omega arith;
     passes = e;
     least = λ j h t. last_or n j h (λ (q : j ≡ n). rw q (omega arith)) (λ l. g j l t);
   }
 
-  pub some-least : (n : ℕ) → NoneOrLeast n
-  some-least zero = inl (λ k h. absurd (not-suc-le-zero h))
-  some-least (suc n) = by_last (look (p n)) (some-least n)
+  pub some_least : (n : ℕ) → NoneOrLeast n
+  some_least zero = inl (λ k h. absurd (not-suc-le-zero h))
+  some_least (suc n) = by_last (look (p n)) (some_least n)
     where
       by_last : (p n ≡ true) ⊎ (p n ≡ false) → NoneOrLeast n → NoneOrLeast (suc n)
       by_last (inr z) (inl g) = inl (λ k h. last_or n k h (λ (q : k ≡ n). rw q z) (g k))
       by_last (inr z) (inr t) =
-          inr (t.0, least-still n t.0 t.1 (λ e. absurd (false≢true (sym z ∙ e))))
-      by_last (inl z) (inl g) = inr (n, least-last n z (λ j l e. absurd (false≢true (sym (g j l) ∙ e))))
+          inr (t.0, least_still n t.0 t.1 (λ e. absurd (false≢true (sym z ∙ e))))
+      by_last (inl z) (inl g) = inr (n, least_last n z (λ j l e. absurd (false≢true (sym (g j l) ∙ e))))
       by_last (inl z) (inr t) = elim (dec_le (f t.0) (f n)) [
-        | yes l ↦ inr (t.0, least-still n t.0 t.1 (λ e. l))
-        | no h ↦ inr (n, least-last n z (λ j l e. omega (arith, t.1.least j l e)))
+        | yes l ↦ inr (t.0, least_still n t.0 t.1 (λ e. l))
+        | no h ↦ inr (n, least_last n z (λ j l e. omega (arith, t.1.least j l e)))
       ]

@@ -17,14 +17,14 @@ record Without (n : ℕ) (l : List ℕ) : Type 0 where
   below : Below n rest
   long : length l ≤ suc (length rest)
 
-without-cons :
+without_cons :
     (n x : ℕ) (l : List ℕ)
     → Distinct (x ∷ l)
     → Below (suc n) (x ∷ l)
     → Dec (x ≡ n)
     → Without n l
     → Without n (x ∷ l)
-without-cons n x l d b (yes e) w = record {
+without_cons n x l d b (yes e) w = record {
   rest = l;
   within = λ y m. inr m;
   distinct = d.1;
@@ -33,7 +33,7 @@ without-cons n x l d b (yes e) w = record {
       omega (arith, b y (inr m));
   long = omega arith;
 }
-without-cons n x l d b (no f) w = record {
+without_cons n x l d b (no f) w = record {
   rest = x ∷ w.rest;
   within = λ y. ⊎_elim inl (λ m. inr (w.within y m));
   distinct = ((λ m. d.0 (w.within x m)), w.distinct);
@@ -43,7 +43,7 @@ without-cons n x l d b (no f) w = record {
 
 without : (n : ℕ) (l : List ℕ) → Distinct l → Below (suc n) l → Without n l
 without n [] d b = record { rest = []; within = λ x m. m; distinct = tt; below = λ x m. absurd m; long = omega arith }
-without n (x ∷ l) d b = without-cons n x l d b (ℕ_discrete x n) (without n l d.1 (λ y m. b y (inr m)))
+without n (x ∷ l) d b = without_cons n x l d b (ℕ_discrete x n) (without n l d.1 (λ y m. b y (inr m)))
 
 pub pigeonhole : (n : ℕ) (l : List ℕ) → Distinct l → Below n l → length l ≤ n
 pigeonhole zero [] d b = omega arith
@@ -63,35 +63,35 @@ module _
       list : List ℕ
       size : length list ≡ k
       distinct : Distinct list
-      from-below : (y : ℕ) → y ∈ list → (x : ℕ) × (x < k) × (f x ≡ y)
+      from_below : (y : ℕ) → y ∈ list → (x : ℕ) × (x < k) × (f x ≡ y)
 
     taken : (k : ℕ) → k ≤ n → Taken k
-    taken zero h = record { list = []; size = refl; distinct = tt; from-below = λ y m. absurd m }
+    taken zero h = record { list = []; size = refl; distinct = tt; from_below = λ y m. absurd m }
     taken (suc k) h =
         let t = taken k (omega arith) in
         let new : f k ∈ t.list → ⊥ = λ m.
-        let x = t.from-below (f k) m in
+        let x = t.from_below (f k) m in
         let same = apart x.0 k (omega (arith, x.1)) (omega arith) x.2 in
         omega (arith, same, x.1) in
         record {
           list = f k ∷ t.list;
           size = omega (arith, t.size);
           distinct = (new, t.distinct);
-          from-below = λ y. ⊎_elim
+          from_below = λ y. ⊎_elim
               (λ e. (k, omega arith, sym e))
-              (λ m. let x = t.from-below y m in (x.0, omega (arith, x.1), x.2));
+              (λ m. let x = t.from_below y m in (x.0, omega (arith, x.1), x.2));
         }
 
     pub onto : (y : ℕ) → y < n → (x : ℕ) × (x < n) × (f x ≡ y)
-    onto y h = by-member (member? y t.list)
+    onto y h = by_member (member? y t.list)
       where
         t : Taken n
         t = taken n (omega arith)
 
-        by-member : Dec (y ∈ t.list) → (x : ℕ) × (x < n) × (f x ≡ y)
-        by-member (yes m) = t.from-below y m
-        by-member (no m) =
+        by_member : Dec (y ∈ t.list) → (x : ℕ) × (x < n) × (f x ≡ y)
+        by_member (yes m) = t.from_below y m
+        by_member (no m) =
             let below : Below n (y ∷ t.list) = λ z. ⊎_elim
             (λ e. omega (arith, e))
-            (λ m. let x = t.from-below z m in omega (arith, x.2, inside x.0 x.1)) in
+            (λ m. let x = t.from_below z m in omega (arith, x.2, inside x.0 x.1)) in
             absurd (let x : ⊥ = omega (arith, t.size, pigeonhole n (y ∷ t.list) (m, t.distinct) below) in x)

@@ -1,8 +1,8 @@
 -- An equation on an answer's number decides the answer: a refusal can be told from its number (`numbered`), and no
 -- refusal has the number 0, which is that of "accepted".
---     refusal-positive     no refusal has the number 0
---     same-refusal         refusals with the same number are the same
---     same-verdict         and so are answers
+--     refusal_positive     no refusal has the number 0
+--     same_refusal         refusals with the same number are the same
+--     same_verdict         and so are answers
 use Rattle.std.specs.Prelude.{ℕ, ◌≤◌, ◌≡◌, refl, eqb}
 use Rattle.std.proofs.Common.{sym, ap, ◌∙◌, arith}
 use Rattle.area.specs.declared.refusal.Refusal.{Refusal}
@@ -16,45 +16,45 @@ use Rattle.area.specs.declared.refusal.Refusal.TheVariants.{TooEarly, ClockEnd, 
 use Rattle.area.specs.declared.refusal.Verdict.{Verdict}
 use Rattle.area.specs.declared.refusal.Verdict.TheVariants.{Accepted, Refused}
 use Rattle.area.specs.Tests.{pick}
-use Rattle.area.specs.Refusals.{refusalNumber, verdictNumber}
-use Rattle.area.specs.Refusals.{incomplete, trailing, routerCount, unknownRouter, selfLink, badMetric, repeated}
-use Rattle.area.specs.Refusals.{tableSize, tooMany, noChange, sameMetric, mixed, noCommonRouter, badRecord}
-use Rattle.area.specs.Refusals.{unknownKind, wrongState, stillWaiting, notDue, unwritten, notDone, notTold}
-use Rattle.area.specs.Refusals.{deadLink, pastList, longSubTlvs, unknownIdentity, tooEarly, clockEnd}
+use Rattle.area.specs.Refusals.{refusal_number, verdict_number}
+use Rattle.area.specs.Refusals.{incomplete, trailing, router_count, unknown_router, self_link, bad_metric, repeated}
+use Rattle.area.specs.Refusals.{table_size, too_many, no_change, same_metric, mixed, no_common_router, bad_record}
+use Rattle.area.specs.Refusals.{unknown_kind, wrong_state, still_waiting, not_due, unwritten, not_done, not_told}
+use Rattle.area.specs.Refusals.{dead_link, past_list, long_sub_tlvs, unknown_identity, too_early, clock_end}
 
 -- the refusal of a number
 abbrev numbered : ℕ → Refusal
 numbered n =
     pick (eqb n incomplete) Incomplete
     (pick (eqb n trailing) Trailing
-    (pick (eqb n routerCount) RouterCount
-    (pick (eqb n unknownRouter) UnknownRouter
-    (pick (eqb n selfLink) SelfLink
-    (pick (eqb n badMetric) Metric
+    (pick (eqb n router_count) RouterCount
+    (pick (eqb n unknown_router) UnknownRouter
+    (pick (eqb n self_link) SelfLink
+    (pick (eqb n bad_metric) Metric
     (pick (eqb n repeated) Repeated
-    (pick (eqb n tableSize) TableSize
-    (pick (eqb n tooMany) TooMany
-    (pick (eqb n noChange) NoChange
-    (pick (eqb n sameMetric) SameMetric
+    (pick (eqb n table_size) TableSize
+    (pick (eqb n too_many) TooMany
+    (pick (eqb n no_change) NoChange
+    (pick (eqb n same_metric) SameMetric
     (pick (eqb n mixed) Mixed
-    (pick (eqb n noCommonRouter) NoCommonRouter
-    (pick (eqb n badRecord) Record
-    (pick (eqb n unknownKind) Kind
-    (pick (eqb n wrongState) State
-    (pick (eqb n stillWaiting) Waiting
-    (pick (eqb n notDue) NotDue
+    (pick (eqb n no_common_router) NoCommonRouter
+    (pick (eqb n bad_record) Record
+    (pick (eqb n unknown_kind) Kind
+    (pick (eqb n wrong_state) State
+    (pick (eqb n still_waiting) Waiting
+    (pick (eqb n not_due) NotDue
     (pick (eqb n unwritten) Unwritten
-    (pick (eqb n notDone) NotDone
-    (pick (eqb n notTold) NotTold
-    (pick (eqb n deadLink) DeadLink
-    (pick (eqb n pastList) PastList
-    (pick (eqb n longSubTlvs) LongSubTlvs
-    (pick (eqb n unknownIdentity) UnknownIdentity
-    (pick (eqb n tooEarly) TooEarly
-    (pick (eqb n clockEnd) ClockEnd
+    (pick (eqb n not_done) NotDone
+    (pick (eqb n not_told) NotTold
+    (pick (eqb n dead_link) DeadLink
+    (pick (eqb n past_list) PastList
+    (pick (eqb n long_sub_tlvs) LongSubTlvs
+    (pick (eqb n unknown_identity) UnknownIdentity
+    (pick (eqb n too_early) TooEarly
+    (pick (eqb n clock_end) ClockEnd
     NoStepTime))))))))))))))))))))))))))
 
-of_number : (k : Refusal) → numbered (refusalNumber k) ≡ k
+of_number : (k : Refusal) → numbered (refusal_number k) ≡ k
 of_number Incomplete = refl
 of_number Trailing = refl
 of_number RouterCount = refl
@@ -84,41 +84,41 @@ of_number TooEarly = refl
 of_number ClockEnd = refl
 of_number NoStepTime = refl
 
-pub refusal-positive : (k : Refusal) → 1 ≤ refusalNumber k
-refusal-positive Incomplete = omega arith
-refusal-positive Trailing = omega arith
-refusal-positive RouterCount = omega arith
-refusal-positive UnknownRouter = omega arith
-refusal-positive SelfLink = omega arith
-refusal-positive Metric = omega arith
-refusal-positive Repeated = omega arith
-refusal-positive TableSize = omega arith
-refusal-positive TooMany = omega arith
-refusal-positive NoChange = omega arith
-refusal-positive SameMetric = omega arith
-refusal-positive Mixed = omega arith
-refusal-positive NoCommonRouter = omega arith
-refusal-positive Record = omega arith
-refusal-positive Kind = omega arith
-refusal-positive State = omega arith
-refusal-positive Waiting = omega arith
-refusal-positive NotDue = omega arith
-refusal-positive Unwritten = omega arith
-refusal-positive NotDone = omega arith
-refusal-positive NotTold = omega arith
-refusal-positive DeadLink = omega arith
-refusal-positive PastList = omega arith
-refusal-positive LongSubTlvs = omega arith
-refusal-positive UnknownIdentity = omega arith
-refusal-positive TooEarly = omega arith
-refusal-positive ClockEnd = omega arith
-refusal-positive NoStepTime = omega arith
+pub refusal_positive : (k : Refusal) → 1 ≤ refusal_number k
+refusal_positive Incomplete = omega arith
+refusal_positive Trailing = omega arith
+refusal_positive RouterCount = omega arith
+refusal_positive UnknownRouter = omega arith
+refusal_positive SelfLink = omega arith
+refusal_positive Metric = omega arith
+refusal_positive Repeated = omega arith
+refusal_positive TableSize = omega arith
+refusal_positive TooMany = omega arith
+refusal_positive NoChange = omega arith
+refusal_positive SameMetric = omega arith
+refusal_positive Mixed = omega arith
+refusal_positive NoCommonRouter = omega arith
+refusal_positive Record = omega arith
+refusal_positive Kind = omega arith
+refusal_positive State = omega arith
+refusal_positive Waiting = omega arith
+refusal_positive NotDue = omega arith
+refusal_positive Unwritten = omega arith
+refusal_positive NotDone = omega arith
+refusal_positive NotTold = omega arith
+refusal_positive DeadLink = omega arith
+refusal_positive PastList = omega arith
+refusal_positive LongSubTlvs = omega arith
+refusal_positive UnknownIdentity = omega arith
+refusal_positive TooEarly = omega arith
+refusal_positive ClockEnd = omega arith
+refusal_positive NoStepTime = omega arith
 
-pub same-refusal : (j k : Refusal) → refusalNumber j ≡ refusalNumber k → j ≡ k
-same-refusal j k e = sym (of_number j) ∙ ap numbered e ∙ of_number k
+pub same_refusal : (j k : Refusal) → refusal_number j ≡ refusal_number k → j ≡ k
+same_refusal j k e = sym (of_number j) ∙ ap numbered e ∙ of_number k
 
-pub same-verdict : (v w : Verdict) → verdictNumber v ≡ verdictNumber w → v ≡ w
-same-verdict Accepted Accepted e = refl
-same-verdict Accepted (Refused k) e = absurd (let x : ⊥ = omega (arith, refusal-positive k) in x)
-same-verdict (Refused j) Accepted e = absurd (let x : ⊥ = omega (arith, refusal-positive j) in x)
-same-verdict (Refused j) (Refused k) e = ap Refused (same-refusal j k e)
+pub same_verdict : (v w : Verdict) → verdict_number v ≡ verdict_number w → v ≡ w
+same_verdict Accepted Accepted e = refl
+same_verdict Accepted (Refused k) e = absurd (let x : ⊥ = omega (arith, refusal_positive k) in x)
+same_verdict (Refused j) Accepted e = absurd (let x : ⊥ = omega (arith, refusal_positive j) in x)
+same_verdict (Refused j) (Refused k) e = ap Refused (same_refusal j k e)

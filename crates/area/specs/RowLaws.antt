@@ -1,13 +1,13 @@
 -- A table that is filled row by row, once for every width w: row r is lent, `&mut t[w * r..w * r + w]`, and comes back
 -- as ys. What is put back changes that row alone, so the rows before it stay.
---     lentRow w r t, with_row w r t ys  the row that is lent, and the table with ys put back there
+--     lent_row w r t, with_row w r t ys  the row that is lent, and the table with ys put back there
 --     lent_length                      what is lent is a row long
 --     Rows w f r t                     the rows of t before row r are those of f
 --     rows_none, rows_more             this holds of no row, and of one row more when that comes back as f's
 --     rows_all                         and after the last row t is the table of f
 --     lent_at                          a cell of the row that is lent
 --     RowsOver w f g r t               the rows before row r are those of f, and the others those of g
---     over-start, over-lent, over-more, over-all
+--     over_start, over_lent, over_more, over_all
 --                                      this holds of the table of g; what is lent then; with one row more; after n rows
 use Rattle.std.specs.Prelude.{ℕ, ◌+◌, ◌*◌, ◌-◌, ◌<◌, ◌≤◌, ◌≡◌, refl, List, ◌++◌, length, get_or, take, drop, ltb}
 use Rattle.std.proofs.Common.{sym, ap, ◌∙◌, subst, ⊎_elim, arith, eq-or-lt_of_le, length-take, length-drop, get_or-take, get_or-drop, get_or-append-add, length-take-le, lt-ltb, le-ltb}
@@ -16,11 +16,11 @@ use Rattle.std.proofs.Math.ListN.{get_or-append}
 use borrow.Rule.Slice.PartMut.{put_mid, post_of, same_len_mid, drop_put}
 use Rattle.area.specs.Tests.{pick}
 use Rattle.area.specs.Tables.{build, cell, tabulate}
-use Rattle.area.specs.TableLaws.{build-at, rows-le, length-tabulate, cell-tabulate, is-tabulate}
+use Rattle.area.specs.TableLaws.{build_at, rows_le, length_tabulate, cell_tabulate, is_tabulate}
 
 -- Row r of t as it is lent, and t with ys put back there. The bounds are written as the code has them.
-abbrev pub lentRow : (w r : ℕ) (t : List ℕ) → List ℕ
-lentRow w r t = take (w * r + w - w * r) (drop (w * r) t)
+abbrev pub lent_row : (w r : ℕ) (t : List ℕ) → List ℕ
+lent_row w r t = take (w * r + w - w * r) (drop (w * r) t)
 
 abbrev pub with_row : (w r : ℕ) (t ys : List ℕ) → List ℕ
 with_row w r t ys = put_mid (w * r) (w * r + w - w * r) t ys
@@ -34,8 +34,8 @@ module _ (a k : ℕ) (xs : List ℕ) (fits : a + k ≤ length xs) where
     front : length (take a xs) ≡ a
     front = length-take-le a xs (omega arith)
 
-    put-before : (i : ℕ) → i < a → get_or (put_mid a k xs ys) i 0 ≡ get_or xs i 0
-    put-before i l =
+    put_before : (i : ℕ) → i < a → get_or (put_mid a k xs ys) i 0 ≡ get_or xs i 0
+    put_before i l =
         get_or-append (take a xs) (ys ++ post_of a k xs) 0 i (omega (arith, front))
         ∙ get_or-take a xs i 0 l
 
@@ -49,32 +49,32 @@ module _ (a k : ℕ) (xs : List ℕ) (fits : a + k ≤ length xs) where
 -- ---- row r of a table
 module _ (w : ℕ) (t : List ℕ) (size : length t ≡ w * w) (r : ℕ) (within : r < w) where
   fits : w * r + (w * r + w - w * r) ≤ length t
-  fits = omega (arith, rows-le w r w within)
+  fits = omega (arith, rows_le w r w within)
 
-  pub lent_length : length (lentRow w r t) ≡ w
+  pub lent_length : length (lent_row w r t) ≡ w
   lent_length = part_length (w * r) (w * r + w - w * r) t fits ∙ omega arith
 
-  pub lent_at : (j : ℕ) → j < w → get_or (lentRow w r t) j 0 ≡ cell w t r j
+  pub lent_at : (j : ℕ) → j < w → get_or (lent_row w r t) j 0 ≡ cell w t r j
   lent_at j l = get_or-take (w * r + w - w * r) (drop (w * r) t) j 0 (omega arith) ∙ get_or-drop (w * r) t j 0
 
-  module _ (ys : List ℕ) (same : length ys ≡ length (lentRow w r t)) where
+  module _ (ys : List ℕ) (same : length ys ≡ length (lent_row w r t)) where
     row : length ys ≡ w * r + w - w * r
     row = same ∙ part_length (w * r) (w * r + w - w * r) t fits
 
-    back-length : length (with_row w r t ys) ≡ w * w
-    back-length = same_len_mid (w * r) (w * r + w - w * r) t ys same ∙ size
+    back_length : length (with_row w r t ys) ≡ w * w
+    back_length = same_len_mid (w * r) (w * r + w - w * r) t ys same ∙ size
 
-    back-row : (j : ℕ) → j < w → cell w (with_row w r t ys) r j ≡ get_or ys j 0
-    back-row j l = put_in (w * r) (w * r + w - w * r) t fits ys row j (omega arith)
+    back_row : (j : ℕ) → j < w → cell w (with_row w r t ys) r j ≡ get_or ys j 0
+    back_row j l = put_in (w * r) (w * r + w - w * r) t fits ys row j (omega arith)
 
     back_above : (i j : ℕ) → i < r → j < w → cell w (with_row w r t ys) i j ≡ cell w t i j
     back_above i j b l =
-        let above = rows-le w i r b in
-        put-before (w * r) (w * r + w - w * r) t fits ys row (w * i + j) (omega arith)
+        let above = rows_le w i r b in
+        put_before (w * r) (w * r + w - w * r) t fits ys row (w * i + j) (omega arith)
 
     back_below : (i j : ℕ) → r < i → cell w (with_row w r t ys) i j ≡ cell w t i j
     back_below i j b =
-        let below = rows-le w r i b in
+        let below = rows_le w r i b in
         let end : ℕ = w * r + w in
         let far : ℕ = w * i + j - end in
         let place : w * i + j ≡ end + far = omega arith in
@@ -97,26 +97,26 @@ pub rows_more :
     → Rows w f r t
     → r < w
     → (ys : List ℕ)
-    → length ys ≡ length (lentRow w r t)
+    → length ys ≡ length (lent_row w r t)
     → ys ≡ build w (f r)
     → Rows w f (r + 1) (with_row w r t ys)
 rows_more w f r t rows l ys same e = record {
-  size = back-length w t rows.size r l ys same;
+  size = back_length w t rows.size r l ys same;
   done = λ i j b h. ⊎_elim (λ (q : i ≡ r). rw q (last j h)) (λ (b : i < r). before i j b h)
       (eq-or-lt_of_le (let x : i ≤ r = omega arith in x));
 }
   where
     last : (j : ℕ) → j < w → cell w (with_row w r t ys) r j ≡ f r j
     last j h =
-        back-row w t rows.size r l ys same j h
+        back_row w t rows.size r l ys same j h
         ∙ ap (λ (x : List ℕ). get_or x j 0) e
-        ∙ build-at w (f r) j h
+        ∙ build_at w (f r) j h
 
     before : (i j : ℕ) → i < r → j < w → cell w (with_row w r t ys) i j ≡ f i j
     before i j b h = back_above w t rows.size r l ys same i j b h ∙ rows.done i j b h
 
 pub rows_all : (w : ℕ) (f : ℕ → ℕ → ℕ) (t : List ℕ) → 0 < w → Rows w f w t → t ≡ tabulate w f
-rows_all w f t pos rows = is-tabulate w f t pos rows.size rows.done
+rows_all w f t pos rows = is_tabulate w f t pos rows.size rows.done
 
 -- ---- some rows, over a table that is there before
 pub record RowsOver (w : ℕ) (f g : ℕ → ℕ → ℕ) (r : ℕ) (t : List ℕ) : Type 0 where
@@ -124,24 +124,24 @@ pub record RowsOver (w : ℕ) (f g : ℕ → ℕ → ℕ) (r : ℕ) (t : List �
   pub done : (i j : ℕ) → i < r → j < w → cell w t i j ≡ f i j
   pub left : (i j : ℕ) → r ≤ i → i < w → j < w → cell w t i j ≡ g i j
 
-pub over-start : (w : ℕ) (f g : ℕ → ℕ → ℕ) (t : List ℕ) → t ≡ tabulate w g → RowsOver w f g 0 t
-over-start w f g t e = record {
-  size = ap length e ∙ length-tabulate w g;
+pub over_start : (w : ℕ) (f g : ℕ → ℕ → ℕ) (t : List ℕ) → t ≡ tabulate w g → RowsOver w f g 0 t
+over_start w f g t e = record {
+  size = ap length e ∙ length_tabulate w g;
   done = λ i j l h. absurd (let x : ⊥ = omega arith in x);
-  left = λ i j l a b. ap (λ (x : List ℕ). cell w x i j) e ∙ cell-tabulate w g i j a b;
+  left = λ i j l a b. ap (λ (x : List ℕ). cell w x i j) e ∙ cell_tabulate w g i j a b;
 }
 
 module _ (w : ℕ) (f g : ℕ → ℕ → ℕ) (r : ℕ) (t : List ℕ) (rows : RowsOver w f g r t) where
-  pub over-lent : r < w → (j : ℕ) → j < w → get_or (lentRow w r t) j 0 ≡ g r j
-  over-lent l j h = lent_at w t rows.size r l j h ∙ rows.left r j (omega arith) l h
+  pub over_lent : r < w → (j : ℕ) → j < w → get_or (lent_row w r t) j 0 ≡ g r j
+  over_lent l j h = lent_at w t rows.size r l j h ∙ rows.left r j (omega arith) l h
 
-  pub over-more :
+  pub over_more :
       r < w
       → (ys : List ℕ)
-      → length ys ≡ length (lentRow w r t)
+      → length ys ≡ length (lent_row w r t)
       → ys ≡ build w (f r)
       → RowsOver w f g (r + 1) (with_row w r t ys)
-  over-more l ys same e =
+  over_more l ys same e =
       let before : Rows w f r t = record { size = rows.size; done = rows.done } in
       let after = rows_more w f r t before l ys same e in
       record {
@@ -152,9 +152,9 @@ module _ (w : ℕ) (f g : ℕ → ℕ → ℕ) (r : ℕ) (t : List ℕ) (rows : 
             ∙ rows.left i j (omega arith) a h;
       }
 
-  pub over-all : 0 < w → t ≡ tabulate w (λ i j. pick (ltb i r) (f i j) (g i j))
-  over-all pos =
-      is-tabulate w (λ i j. pick (ltb i r) (f i j) (g i j)) t pos rows.size
+  pub over_all : 0 < w → t ≡ tabulate w (λ i j. pick (ltb i r) (f i j) (g i j))
+  over_all pos =
+      is_tabulate w (λ i j. pick (ltb i r) (f i j) (g i j)) t pos rows.size
       (λ i j a b. cells i j a b (dec_lt i r))
     where
       cells : (i j : ℕ) → i < w → j < w → Dec (i < r) → cell w t i j ≡ pick (ltb i r) (f i j) (g i j)

@@ -3,9 +3,9 @@ use Rattle.std.specs.Prelude.{ℕ, ◌*◌, Bool, ◌&&◌, List, leb, eqb, leng
 use Rattle.area.specs.Limits.{width}
 
 -- An area has 1 to `width` routers.
-unfoldable pub isRouterCount : (n : ℕ) → Bool
-isRouterCount n = leb 1 n && leb n width
+unfoldable pub is_router_count : (n : ℕ) → Bool
+is_router_count n = leb 1 n && leb n width
 
 -- A table has `width` rows of `width` cells.
-unfoldable pub isTable : (t : List ℕ) → Bool
-isTable t = eqb (length t) (width * width)
+unfoldable pub is_table : (t : List ℕ) → Bool
+is_table t = eqb (length t) (width * width)

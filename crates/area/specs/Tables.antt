@@ -16,9 +16,9 @@ unfoldable pub tabulate : (w : ℕ) (f : ℕ → ℕ → ℕ) → List ℕ
 tabulate w f = build (w * w) (λ k. f (k / w) (k % w))
 
 -- the table t with column c written: f i in row i of it, and every other cell as it was
-unfoldable pub withColumn : (w : ℕ) (t : List ℕ) (c : ℕ) (f : ℕ → ℕ) → List ℕ
-withColumn w t c f = tabulate w (λ i j. pick (eqb j c) (f i) (cell w t i j))
+unfoldable pub with_column : (w : ℕ) (t : List ℕ) (c : ℕ) (f : ℕ → ℕ) → List ℕ
+with_column w t c f = tabulate w (λ i j. pick (eqb j c) (f i) (cell w t i j))
 
 -- a table per router: w entries, f r for each router r below n and 0 from n on
-unfoldable pub perRouter : (w n : ℕ) (f : ℕ → ℕ) → List ℕ
-perRouter w n f = build w (λ r. pick (ltb r n) (f r) 0)
+unfoldable pub per_router : (w n : ℕ) (f : ℕ → ℕ) → List ℕ
+per_router w n f = build w (λ r. pick (ltb r n) (f r) 0)

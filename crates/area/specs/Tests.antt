@@ -13,13 +13,13 @@ all zero p = true
 all (suc n) p = all n p && p n
 
 -- the refusal a, and b where a is none; 0 stands for none
-abbrev pub orThen : (a b : ℕ) → ℕ
-orThen a b = pick (eqb a 0) b a
+abbrev pub or_then : (a b : ℕ) → ℕ
+or_then a b = pick (eqb a 0) b a
 
 -- the first of the refusals f 0, f 1, .. f (n - 1); 0 where each of them is none
 unfoldable pub first : (n : ℕ) (f : ℕ → ℕ) → ℕ
 first zero f = 0
-first (suc n) f = orThen (first n f) (f n)
+first (suc n) f = or_then (first n f) (f n)
 
 -- the lowest number below n that passes the test p, and n where none does
 unfoldable pub lowest : (n : ℕ) (p : ℕ → Bool) → ℕ

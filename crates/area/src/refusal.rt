@@ -1,6 +1,6 @@
 // Why a call is refused: a named case for each number of 01 and 02. When each is given, specs/Refusals.antt says.
 ghost use Rattle.std.specs.Prelude.{◌≡◌, eqb};
-ghost use Rattle.area.specs.Refusals.{refusalNumber, verdictNumber};
+ghost use Rattle.area.specs.Refusals.{refusal_number, verdict_number};
 
 #[derive(Drop)]
 pub enum Refusal {
@@ -51,7 +51,7 @@ pub enum Verdict {
 impl Refusal {
     // The paper's number.
     pub fn number(self) -> u8
-        ensures number { result ≡ refusalNumber self }
+        ensures number { result ≡ refusal_number self }
     {
         match self {
             Refusal::Incomplete => 1,
@@ -89,7 +89,7 @@ impl Refusal {
 impl Verdict {
     // The refusal's number, or 0 where the input was accepted.
     pub fn number(self) -> u8
-        ensures number { result ≡ verdictNumber self }
+        ensures number { result ≡ verdict_number self }
     {
         match self {
             Verdict::Accepted => 0,
@@ -99,7 +99,7 @@ impl Verdict {
 
     // Is the input accepted?
     pub fn is_accepted(self) -> bool
-        ensures answer { result ≡ eqb (verdictNumber self) 0 }
+        ensures answer { result ≡ eqb (verdict_number self) 0 }
     {
         self.number() == 0
     }

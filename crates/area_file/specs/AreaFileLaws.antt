@@ -1,8 +1,8 @@
 -- Laws of the text of an area: that it says the bytes of a bench file, and how long it is.
---     sized-true               what makes the sizes of an area
---     text-lines, text-none    its lines; and nothing where there is no area
---     text-room        `room` bytes have room for it
---     text-read        decoded as a text in hexadecimal it is the bench file of the area
+--     sized_true               what makes the sizes of an area
+--     text_lines, text_none    its lines; and nothing where there is no area
+--     text_room        `room` bytes have room for it
+--     text_read        decoded as a text in hexadecimal it is the bench file of the area
 -- Each line says the bytes that it was printed for, and its comment says nothing (`Says` of the crate hex); so the
 -- lines say these bytes one after another. A router fits a byte, and the metric of a used link fits three.
 use Rattle.std.specs.Prelude.{ℕ, zero, suc, ◌+◌, ◌*◌, ◌≤◌, ◌<◌, ◌≡◌, true, false, get_or}
@@ -11,58 +11,58 @@ use Rattle.std.proofs.Common.{sym, ap, ◌∙◌, subst, ⊎_elim, arith, length
 use mathlib.Core.List.{List, [], ◌∷◌, ◌++◌, append_assoc}
 use Rattle.std.proofs.Math.ListN.{length}
 use Rattle.area.specs.Limits.{width, unused}
-use Rattle.area.specs.TestLaws.{look, both_true, and-true}
-use Rattle.area.specs.Sizes.{isRouterCount, isTable}
-use Rattle.area.specs.SizeLaws.{router-count-most, table-true}
+use Rattle.area.specs.TestLaws.{look, both_true, and_true}
+use Rattle.area.specs.Sizes.{is_router_count, is_table}
+use Rattle.area.specs.SizeLaws.{router_count_most, table_true}
 use Rattle.entries.specs.declared.Entry.{Entry}
 use Rattle.text.specs.Text.{word, field, line}
-use Rattle.text.specs.TextLaws.{field-after, line-is, field_below, line-below}
+use Rattle.text.specs.TextLaws.{field_after, line_is, field_below, line_below}
 use Rattle.hex.specs.Hex.{most, unhexed}
-use Rattle.hex.specs.HexLaws.{length-hexed}
-use Rattle.hex.specs.PairLaws.{Says, says_none, says_then, bytes-say, says-whole}
-use Rattle.hex.specs.CommentLaws.{isOneLine, joined_line, field-line, comment, says-words, says-named}
-use Rattle.area_file.specs.AreaFile.{linksOf, countBytes, linkBytes, bytes_of, times, fileOf}
-use Rattle.area_file.specs.AreaFile.{routersLine, countLine, linkLine, linkLines, lastLines, allLines}
-use Rattle.area_file.specs.AreaFile.{isSized, areaText}
-use Rattle.area_file.specs.LinkLaws.{All, all_listed, listed-most}
+use Rattle.hex.specs.HexLaws.{length_hexed}
+use Rattle.hex.specs.PairLaws.{Says, says_none, says_then, bytes_say, says_whole}
+use Rattle.hex.specs.CommentLaws.{is_one_line, joined_line, field_line, comment, says_words, says_named}
+use Rattle.area_file.specs.AreaFile.{links_of, count_bytes, link_bytes, bytes_of, times, file_of}
+use Rattle.area_file.specs.AreaFile.{routers_line, count_line, link_line, link_lines, last_lines, all_lines}
+use Rattle.area_file.specs.AreaFile.{is_sized, area_text}
+use Rattle.area_file.specs.LinkLaws.{All, all_listed, listed_most}
 
 -- ---- lines say bytes
-routers-say : (n : ℕ) → n < 256 → Says (routersLine n) (n ∷ [])
-unfolding routersLine isOneLine
-routers-say n h = says_then (bytes-say (n ∷ []) byte) (says-named 12 (word " routers ") n refl)
+routers_say : (n : ℕ) → n < 256 → Says (routers_line n) (n ∷ [])
+unfolding routers_line is_one_line
+routers_say n h = says_then (bytes_say (n ∷ []) byte) (says_named 12 (word " routers ") n refl)
   where
     byte : (k : ℕ) → get_or (n ∷ []) k 0 < 256
     byte zero = h
     byte (suc k) = omega arith
 
-count-byte : (count : ℕ) → count < 65536 → (k : ℕ) → get_or (countBytes count) k 0 < 256
-count-byte count h zero = omega arith
-count-byte count h (suc zero) = omega arith
-count-byte count h (suc (suc k)) = omega arith
+count_byte : (count : ℕ) → count < 65536 → (k : ℕ) → get_or (count_bytes count) k 0 < 256
+count_byte count h zero = omega arith
+count_byte count h (suc zero) = omega arith
+count_byte count h (suc (suc k)) = omega arith
 
-count-says : (count : ℕ) → count < 65536 → Says (countLine count) (countBytes count)
-unfolding countLine isOneLine
-count-says count h =
-    says_then (bytes-say (countBytes count) (count-byte count h)) (says-named 10 (word " links ") count refl)
+count_says : (count : ℕ) → count < 65536 → Says (count_line count) (count_bytes count)
+unfolding count_line is_one_line
+count_says count h =
+    says_then (bytes_say (count_bytes count) (count_byte count h)) (says_named 10 (word " links ") count refl)
 
 -- a link whose numbers fit
 abbrev InBytes : (x : Entry) → Type 0
 InBytes x = (x.from < width) × (x.to < width) × (x.metric < unused)
 
-link-byte : (x : Entry) → InBytes x → (k : ℕ) → get_or (linkBytes x) k 0 < 256
-link-byte x h zero = omega arith
-link-byte x h (suc zero) = omega arith
-link-byte x h (suc (suc zero)) = omega arith
-link-byte x h (suc (suc (suc zero))) = omega arith
-link-byte x h (suc (suc (suc (suc zero)))) = omega arith
-link-byte x h (suc (suc (suc (suc (suc k))))) = omega arith
+link_byte_lem : (x : Entry) → InBytes x → (k : ℕ) → get_or (link_bytes x) k 0 < 256
+link_byte_lem x h zero = omega arith
+link_byte_lem x h (suc zero) = omega arith
+link_byte_lem x h (suc (suc zero)) = omega arith
+link_byte_lem x h (suc (suc (suc zero))) = omega arith
+link_byte_lem x h (suc (suc (suc (suc zero)))) = omega arith
+link_byte_lem x h (suc (suc (suc (suc (suc k))))) = omega arith
 
 -- its comment
-link-comment :
+link_comment :
     (i j v : ℕ)
     → Says (field (word "    # ") i ++ (field (word " to ") j ++ line (word " at ") v)) []
-unfolding isOneLine
-link-comment i j v = subst (λ (t : List ℕ). Says t []) (sym parts) (says-words 4 words one)
+unfolding is_one_line
+link_comment i j v = subst (λ (t : List ℕ). Says t []) (sym parts) (says_words 4 words one)
   where
     a : List ℕ
     a = field (word " ") i
@@ -76,33 +76,33 @@ link-comment i j v = subst (λ (t : List ℕ). Says t []) (sym parts) (says-word
     words : List ℕ
     words = a ++ (b ++ c)
 
-    one : isOneLine words ≡ true
+    one : is_one_line words ≡ true
     one =
-        joined_line a (b ++ c) (field-line (word " ") i refl)
-        (joined_line b c (field-line (word " to ") j refl) (field-line (word " at ") v refl))
+        joined_line a (b ++ c) (field_line (word " ") i refl)
+        (joined_line b c (field_line (word " to ") j refl) (field_line (word " at ") v refl))
 
     parts : field (word "    # ") i ++ (b ++ line (word " at ") v) ≡ comment 4 (words ++ (10 ∷ []))
     parts =
-        ap (λ (w : List ℕ). w ++ (b ++ line (word " at ") v)) (field-after (word "    #") (word " ") i)
-        ∙ ap (λ (w : List ℕ). (comment 4 [] ++ a) ++ (b ++ w)) (line-is (word " at ") v)
+        ap (λ (w : List ℕ). w ++ (b ++ line (word " at ") v)) (field_after (word "    #") (word " ") i)
+        ∙ ap (λ (w : List ℕ). (comment 4 [] ++ a) ++ (b ++ w)) (line_is (word " at ") v)
         ∙ simp append_assoc
 
-link-says : (x : Entry) → InBytes x → Says (linkLine x) (linkBytes x)
-unfolding linkLine
-link-says x h =
-    says_then (bytes-say (linkBytes x) (link-byte x h)) (link-comment x.from x.to x.metric)
+link_says : (x : Entry) → InBytes x → Says (link_line x) (link_bytes x)
+unfolding link_line
+link_says x h =
+    says_then (bytes_say (link_bytes x) (link_byte_lem x h)) (link_comment x.from x.to x.metric)
 
-links-say : (l : List Entry) → All InBytes l → Says (linkLines l) (bytes_of l)
-unfolding linkLines bytes_of
-links-say [] h = says_none
-links-say (x ∷ l) h = says_then (link-says x h.0) (links-say l h.1)
+links_say : (l : List Entry) → All InBytes l → Says (link_lines l) (bytes_of l)
+unfolding link_lines bytes_of
+links_say [] h = says_none
+links_say (x ∷ l) h = says_then (link_says x h.0) (links_say l h.1)
 
-last-say : Says lastLines ((0 ∷ []) ++ (times ++ countBytes 0))
-unfolding lastLines isOneLine
-last-say =
-    says_then (says_then (bytes-say (0 ∷ []) zeros) (says-words 12 (word " changes") refl))
-    (says_then (says_then (bytes-say times small) (says-words 6 (word " hold time 0, step time 1") refl))
-    (says_then (bytes-say (countBytes 0) (count-byte 0 (omega arith))) (says-words 10 (word " steps") refl)))
+last_say : Says last_lines ((0 ∷ []) ++ (times ++ count_bytes 0))
+unfolding last_lines is_one_line
+last_say =
+    says_then (says_then (bytes_say (0 ∷ []) zeros) (says_words 12 (word " changes") refl))
+    (says_then (says_then (bytes_say times small) (says_words 6 (word " hold time 0, step time 1") refl))
+    (says_then (bytes_say (count_bytes 0) (count_byte 0 (omega arith))) (says_words 10 (word " steps") refl)))
   where
     small : (k : ℕ) → get_or times k 0 < 256
     small zero = omega arith
@@ -120,81 +120,81 @@ last-say =
 abbrev pub room : ℕ
 room = 37 * (width * width) + 150
 
-link-length : (x : Entry) → InBytes x → length (linkLine x) ≤ 37
-unfolding linkLine
-link-length x h =
-    let digits = length-hexed (linkBytes x) in
+link_length : (x : Entry) → InBytes x → length (link_line x) ≤ 37
+unfolding link_line
+link_length x h =
+    let digits = length_hexed (link_bytes x) in
     let from = field_below 2 x.from (omega arith) (omega arith) (word "    # ") in
     let to = field_below 2 x.to (omega arith) (omega arith) (word " to ") in
-    let metric = line-below 8 x.metric (omega arith) (omega arith) (word " at ") in
+    let metric = line_below 8 x.metric (omega arith) (omega arith) (word " at ") in
     simp length-append (omega arith)
 
-links-length : (l : List Entry) → All InBytes l → length (linkLines l) ≤ 37 * length l
-unfolding linkLines
-links-length [] h = omega arith
-links-length (x ∷ l) h = simp length-append (omega (arith, link-length x h.0, links-length l h.1))
+links_length : (l : List Entry) → All InBytes l → length (link_lines l) ≤ 37 * length l
+unfolding link_lines
+links_length [] h = omega arith
+links_length (x ∷ l) h = simp length-append (omega (arith, link_length x h.0, links_length l h.1))
 
-routers-length : (n : ℕ) → n ≤ width → length (routersLine n) ≤ 27
-unfolding routersLine
-routers-length n h =
-    let line = line-below 2 n (omega arith) (omega arith) (word "            # routers ") in
-    simp length-append (omega (arith, length-hexed (n ∷ [])))
+routers_length : (n : ℕ) → n ≤ width → length (routers_line n) ≤ 27
+unfolding routers_line
+routers_length n h =
+    let line = line_below 2 n (omega arith) (omega arith) (word "            # routers ") in
+    simp length-append (omega (arith, length_hexed (n ∷ [])))
 
-count-length : (count : ℕ) → count ≤ width * width → length (countLine count) ≤ 27
-unfolding countLine
-count-length count h =
-    let line = line-below 4 count (omega arith) (omega arith) (word "          # links ") in
-    simp length-append (omega (arith, length-hexed (countBytes count)))
+count_length : (count : ℕ) → count ≤ width * width → length (count_line count) ≤ 27
+unfolding count_line
+count_length count h =
+    let line = line_below 4 count (omega arith) (omega arith) (word "          # links ") in
+    simp length-append (omega (arith, length_hexed (count_bytes count)))
 
-last-length : length lastLines ≤ 96
-unfolding lastLines
-last-length =
-    simp length-append (omega (arith, length-hexed (0 ∷ []), length-hexed times, length-hexed (countBytes 0)))
+last_length : length last_lines ≤ 96
+unfolding last_lines
+last_length =
+    simp length-append (omega (arith, length_hexed (0 ∷ []), length_hexed times, length_hexed (count_bytes 0)))
 
-fits : (n : ℕ) (m : List ℕ) → n ≤ width → All InBytes (linksOf n m)
+fits : (n : ℕ) (m : List ℕ) → n ≤ width → All InBytes (links_of n m)
 fits n m h = all_listed n m InBytes (width * n) (λ d b x. (omega arith, omega arith, x.used))
 
-lines-length : (n : ℕ) (m : List ℕ) → n ≤ width → length (allLines n m) ≤ room
-unfolding allLines
-lines-length n m h =
-    let few = listed-most n m (width * n) in
-    let links = links-length (linksOf n m) (fits n m h) in
-    let head = routers-length n h in
-    let count = count-length (length (linksOf n m)) (omega arith) in
-    simp length-append (omega (arith, last-length))
+lines_length : (n : ℕ) (m : List ℕ) → n ≤ width → length (all_lines n m) ≤ room
+unfolding all_lines
+lines_length n m h =
+    let few = listed_most n m (width * n) in
+    let links = links_length (links_of n m) (fits n m h) in
+    let head = routers_length n h in
+    let count = count_length (length (links_of n m)) (omega arith) in
+    simp length-append (omega (arith, last_length))
 
 -- ---- the text
 module _ (n : ℕ) (m : List ℕ) where
-  pub text-lines : isSized n m ≡ true → areaText n m ≡ allLines n m
-  unfolding areaText
-  text-lines t = rw t refl
+  pub text_lines : is_sized n m ≡ true → area_text n m ≡ all_lines n m
+  unfolding area_text
+  text_lines t = rw t refl
 
-  pub text-none : isSized n m ≡ false → areaText n m ≡ []
-  unfolding areaText
-  text-none f = rw f refl
+  pub text_none : is_sized n m ≡ false → area_text n m ≡ []
+  unfolding area_text
+  text_none f = rw f refl
 
-  pub sized-true : isRouterCount n ≡ true → length m ≡ width * width → isSized n m ≡ true
-  unfolding isSized
-  sized-true a b = and-true (isRouterCount n) (isTable m) a (table-true m b)
+  pub sized_true : is_router_count n ≡ true → length m ≡ width * width → is_sized n m ≡ true
+  unfolding is_sized
+  sized_true a b = and_true (is_router_count n) (is_table m) a (table_true m b)
 
-  area-most : isSized n m ≡ true → n ≤ width
-  unfolding isSized
-  area-most t = router-count-most n (both_true (isRouterCount n) (isTable m) t).0
+  area_most : is_sized n m ≡ true → n ≤ width
+  unfolding is_sized
+  area_most t = router_count_most n (both_true (is_router_count n) (is_table m) t).0
 
-  pub text-room : length (areaText n m) ≤ room
-  text-room =
+  pub text_room : length (area_text n m) ≤ room
+  text_room =
       ⊎_elim
-      (λ t. rw (text-lines t) (lines-length n m (area-most t)))
-      (λ f. rw (text-none f) (omega arith))
-      (look (isSized n m))
+      (λ t. rw (text_lines t) (lines_length n m (area_most t)))
+      (λ f. rw (text_none f) (omega arith))
+      (look (is_sized n m))
 
-  pub text-read : isSized n m ≡ true → unhexed (areaText n m) ≡ fileOf n m
-  unfolding allLines fileOf
-  text-read t =
-      let few = area-most t in
-      let short : length (areaText n m) ≤ most = omega (arith, text-room) in
-      let many = listed-most n m (width * n) in
-      let says = says_then (routers-say n (omega arith))
-      (says_then (count-says (length (linksOf n m)) (omega arith))
-      (says_then (links-say (linksOf n m) (fits n m few)) last-say)) in
-      says-whole (subst (λ (w : List ℕ). Says w (fileOf n m)) (sym (text-lines t)) says) short
+  pub text_read : is_sized n m ≡ true → unhexed (area_text n m) ≡ file_of n m
+  unfolding all_lines file_of
+  text_read t =
+      let few = area_most t in
+      let short : length (area_text n m) ≤ most = omega (arith, text_room) in
+      let many = listed_most n m (width * n) in
+      let says = says_then (routers_say n (omega arith))
+      (says_then (count_says (length (links_of n m)) (omega arith))
+      (says_then (links_say (links_of n m) (fits n m few)) last_say)) in
+      says_whole (subst (λ (w : List ℕ). Says w (file_of n m)) (sym (text_lines t)) says) short

@@ -11,9 +11,9 @@ ghost use Rattle.std.specs.Prelude.{◌≡◌, ◌≤◌, ◌<◌, ◌*◌, leng
 ghost use Rattle.area.specs.Limits.{width, unused};
 ghost use Rattle.text.specs.Text.{Appended};
 ghost use Rattle.hex.specs.Digits.{hexed};
-ghost use Rattle.area_file.specs.AreaFile.{link, isListed, link_of, linksOf, linkBytes};
-ghost use Rattle.area_file.specs.AreaFile.{routersLine, countLine, linkLine, linkLines, wordsLine, lastLines};
-ghost use Rattle.area_file.specs.AreaFile.{isSized, areaText};
+ghost use Rattle.area_file.specs.AreaFile.{link, is_listed, link_of, links_of, link_bytes};
+ghost use Rattle.area_file.specs.AreaFile.{routers_line, count_line, link_line, link_lines, words_line, last_lines};
+ghost use Rattle.area_file.specs.AreaFile.{is_sized, area_text};
 
 use area::limits::{CELLS, UNUSED, WIDTH};
 use hex::hex_bytes;
@@ -25,7 +25,7 @@ pub const ROOM: usize = 37 * CELLS + 150;
 
 // Appends the text of an area of n routers with these metrics; nothing where there is no such area.
 pub fn append_area(n: usize, metrics: &[u32], out: &mut [u8], at: usize) -> usize
-    ensures text { Appended out.old at (areaText n metrics.now) out.new result }
+    ensures text { Appended out.old at (area_text n metrics.now) out.new result }
 {
     if !is_sized(n, metrics) {
         return append(out, at, b"");
@@ -39,7 +39,7 @@ pub fn append_area(n: usize, metrics: &[u32], out: &mut [u8], at: usize) -> usiz
 
 // Have n and the table the sizes of an area?
 fn is_sized(n: usize, metrics: &[u32]) -> bool
-    ensures answer { result ≡ isSized n metrics.now }
+    ensures answer { result ≡ is_sized n metrics.now }
 {
     if n < 1 {
         return false;
@@ -53,7 +53,7 @@ fn is_sized(n: usize, metrics: &[u32]) -> bool
 // How many links are listed.
 fn count_links(n: usize, metrics: &[u32]) -> usize
     requires { (n ≤ width) × (length metrics.now ≡ width * width) }
-    ensures { (result ≡ length (linksOf n metrics.now)) × (result ≤ width * width) }
+    ensures { (result ≡ length (links_of n metrics.now)) × (result ≤ width * width) }
 {
     let mut count = 0;
     for k in 0..WIDTH * n {
@@ -66,7 +66,7 @@ fn count_links(n: usize, metrics: &[u32]) -> usize
 
 // Is the cell at place k, with this metric, a link?
 fn is_listed(n: usize, k: usize, metric: u32) -> bool
-    ensures answer { result ≡ isListed n k metric }
+    ensures answer { result ≡ is_listed n k metric }
 {
     let to = k % WIDTH;
     if n <= to {
@@ -81,7 +81,7 @@ fn is_listed(n: usize, k: usize, metric: u32) -> bool
 // The number of routers.
 fn routers_line(n: usize, out: &mut [u8], at: usize) -> usize
     requires { n ≤ width }
-    ensures { Appended out.old at (routersLine n) out.new result }
+    ensures { Appended out.old at (routers_line n) out.new result }
 {
     let bytes = [n as u8];
     let at = hex_bytes(&bytes, out, at);
@@ -91,7 +91,7 @@ fn routers_line(n: usize, out: &mut [u8], at: usize) -> usize
 // The number of links.
 fn count_line(count: usize, out: &mut [u8], at: usize) -> usize
     requires { count ≤ width * width }
-    ensures { Appended out.old at (countLine count) out.new result }
+    ensures { Appended out.old at (count_line count) out.new result }
 {
     let bytes = [(count / 256) as u8, (count % 256) as u8];
     let at = hex_bytes(&bytes, out, at);
@@ -101,7 +101,7 @@ fn count_line(count: usize, out: &mut [u8], at: usize) -> usize
 // A line for each link.
 fn link_lines(n: usize, metrics: &[u32], out: &mut [u8], start: usize) -> usize
     requires { (n ≤ width) × (length metrics.now ≡ width * width) × (start ≤ length out.old) }
-    ensures { let lines = linkLines (linksOf n metrics.now) in
+    ensures { let lines = link_lines (links_of n metrics.now) in
         Appended out.old start lines out.new result }
 {
     let mut at = start;
@@ -114,7 +114,7 @@ fn link_lines(n: usize, metrics: &[u32], out: &mut [u8], start: usize) -> usize
 // The line of a cell, where it is a link.
 fn cell_line(n: usize, k: usize, metric: u32, out: &mut [u8], at: usize) -> usize
     requires { (k < width * width) × (at ≤ length out.old) }
-    ensures { Appended out.old at (linkLines (link_of n k metric)) out.new result }
+    ensures { Appended out.old at (link_lines (link_of n k metric)) out.new result }
 {
     if is_listed(n, k, metric) {
         return link_line(k / WIDTH, k % WIDTH, metric, out, at);
@@ -125,7 +125,7 @@ fn cell_line(n: usize, k: usize, metric: u32, out: &mut [u8], at: usize) -> usiz
 // The line of a link.
 fn link_line(from: usize, to: usize, metric: u32, out: &mut [u8], at: usize) -> usize
     requires { (from < width) × (to < width) × (metric < unused) }
-    ensures { Appended out.old at (linkLine (link from to metric)) out.new result }
+    ensures { Appended out.old at (link_line (link from to metric)) out.new result }
 {
     let at = link_digits(from, to, metric, out, at);
     let at = field(out, at, b"    # ", from as u64);
@@ -136,7 +136,7 @@ fn link_line(from: usize, to: usize, metric: u32, out: &mut [u8], at: usize) -> 
 // The digits of its five bytes.
 fn link_digits(from: usize, to: usize, metric: u32, out: &mut [u8], at: usize) -> usize
     requires { (from < width) × (to < width) × (metric < unused) }
-    ensures { Appended out.old at (hexed (linkBytes (link from to metric))) out.new result }
+    ensures { Appended out.old at (hexed (link_bytes (link from to metric))) out.new result }
 {
     let high = (metric / 65536) as u8;
     let middle = (metric / 256 % 256) as u8;
@@ -147,7 +147,7 @@ fn link_digits(from: usize, to: usize, metric: u32, out: &mut [u8], at: usize) -
 
 // No changes, the times that a file is given, and no steps.
 fn last_lines(out: &mut [u8], at: usize) -> usize
-    ensures { Appended out.old at lastLines out.new result }
+    ensures { Appended out.old at last_lines out.new result }
 {
     let at = words_line(&[0], b"            # changes\n", out, at);
     let at = words_line(
@@ -162,7 +162,7 @@ fn last_lines(out: &mut [u8], at: usize) -> usize
 // The digits of these bytes, and a comment without numbers.
 fn words_line(bytes: &[u8], words: &[u8], out: &mut [u8], at: usize) -> usize
     ensures { Appended out.old at
-        (wordsLine bytes.now words.now) out.new result }
+        (words_line bytes.now words.now) out.new result }
 {
     let at = hex_bytes(bytes, out, at);
     append(out, at, words)

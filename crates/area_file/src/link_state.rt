@@ -2,7 +2,7 @@
 // then the lists. What is appended is specs/FromIsis.antt.
 ghost use Rattle.std.specs.Prelude.{◌≡◌, min, length};
 ghost use Rattle.text.specs.Text.{Appended};
-ghost use Rattle.area_file.specs.FromIsis.{table_of, text_of, isisText, isisTable};
+ghost use Rattle.area_file.specs.FromIsis.{table_of, text_of, isis_text, isis_table};
 
 use crate::append_area;
 use area::bytes::two;
@@ -15,8 +15,8 @@ pub const MOST_BYTES: usize = MOST;
 // Puts the text of the area at the start of `out`, or the line that says why there is none, as far as there is room,
 // and gives its length. The metric table is lent to be filled, as isis::read fills it.
 pub fn from_isis(stream: &[u8], table: &mut [u32], out: &mut [u8]) -> usize
-    ensures text { Appended out.old 0 (isisText stream.now table.old) out.new result }
-    ensures metrics { table.new ≡ isisTable stream.now table.old }
+    ensures text { Appended out.old 0 (isis_text stream.now table.old) out.new result }
+    ensures metrics { table.new ≡ isis_table stream.now table.old }
 {
     let start = place(stream, 2);
     let lists = place(stream, 2 + two(stream, 0));

@@ -1,87 +1,87 @@
 -- Laws of Read and of the old reader, for their callers and their readers.
---     links-most, accepted-most, accepted-largest, second-byte, links-among
+--     links_most, accepted_most, accepted_largest, second_byte, links_among
 --                                                      a file that is accepted in either format: how many links and
 --                                                      bytes it has at most, its second byte, and how many links
 --                                                      between few routers
 --     one_format                                       and it is in one of them only
---     table-sized, file-passed, file-accepted          what is known where Read refuses nothing
---     link-cell, other-cell, cell-link                 then the table holds the listed links, and nothing else
---     file-size, file-largest                          the length of the file, by its counts, and at most
---     changes-length, steps-length, changes-count      the parts that Plan and Step get
---     contents-n, .. contents-times                    what the file says of itself
---     no-contents-n, no-contents-changes               and what is handed back with a refusal
---     long-refused     a file that is longer than the largest is refused
---     first-refusal    the first bytes of a file, one more than the largest has, decide how it is refused
---     first-bytes      and all that Read does
+--     table_sized, file_passed, file_accepted          what is known where Read refuses nothing
+--     link_cell, other_cell, cell_link                 then the table holds the listed links, and nothing else
+--     file_size, file_largest                          the length of the file, by its counts, and at most
+--     changes_length, steps_length, changes_count      the parts that Plan and Step get
+--     contents_n, .. contents_times                    what the file says of itself
+--     no_contents_n, no_contents_changes               and what is handed back with a refusal
+--     long_refused     a file that is longer than the largest is refused
+--     first_refusal    the first bytes of a file, one more than the largest has, decide how it is refused
+--     first_bytes      and all that Read does
 --
 -- Why the first bytes decide: a file longer than `largest` is refused, and so is what is cut from it. Both have the
 -- same bytes up to `largest`; a count that is not refused leaves the next count below that place, so both go down the
--- same ladder, and meet the same fault (same_first for the links, same_rest for what follows, same-refusal for all).
+-- same ladder, and meet the same fault (same_first for the links, same_rest for what follows, same_refusal for all).
 use Rattle.std.specs.Prelude.{ℕ, ◌+◌, ◌-◌, ◌*◌, ◌/◌, ◌≤◌, ◌<◌, ◌≡◌, true, false, ◌≢◌, ◌⊎◌, length, get_or, take, drop}
 use Rattle.std.proofs.Math.Path.{refl, ap}
 use Rattle.std.proofs.Common.{sym, ap₂, ◌∙◌, subst, inl, inr, ⊎_elim, arith, length-drop, length-take-le, take_all, get_or-take, get_or-drop}
 use mathlib.Core.List.{List}
 use Rattle.std.proofs.Math.Decide.{dec_lt, ℕ_discrete}
 use Rattle.area.specs.Bytes.{two}
-use Rattle.area.specs.Limits.{width, unused, mostChanges, mostSteps}
+use Rattle.area.specs.Limits.{width, unused, most_changes, most_steps}
 use Rattle.area.specs.Tests.{first}
-use Rattle.area.specs.TestLaws.{look, first-same}
-use Rattle.area.specs.Sizes.{isRouterCount}
-use Rattle.area.specs.SizeLaws.{router-count-most}
+use Rattle.area.specs.TestLaws.{look, first_same}
+use Rattle.area.specs.Sizes.{is_router_count}
+use Rattle.area.specs.SizeLaws.{router_count_most}
 use Rattle.area.specs.Tables.{cell}
-use Rattle.area.specs.TableLaws.{cell-tabulate}
-use Rattle.entries.specs.Entries.{entryCount, entry_of, from, to, metric, isForPair, listedMetric}
-use Rattle.entries.specs.EntryLaws.{entry-count-is, entry-count-least, entry-bytes, entry-same}
-use Rattle.entries.specs.EntryLaws.{given-none, given-cases, given-at}
-use Rattle.entries.specs.DifferentLaws.{different-most}
-use Rattle.bench_file.specs.Sections.{routers, linkCount, links, changeCountAt, changeCount, changesAt}
-use Rattle.bench_file.specs.Sections.{changes, holdTime, stepTime, stepCountAt, stepCount, stepsAt, steps}
+use Rattle.area.specs.TableLaws.{cell_tabulate}
+use Rattle.entries.specs.Entries.{entry_count, entry_of, from, to, metric, is_for_pair, listed_metric}
+use Rattle.entries.specs.EntryLaws.{entry_count_is, entry_count_least, entry_bytes, entry_same}
+use Rattle.entries.specs.EntryLaws.{given_none, given_cases, given_at}
+use Rattle.entries.specs.DifferentLaws.{different_most}
+use Rattle.bench_file.specs.Sections.{routers, link_count, links, change_count_at, change_count, changes_at}
+use Rattle.bench_file.specs.Sections.{changes, hold_time, step_time, step_count_at, step_count, steps_at, steps}
 use Rattle.bench_file.specs.Sections.{largest}
-use Rattle.bench_file.specs.Formats.{timesSize}
+use Rattle.bench_file.specs.Formats.{times_size}
 use Rattle.bench_file.specs.declared.Format.{Format}
 use Rattle.bench_file.specs.declared.Format.TheVariants.{Old, New}
-use Rattle.bench_file.specs.Faults.{mostLinks, linkRefusal, linksRefusal, restRefusal, fileRefusal}
-use Rattle.bench_file.specs.FaultLaws.{most-links-is, pairs-most, Accepted, accepted-of, link-same}
-use Rattle.bench_file.specs.FaultLaws.{rest-many-changes, rest-many-steps, rest_more}
-use Rattle.bench_file.specs.FaultLaws.{file-count, file-many, file-link, file-rest}
-use Rattle.bench_file.specs.Read.{readRefusal, contents, noContents, contentsOf, linked, metricsOf}
-use Rattle.bench_file.specs.ReadLaws.{read-size, read-file, contents-refused}
-use Rattle.bench_file.specs.ReadLaws.{metrics-kept, metrics-refused, metrics-accepted}
+use Rattle.bench_file.specs.Faults.{most_links, link_refusal, links_refusal, rest_refusal, file_refusal}
+use Rattle.bench_file.specs.FaultLaws.{most_links_is, pairs_most, Accepted, accepted_of, link_same}
+use Rattle.bench_file.specs.FaultLaws.{rest_many_changes, rest_many_steps, rest_more}
+use Rattle.bench_file.specs.FaultLaws.{file_count, file_many, file_link, file_rest}
+use Rattle.bench_file.specs.Read.{read_refusal, contents, no_contents, contents_of, linked, metrics_of}
+use Rattle.bench_file.specs.ReadLaws.{read_size, read_file, contents_refused}
+use Rattle.bench_file.specs.ReadLaws.{metrics_kept, metrics_refused, metrics_accepted}
 
 -- ---- the largest file
 -- so many links there are at most, where their count is not refused
-pub links-most :
+pub links_most :
     (f : List ℕ)
-    → isRouterCount (routers f) ≡ true
-    → linkCount f ≤ mostLinks (routers f)
-    → linkCount f ≤ width * (width - 1)
-links-most f a b =
-    let most = pairs-most (routers f) (router-count-most (routers f) a) in
-    omega (arith, most-links-is (routers f))
+    → is_router_count (routers f) ≡ true
+    → link_count f ≤ most_links (routers f)
+    → link_count f ≤ width * (width - 1)
+links_most f a b =
+    let most = pairs_most (routers f) (router_count_most (routers f) a) in
+    omega (arith, most_links_is (routers f))
 
 -- the old format is without the times
-times-most : (format : Format) → timesSize format ≤ 4
-times-most Old = omega arith
-times-most New = omega arith
+times_most : (format : Format) → times_size format ≤ 4
+times_most Old = omega arith
+times_most New = omega arith
 
-pub accepted-most : (format : Format) (f : List ℕ) → Accepted format f → length f + 4 ≤ largest + timesSize format
-accepted-most format f good =
-    let few-links = links-most f good.routers-in good.most-links in
-    omega (arith, good.size, good.most-changes, good.most-steps, few-links)
+pub accepted_most : (format : Format) (f : List ℕ) → Accepted format f → length f + 4 ≤ largest + times_size format
+accepted_most format f good =
+    let few_links = links_most f good.routers_in good.most_links_lem in
+    omega (arith, good.size, good.most_changes_lem, good.most_steps_lem, few_links)
 
-pub accepted-largest : (format : Format) (f : List ℕ) → Accepted format f → length f ≤ largest
-accepted-largest format f good = omega (arith, accepted-most format f good, times-most format)
+pub accepted_largest : (format : Format) (f : List ℕ) → Accepted format f → length f ≤ largest
+accepted_largest format f good = omega (arith, accepted_most format f good, times_most format)
 
 -- No file is accepted in both formats (02, No. 10): the times would make four bytes more of it, and steps have three.
 pub one_format : (f : List ℕ) → Accepted Old f → Accepted New f → ⊥
 one_format f old new = omega (arith, old.size, new.size)
 
 -- the high byte of the link count
-pub second-byte : (format : Format) (f : List ℕ) → Accepted format f → get_or f 1 0 ≤ width * (width - 1) / 256
-second-byte format f good = omega (arith, links-most f good.routers-in good.most-links)
+pub second_byte : (format : Format) (f : List ℕ) → Accepted format f → get_or f 1 0 ≤ width * (width - 1) / 256
+second_byte format f good = omega (arith, links_most f good.routers_in good.most_links_lem)
 
 -- where every byte that may number a router is among k numbers, these have k * k pairs, and no pair is listed twice
-pub links-among :
+pub links_among :
     (format : Format) (f : List ℕ)
     → Accepted format f
     → (Among : ℕ → Type 0)
@@ -89,17 +89,17 @@ pub links-among :
     → (k : ℕ) (place : ℕ → ℕ)
     → ((r : ℕ) → Among r → place r < k)
     → ((r s : ℕ) → Among r → Among s → place r ≡ place s → r ≡ s)
-    → linkCount f ≤ k * k
-links-among format f good Among byte k place inside apart =
-    different-most (links f) (linkCount f) (λ e h. (good.each-link e h).new) Among ends k place inside apart
+    → link_count f ≤ k * k
+links_among format f good Among byte k place inside apart =
+    different_most (links f) (link_count f) (λ e h. (good.each_link e h).new) Among ends k place inside apart
   where
     few : routers f ≤ width
-    few = router-count-most (routers f) good.routers-in
+    few = router_count_most (routers f) good.routers_in
 
-    ends : (e : ℕ) → e < linkCount f → Among (from (links f) e) × Among (to (links f) e)
+    ends : (e : ℕ) → e < link_count f → Among (from (links f) e) × Among (to (links f) e)
     ends e h =
-        let link = good.each-link e h in
-        let bytes = entry-bytes (links f) e link.whole in
+        let link = good.each_link e h in
+        let bytes = entry_bytes (links f) e link.whole in
         let i = bytes.0 ∙ get_or-drop 3 f (5 * e) 0 in
         let j = bytes.1 ∙ get_or-drop 3 f (5 * e + 1) 0 in (
           subst Among (sym i) (byte _ (omega (arith, good.size)) (omega (arith, few, i, link.entry.from_in))),
@@ -107,131 +107,131 @@ links-among format f good Among byte k place inside apart =
         )
 
 -- ---- a file that Read does not refuse
-module _ (f t : List ℕ) (z : readRefusal f t ≡ 0) where
+module _ (f t : List ℕ) (z : read_refusal f t ≡ 0) where
   -- the table and the file are sound
-  pub table-sized : length t ≡ width * width
-  table-sized =
+  pub table_sized : length t ≡ width * width
+  table_sized =
       elim (ℕ_discrete (length t) (width * width)) [
         | yes a ↦ a
-        | no a ↦ absurd (let wrong = read-size f t a in let x : ⊥ = omega arith in x)
+        | no a ↦ absurd (let wrong = read_size f t a in let x : ⊥ = omega arith in x)
       ]
 
   -- the file by itself is not refused
-  pub file-passed : fileRefusal New f ≡ 0
-  file-passed = sym (read-file f t table-sized) ∙ z
+  pub file_passed : file_refusal New f ≡ 0
+  file_passed = sym (read_file f t table_sized) ∙ z
 
-  pub file-accepted : Accepted New f
-  file-accepted = accepted-of New f file-passed
+  pub file_accepted : Accepted New f
+  file_accepted = accepted_of New f file_passed
 
   -- the cells of the table
   cells :
       (i j : ℕ)
       → i < width
       → j < width
-      → cell width (metricsOf f t) i j ≡ listedMetric (links f) (linkCount f) i j unused
+      → cell width (metrics_of f t) i j ≡ listed_metric (links f) (link_count f) i j unused
   unfolding linked
   cells i j a b =
-      ap (λ (m : List ℕ). cell width m i j) (metrics-accepted New f t table-sized file-passed)
-      ∙ cell-tabulate width (λ i j. listedMetric (links f) (linkCount f) i j unused) i j a b
+      ap (λ (m : List ℕ). cell width m i j) (metrics_accepted New f t table_sized file_passed)
+      ∙ cell_tabulate width (λ i j. listed_metric (links f) (link_count f) i j unused) i j a b
 
   -- The links that the file lists are what the table holds: the cell of each listed pair has the metric of its link,
-  pub link-cell :
+  pub link_cell :
       (e : ℕ)
-      → e < linkCount f
-      → cell width (metricsOf f t) (from (links f) e) (to (links f) e) ≡ metric (links f) e
-  link-cell e h =
-      let most = router-count-most (routers f) file-accepted.routers-in in
-      let l = (file-accepted.each-link e h).entry in
+      → e < link_count f
+      → cell width (metrics_of f t) (from (links f) e) (to (links f) e) ≡ metric (links f) e
+  link_cell e h =
+      let most = router_count_most (routers f) file_accepted.routers_in in
+      let l = (file_accepted.each_link e h).entry in
       cells (from (links f) e) (to (links f) e) (omega (arith, l.from_in)) (omega (arith, l.to_in))
-      ∙ given-at (links f) (linkCount f) unused (λ d b. (file-accepted.each-link d b).new) e h
+      ∙ given_at (links f) (link_count f) unused (λ d b. (file_accepted.each_link d b).new) e h
 
   -- the cell of every other pair is unused,
-  pub other-cell :
+  pub other_cell :
       (i j : ℕ)
       → i < width
       → j < width
-      → ((e : ℕ) → e < linkCount f → isForPair (links f) e i j ≡ false)
-      → cell width (metricsOf f t) i j ≡ unused
-  other-cell i j a b none = cells i j a b ∙ given-none (links f) (linkCount f) i j unused none
+      → ((e : ℕ) → e < link_count f → is_for_pair (links f) e i j ≡ false)
+      → cell width (metrics_of f t) i j ≡ unused
+  other_cell i j a b none = cells i j a b ∙ given_none (links f) (link_count f) i j unused none
 
   -- and so each used cell is that of a listed link.
-  pub cell-link :
+  pub cell_link :
       (i j : ℕ)
       → i < width
       → j < width
-      → cell width (metricsOf f t) i j ≢ unused
+      → cell width (metrics_of f t) i j ≢ unused
       → (e : ℕ)
-      × (e < linkCount f)
-      × (isForPair (links f) e i j ≡ true)
-      × (cell width (metricsOf f t) i j ≡ metric (links f) e)
-  cell-link i j a b used =
+      × (e < link_count f)
+      × (is_for_pair (links f) e i j ≡ true)
+      × (cell width (metrics_of f t) i j ≡ metric (links f) e)
+  cell_link i j a b used =
       ⊎_elim
       (λ c. (c.0, c.1, c.2, cells i j a b ∙ c.3))
       (λ u. absurd (used (cells i j a b ∙ u)))
-      (given-cases (links f) (linkCount f) i j unused)
+      (given_cases (links f) (link_count f) i j unused)
 
   -- the length is what the counts say
-  pub file-size : length f ≡ 10 + 5 * linkCount f + 5 * changeCount f + 3 * stepCount New f
-  file-size = omega (arith, file-accepted.size)
+  pub file_size : length f ≡ 10 + 5 * link_count f + 5 * change_count f + 3 * step_count New f
+  file_size = omega (arith, file_accepted.size)
 
-  pub file-largest : length f ≤ largest
-  file-largest = accepted-largest New f file-accepted
+  pub file_largest : length f ≤ largest
+  file_largest = accepted_largest New f file_accepted
 
   -- The parts that Plan and Step get lie in the file: they are as long as their counts say.
-  pub changes-length : length (changes f) ≡ 5 * changeCount f
-  changes-length =
-      let room = length-drop (changesAt f) f in
-      length-take-le (5 * changeCount f) (drop (changesAt f) f) (omega (arith, file-size, room))
+  pub changes_length : length (changes f) ≡ 5 * change_count f
+  changes_length =
+      let room = length-drop (changes_at f) f in
+      length-take-le (5 * change_count f) (drop (changes_at f) f) (omega (arith, file_size, room))
 
-  pub steps-length : length (steps New f) ≡ 3 * stepCount New f
-  steps-length =
-      let room = length-drop (stepsAt New f) f in
-      length-take-le (3 * stepCount New f) (drop (stepsAt New f) f) (omega (arith, file-size, room))
+  pub steps_length : length (steps New f) ≡ 3 * step_count New f
+  steps_length =
+      let room = length-drop (steps_at New f) f in
+      length-take-le (3 * step_count New f) (drop (steps_at New f) f) (omega (arith, file_size, room))
 
-  pub changes-count : entryCount (changes f) ≡ changeCount f
-  changes-count = entry-count-is (changes f) (changeCount f) changes-length
+  pub changes_count : entry_count (changes f) ≡ change_count f
+  changes_count = entry_count_is (changes f) (change_count f) changes_length
 
 -- ---- what an accepted file says of itself
 module _ (format : Format) (f : List ℕ) where
-  pub contents-n : (contents format f).n ≡ routers f
+  pub contents_n : (contents format f).n ≡ routers f
   unfolding contents
-  contents-n = refl
+  contents_n = refl
 
-  pub contents-links : (contents format f).links ≡ linkCount f
+  pub contents_links : (contents format f).links ≡ link_count f
   unfolding contents
-  contents-links = refl
+  contents_links = refl
 
-  pub contents-changes :
-      ((contents format f).changes.at ≡ changesAt f)
-      × ((contents format f).changes.count ≡ changeCount f)
+  pub contents_changes :
+      ((contents format f).changes.at ≡ changes_at f)
+      × ((contents format f).changes.count ≡ change_count f)
   unfolding contents
-  contents-changes = (refl, refl)
+  contents_changes = (refl, refl)
 
-  pub contents-steps :
-      ((contents format f).steps.at ≡ stepsAt format f)
-      × ((contents format f).steps.count ≡ stepCount format f)
+  pub contents_steps :
+      ((contents format f).steps.at ≡ steps_at format f)
+      × ((contents format f).steps.count ≡ step_count format f)
   unfolding contents
-  contents-steps = (refl, refl)
+  contents_steps = (refl, refl)
 
-  pub contents-times :
-      ((contents format f).hold_time ≡ holdTime format f)
-      × ((contents format f).step_time ≡ stepTime format f)
+  pub contents_times :
+      ((contents format f).hold_time ≡ hold_time format f)
+      × ((contents format f).step_time ≡ step_time format f)
   unfolding contents
-  contents-times = (refl, refl)
+  contents_times = (refl, refl)
 
 -- what is handed back with a refusal
-pub no-contents-n : noContents.n ≡ 0
-unfolding noContents
-no-contents-n = refl
+pub no_contents_n : no_contents.n ≡ 0
+unfolding no_contents
+no_contents_n = refl
 
-pub no-contents-changes : (noContents.changes.at ≡ 0) × (noContents.changes.count ≡ 0)
-unfolding noContents
-no-contents-changes = (refl, refl)
+pub no_contents_changes : (no_contents.changes.at ≡ 0) × (no_contents.changes.count ≡ 0)
+unfolding no_contents
+no_contents_changes = (refl, refl)
 
 -- ---- a file that is longer than the largest
-pub long-refused : (format : Format) (f : List ℕ) → largest < length f → fileRefusal format f ≢ 0
-long-refused format f long z =
-    let most = accepted-largest format f (accepted-of format f z) in
+pub long_refused : (format : Format) (f : List ℕ) → largest < length f → file_refusal format f ≢ 0
+long_refused format f long z =
+    let most = accepted_largest format f (accepted_of format f z) in
     let x : ⊥ = omega arith in
     x
 
@@ -243,178 +243,178 @@ module _
     (long-g : largest < length g)
     (same : (i : ℕ) → i ≤ largest → get_or f i 0 ≡ get_or g i 0)
   where
-    same-two : (i : ℕ) → i < largest → two f i ≡ two g i
-    same-two i h = ap₂ (λ (x y : ℕ). 256 * x + y) (same i (omega arith)) (same (i + 1) (omega arith))
+    same_two : (i : ℕ) → i < largest → two f i ≡ two g i
+    same_two i h = ap₂ (λ (x y : ℕ). 256 * x + y) (same i (omega arith)) (same (i + 1) (omega arith))
 
-    same-routers : routers f ≡ routers g
-    same-routers = same 0 (omega arith)
+    same_routers : routers f ≡ routers g
+    same_routers = same 0 (omega arith)
 
-    same_count : linkCount f ≡ linkCount g
-    same_count = same-two 1 (omega arith)
+    same_count : link_count f ≡ link_count g
+    same_count = same_two 1 (omega arith)
 
     -- the links and what follows them, where the count of the links is not refused
-    module _ (most : linkCount f ≤ width * (width - 1)) where
-      whole : (l : List ℕ) → largest < length l → (e : ℕ) → e < linkCount f → e < entryCount (links l)
+    module _ (most : link_count f ≤ width * (width - 1)) where
+      whole : (l : List ℕ) → largest < length l → (e : ℕ) → e < link_count f → e < entry_count (links l)
       whole l long e h =
-          let all = entry-count-least (links l) (linkCount f) (omega (arith, length-drop 3 l)) in
+          let all = entry_count_least (links l) (link_count f) (omega (arith, length-drop 3 l)) in
           omega arith
 
-      same-entry : (e : ℕ) → e < linkCount f → entry_of (links f) e ≡ entry_of (links g) e
-      same-entry e h =
-          entry-same (links f) (links g) e (whole f long-f e h) (whole g long-g e h)
+      same_entry : (e : ℕ) → e < link_count f → entry_of (links f) e ≡ entry_of (links g) e
+      same_entry e h =
+          entry_same (links f) (links g) e (whole f long-f e h) (whole g long-g e h)
           (λ i b. get_or-drop 3 f i 0 ∙ same (3 + i) (omega arith) ∙ sym (get_or-drop 3 g i 0))
 
-      same-link :
+      same_link :
           (e : ℕ)
-          → e < linkCount f
-          → linkRefusal format (routers f) (links f) e ≡ linkRefusal format (routers g) (links g) e
-      same-link e h =
-          link-same format (routers f) (links f) (links g) e (whole f long-f e h) (whole g long-g e h)
-          (λ d b. same-entry d (omega arith))
-          ∙ ap (λ (n : ℕ). linkRefusal format n (links g) e) same-routers
+          → e < link_count f
+          → link_refusal format (routers f) (links f) e ≡ link_refusal format (routers g) (links g) e
+      same_link e h =
+          link_same format (routers f) (links f) (links g) e (whole f long-f e h) (whole g long-g e h)
+          (λ d b. same_entry d (omega arith))
+          ∙ ap (λ (n : ℕ). link_refusal format n (links g) e) same_routers
 
-      same_first : linksRefusal format f ≡ linksRefusal format g
+      same_first : links_refusal format f ≡ links_refusal format g
       same_first =
-          first-same (linkCount f) (linkRefusal format (routers f) (links f)) _ same-link
-          ∙ ap (λ (k : ℕ). first k (linkRefusal format (routers g) (links g))) same_count
+          first_same (link_count f) (link_refusal format (routers f) (links f)) _ same_link
+          ∙ ap (λ (k : ℕ). first k (link_refusal format (routers g) (links g))) same_count
 
-      same-changes : changeCount f ≡ changeCount g
-      same-changes = same (changeCountAt f) (omega arith) ∙ ap (λ (k : ℕ). get_or g (3 + 5 * k) 0) same_count
+      same_changes : change_count f ≡ change_count g
+      same_changes = same (change_count_at f) (omega arith) ∙ ap (λ (k : ℕ). get_or g (3 + 5 * k) 0) same_count
 
-      same-steps : changeCount f ≤ mostChanges → stepCount format f ≡ stepCount format g
-      same-steps b =
-          same-two (stepCountAt format f) (omega (arith, times-most format))
-          ∙ ap (two g) (omega (arith, same_count, same-changes))
+      same_steps : change_count f ≤ most_changes → step_count format f ≡ step_count format g
+      same_steps b =
+          same_two (step_count_at format f) (omega (arith, times_most format))
+          ∙ ap (two g) (omega (arith, same_count, same_changes))
 
-      same_rest : restRefusal format f ≡ restRefusal format g
+      same_rest : rest_refusal format f ≡ rest_refusal format g
       same_rest =
-          by_tests same_count same-changes (dec_lt mostChanges (changeCount f)) (dec_lt mostSteps (stepCount format f))
+          by_tests same_count same_changes (dec_lt most_changes (change_count f)) (dec_lt most_steps (step_count format f))
         where
           by_tests :
-              linkCount f ≡ linkCount g
-              → changeCount f ≡ changeCount g
-              → Dec (mostChanges < changeCount f)
-              → Dec (mostSteps < stepCount format f)
-              → restRefusal format f ≡ restRefusal format g
+              link_count f ≡ link_count g
+              → change_count f ≡ change_count g
+              → Dec (most_changes < change_count f)
+              → Dec (most_steps < step_count format f)
+              → rest_refusal format f ≡ rest_refusal format g
           by_tests k x (yes b) d =
-              rest-many-changes format f (omega arith) b
-              ∙ sym (rest-many-changes format g (omega arith) (omega arith))
+              rest_many_changes format f (omega arith) b
+              ∙ sym (rest_many_changes format g (omega arith) (omega arith))
           by_tests k x (no b) (yes d) =
-              let y = same-steps (omega arith) in
-              let z = times-most format in
-              rest-many-steps format f (omega arith) (omega arith) (omega arith) d
-              ∙ sym (rest-many-steps format g (omega arith) (omega arith) (omega arith) (omega arith))
+              let y = same_steps (omega arith) in
+              let z = times_most format in
+              rest_many_steps format f (omega arith) (omega arith) (omega arith) d
+              ∙ sym (rest_many_steps format g (omega arith) (omega arith) (omega arith) (omega arith))
           by_tests k x (no b) (no d) =
-              let y = same-steps (omega arith) in
-              let z = times-most format in
+              let y = same_steps (omega arith) in
+              let z = times_most format in
               rest_more format f (omega arith) (omega arith) (omega arith) (omega arith) (omega arith) (omega arith)
               ∙ sym
               (rest_more format g (omega arith) (omega arith) (omega arith) (omega arith) (omega arith) (omega arith))
 
-    same-refusal : fileRefusal format f ≡ fileRefusal format g
-    same-refusal = by_tests (look (isRouterCount (routers f))) (dec_lt (mostLinks (routers f)) (linkCount f))
+    same_refusal : file_refusal format f ≡ file_refusal format g
+    same_refusal = by_tests (look (is_router_count (routers f))) (dec_lt (most_links (routers f)) (link_count f))
       where
-        same-range : isRouterCount (routers g) ≡ isRouterCount (routers f)
-        same-range = ap isRouterCount (sym same-routers)
+        same_range : is_router_count (routers g) ≡ is_router_count (routers f)
+        same_range = ap is_router_count (sym same_routers)
 
-        same-pairs : mostLinks (routers f) ≡ mostLinks (routers g)
-        same-pairs = ap mostLinks same-routers
+        same_pairs : most_links (routers f) ≡ most_links (routers g)
+        same_pairs = ap most_links same_routers
 
         by_tests :
-            (isRouterCount (routers f) ≡ true) ⊎ (isRouterCount (routers f) ≡ false)
-            → Dec (mostLinks (routers f) < linkCount f)
-            → fileRefusal format f ≡ fileRefusal format g
+            (is_router_count (routers f) ≡ true) ⊎ (is_router_count (routers f) ≡ false)
+            → Dec (most_links (routers f) < link_count f)
+            → file_refusal format f ≡ file_refusal format g
         by_tests (inr b) d =
-            file-count format f (omega arith) b
-            ∙ sym (file-count format g (omega arith) (same-range ∙ b))
+            file_count format f (omega arith) b
+            ∙ sym (file_count format g (omega arith) (same_range ∙ b))
         by_tests (inl b) (yes d) =
-            let many-g : mostLinks (routers g) < linkCount g = omega (arith, same-pairs, same_count) in
-            file-many format f (omega arith) b (omega arith) d
-            ∙ sym (file-many format g (omega arith) (same-range ∙ b) (omega arith) many-g)
-        by_tests (inl b) (no d) = by-links (ℕ_discrete (linksRefusal format f) 0)
+            let many-g : most_links (routers g) < link_count g = omega (arith, same_pairs, same_count) in
+            file_many format f (omega arith) b (omega arith) d
+            ∙ sym (file_many format g (omega arith) (same_range ∙ b) (omega arith) many-g)
+        by_tests (inl b) (no d) = by_links (ℕ_discrete (links_refusal format f) 0)
           where
-            few-f : linkCount f ≤ mostLinks (routers f)
-            few-f = omega arith
+            few_f : link_count f ≤ most_links (routers f)
+            few_f = omega arith
 
-            few-g : linkCount g ≤ mostLinks (routers g)
-            few-g = omega (arith, same-pairs, same_count)
+            few_g : link_count g ≤ most_links (routers g)
+            few_g = omega (arith, same_pairs, same_count)
 
-            most : linkCount f ≤ width * (width - 1)
-            most = links-most f b few-f
+            most : link_count f ≤ width * (width - 1)
+            most = links_most f b few_f
 
-            by-links : Dec (linksRefusal format f ≡ 0) → fileRefusal format f ≡ fileRefusal format g
-            by-links (yes e) =
-                file-rest format f (omega arith) b (omega arith) few-f e
+            by_links : Dec (links_refusal format f ≡ 0) → file_refusal format f ≡ file_refusal format g
+            by_links (yes e) =
+                file_rest format f (omega arith) b (omega arith) few_f e
                 ∙ same_rest most
                 ∙ sym
-                (file-rest format g (omega arith) (same-range ∙ b) (omega arith) few-g (sym (same_first most) ∙ e))
-            by-links (no e) =
-                file-link format f (omega arith) b (omega arith) few-f e
+                (file_rest format g (omega arith) (same_range ∙ b) (omega arith) few_g (sym (same_first most) ∙ e))
+            by_links (no e) =
+                file_link format f (omega arith) b (omega arith) few_f e
                 ∙ same_first most
                 ∙ sym
-                (file-link format g (omega arith) (same-range ∙ b) (omega arith) few-g
+                (file_link format g (omega arith) (same_range ∙ b) (omega arith) few_g
                 (λ z. e (same_first most ∙ z)))
 
 -- So the first bytes of an input are enough, if they are more than the largest file has: for its refusal,
-pub first-refusal :
+pub first_refusal :
     (format : Format) (f : List ℕ) (k : ℕ)
     → largest < k
-    → fileRefusal format (take k f) ≡ fileRefusal format f
-first-refusal format f k more = by_length (dec_lt k (length f))
+    → file_refusal format (take k f) ≡ file_refusal format f
+first_refusal format f k more = by_length (dec_lt k (length f))
   where
-    by_length : Dec (k < length f) → fileRefusal format (take k f) ≡ fileRefusal format f
-    by_length (no a) = ap (fileRefusal format) (take_all k f (omega arith))
+    by_length : Dec (k < length f) → file_refusal format (take k f) ≡ file_refusal format f
+    by_length (no a) = ap (file_refusal format) (take_all k f (omega arith))
     by_length (yes a) =
         let size = length-take-le k f (omega arith) in
-        same-refusal format (take k f) f (omega arith) (omega arith) (λ i h. get_or-take k f i 0 (omega arith))
+        same_refusal format (take k f) f (omega arith) (omega arith) (λ i h. get_or-take k f i 0 (omega arith))
 
 -- Read does the same with both files
 abbrev pub Alike : (f g t : List ℕ) → Type 0
 Alike f g t =
-    (readRefusal f t ≡ readRefusal g t)
-    × (contentsOf f t ≡ contentsOf g t)
-    × (metricsOf f t ≡ metricsOf g t)
+    (read_refusal f t ≡ read_refusal g t)
+    × (contents_of f t ≡ contents_of g t)
+    × (metrics_of f t ≡ metrics_of g t)
 
 -- where both are refused, and for the same reason
-refused-alike :
+refused_alike :
     (f g t : List ℕ)
-    → fileRefusal New f ≢ 0
-    → fileRefusal New f ≡ fileRefusal New g
+    → file_refusal New f ≢ 0
+    → file_refusal New f ≡ file_refusal New g
     → Alike f g t
-refused-alike f g t bad same = by_size (ℕ_discrete (length t) (width * width))
+refused_alike f g t bad same = by_size (ℕ_discrete (length t) (width * width))
   where
-    same-contents :
-        readRefusal f t ≢ 0
-        → readRefusal f t ≡ readRefusal g t
-        → contentsOf f t ≡ contentsOf g t
-    same-contents some r = contents-refused f t some ∙ sym (contents-refused g t (λ z. some (r ∙ z)))
+    same_contents :
+        read_refusal f t ≢ 0
+        → read_refusal f t ≡ read_refusal g t
+        → contents_of f t ≡ contents_of g t
+    same_contents some r = contents_refused f t some ∙ sym (contents_refused g t (λ z. some (r ∙ z)))
 
     by_size : Dec (length t ≡ width * width) → Alike f g t
     by_size (yes a) =
-        let r = read-file f t a ∙ same ∙ sym (read-file g t a) in (
+        let r = read_file f t a ∙ same ∙ sym (read_file g t a) in (
           r,
-          same-contents (λ z. bad (sym (read-file f t a) ∙ z)) r,
-          metrics-refused New f t a bad ∙ sym (metrics-refused New g t a (λ z. bad (same ∙ z))),
+          same_contents (λ z. bad (sym (read_file f t a) ∙ z)) r,
+          metrics_refused New f t a bad ∙ sym (metrics_refused New g t a (λ z. bad (same ∙ z))),
         )
     by_size (no a) =
-        let size = read-size f t a in
-        let r = size ∙ sym (read-size g t a) in (
+        let size = read_size f t a in
+        let r = size ∙ sym (read_size g t a) in (
           r,
-          same-contents (λ z. let x : ⊥ = omega arith in x) r,
-          metrics-kept New f t a ∙ sym (metrics-kept New g t a),
+          same_contents (λ z. let x : ⊥ = omega arith in x) r,
+          metrics_kept New f t a ∙ sym (metrics_kept New g t a),
         )
 
 -- and so for all that Read does.
-pub first-bytes : (f t : List ℕ) (k : ℕ) → largest < k → Alike (take k f) f t
-first-bytes f t k more = by_length (dec_lt k (length f))
+pub first_bytes : (f t : List ℕ) (k : ℕ) → largest < k → Alike (take k f) f t
+first_bytes f t k more = by_length (dec_lt k (length f))
   where
     by_length : Dec (k < length f) → Alike (take k f) f t
     by_length (no a) =
         let all = take_all k f (omega arith) in (
-          ap (λ (l : List ℕ). readRefusal l t) all,
-          ap (λ (l : List ℕ). contentsOf l t) all,
-          ap (λ (l : List ℕ). metricsOf l t) all,
+          ap (λ (l : List ℕ). read_refusal l t) all,
+          ap (λ (l : List ℕ). contents_of l t) all,
+          ap (λ (l : List ℕ). metrics_of l t) all,
         )
     by_length (yes a) =
         let size = length-take-le k f (omega arith) in
-        refused-alike (take k f) f t (long-refused New (take k f) (omega arith)) (first-refusal New f k more)
+        refused_alike (take k f) f t (long_refused New (take k f) (omega arith)) (first_refusal New f k more)

@@ -6,16 +6,16 @@ use Rattle.bench_file.specs.declared.Format.{Format}
 use Rattle.bench_file.specs.declared.Format.TheVariants.{Old, New}
 
 -- may a link be listed that is not used?
-abbrev pub takesDead : (format : Format) → Bool
-takesDead Old = true
-takesDead New = false
+abbrev pub takes_dead : (format : Format) → Bool
+takes_dead Old = true
+takes_dead New = false
 
 -- how many bytes the hold time and the step time take
-abbrev pub timesSize : (format : Format) → ℕ
-timesSize Old = 0
-timesSize New = 4
+abbrev pub times_size : (format : Format) → ℕ
+times_size Old = 0
+times_size New = 4
 
 -- a time of the file f, which begins at place i; 0 where the format has none
-abbrev pub timeAt : (format : Format) (f : List ℕ) (i : ℕ) → ℕ
-timeAt Old f i = 0
-timeAt New f i = two f i
+abbrev pub time_at : (format : Format) (f : List ℕ) (i : ℕ) → ℕ
+time_at Old f i = 0
+time_at New f i = two f i

@@ -3,36 +3,36 @@
 -- defined with the format as a parameter.
 use Rattle.std.specs.Prelude.{ℕ, List, [], eqb}
 use Rattle.area.specs.Limits.{width, unused}
-use Rattle.area.specs.Refusals.{tableSize}
+use Rattle.area.specs.Refusals.{table_size}
 use Rattle.area.specs.Tests.{pick}
-use Rattle.area.specs.Sizes.{isTable}
+use Rattle.area.specs.Sizes.{is_table}
 use Rattle.area.specs.Tables.{tabulate}
-use Rattle.entries.specs.Entries.{listedMetric}
-use Rattle.bench_file.specs.Sections.{routers, linkCount, links, changeCount, changesAt}
-use Rattle.bench_file.specs.Sections.{holdTime, stepTime, stepCount, stepsAt}
-use Rattle.bench_file.specs.Faults.{fileRefusal}
+use Rattle.entries.specs.Entries.{listed_metric}
+use Rattle.bench_file.specs.Sections.{routers, link_count, links, change_count, changes_at}
+use Rattle.bench_file.specs.Sections.{hold_time, step_time, step_count, steps_at}
+use Rattle.bench_file.specs.Faults.{file_refusal}
 use Rattle.bench_file.specs.declared.Format.{Format}
 use Rattle.bench_file.specs.declared.Format.TheVariants.{New}
 use Rattle.bench_file.specs.declared.Contents.{Contents}
 
 -- the number of the answer: a table of the wrong size comes before every fault of the file
-unfoldable pub readRefusal : (f t : List ℕ) → ℕ
-readRefusal f t = pick (isTable t) (fileRefusal New f) tableSize
+unfoldable pub read_refusal : (f t : List ℕ) → ℕ
+read_refusal f t = pick (is_table t) (file_refusal New f) table_size
 
 -- what an accepted file says of itself, and what is handed back with a refusal
 unfoldable pub contents : (format : Format) (f : List ℕ) → Contents
 contents format f =
     record {
       n = routers f;
-      links = linkCount f;
-      changes = record { count = changeCount f; at = changesAt f };
-      steps = record { count = stepCount format f; at = stepsAt format f };
-      hold_time = holdTime format f;
-      step_time = stepTime format f;
+      links = link_count f;
+      changes = record { count = change_count f; at = changes_at f };
+      steps = record { count = step_count format f; at = steps_at format f };
+      hold_time = hold_time format f;
+      step_time = step_time format f;
     }
 
-unfoldable pub noContents : Contents
-noContents =
+unfoldable pub no_contents : Contents
+no_contents =
     record {
       n = 0;
       links = 0;
@@ -42,25 +42,25 @@ noContents =
       step_time = 0;
     }
 
-unfoldable pub contentsBy : (format : Format) (f : List ℕ) → Contents
-contentsBy format f = pick (eqb (fileRefusal format f) 0) (contents format f) noContents
+unfoldable pub contents_by : (format : Format) (f : List ℕ) → Contents
+contents_by format f = pick (eqb (file_refusal format f) 0) (contents format f) no_contents
 
-unfoldable pub contentsOf : (f t : List ℕ) → Contents
-contentsOf f t = pick (eqb (readRefusal f t) 0) (contents New f) noContents
+unfoldable pub contents_of : (f t : List ℕ) → Contents
+contents_of f t = pick (eqb (read_refusal f t) 0) (contents New f) no_contents
 
 -- The metric table of the first k links of l: the cell of a pair that none of them lists is `unused`.
 unfoldable pub linked : (l : List ℕ) (k : ℕ) → List ℕ
-linked l k = tabulate width (λ i j. listedMetric l k i j unused)
+linked l k = tabulate width (λ i j. listed_metric l k i j unused)
 
 -- The table at exit: as it was where its size is wrong; and else that of the links where the file is accepted, and no
 -- link where it is refused.
-unfoldable pub metricsBy : (format : Format) (f t : List ℕ) → List ℕ
-metricsBy format f t =
-    pick (isTable t)
-    (pick (eqb (fileRefusal format f) 0) (linked (links f) (linkCount f))
+unfoldable pub metrics_by : (format : Format) (f t : List ℕ) → List ℕ
+metrics_by format f t =
+    pick (is_table t)
+    (pick (eqb (file_refusal format f) 0) (linked (links f) (link_count f))
     (linked [] 0))
     t
 
 -- that of Read
-abbrev pub metricsOf : (f t : List ℕ) → List ℕ
-metricsOf f t = metricsBy New f t
+abbrev pub metrics_of : (f t : List ℕ) → List ℕ
+metrics_of f t = metrics_by New f t

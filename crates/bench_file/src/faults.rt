@@ -8,11 +8,11 @@
 // follows for a link's refusal is proofs/Pairs.antt.
 ghost use Rattle.std.specs.Prelude.{◌≡◌, ◌≤◌, ◌*◌};
 ghost use Rattle.area.specs.Limits.{width};
-ghost use Rattle.area.specs.Refusals.{verdictNumber, deadLink};
+ghost use Rattle.area.specs.Refusals.{verdict_number, dead_link};
 ghost use Rattle.area.specs.Tests.{pick, first};
-ghost use Rattle.bench_file.specs.Sections.{linkCount};
-ghost use Rattle.bench_file.specs.Formats.{takesDead};
-ghost use Rattle.bench_file.specs.Faults.{deadRefusal, linkRefusal, restRefusal, fileRefusal, seenRefusal};
+ghost use Rattle.bench_file.specs.Sections.{link_count};
+ghost use Rattle.bench_file.specs.Formats.{takes_dead};
+ghost use Rattle.bench_file.specs.Faults.{dead_refusal, link_refusal, rest_refusal, file_refusal, seen_refusal};
 
 use crate::{Format, times_size};
 use area::bytes::{byte, two};
@@ -22,7 +22,7 @@ use entries::{Entry, check, count, decode};
 use sets::{add, member};
 
 pub(crate) fn judge(format: Format, file: &[u8]) -> Verdict
-    ensures { verdictNumber result ≡ fileRefusal format file.now }
+    ensures { verdict_number result ≡ file_refusal format file.now }
 {
     if file.len() < 1 {
         return Verdict::Refused(Refusal::Incomplete);
@@ -51,7 +51,7 @@ pub(crate) fn judge(format: Format, file: &[u8]) -> Verdict
 // `list` is the bytes from the first link on.
 fn links(format: Format, n: usize, list: &[u8], announced: usize) -> Verdict
     requires { n ≤ width }
-    ensures { verdictNumber result ≡ first announced (linkRefusal format n list.now) }
+    ensures { verdict_number result ≡ first announced (link_refusal format n list.now) }
 {
     // Set i holds every j of a link from i to j. The metric table can't tell: a dead link leaves no trace there.
     let mut seen: [Set; WIDTH] = [0; WIDTH];
@@ -74,7 +74,7 @@ fn links(format: Format, n: usize, list: &[u8], announced: usize) -> Verdict
 
 fn link(format: Format, n: usize, entry: Entry, seen: &[Set; WIDTH]) -> Verdict
     requires { n ≤ width }
-    ensures { verdictNumber result ≡ seenRefusal format n entry seen.now }
+    ensures { verdict_number result ≡ seen_refusal format n entry seen.now }
 {
     let answer = check(n, entry);
     if !answer.is_accepted() {
@@ -93,7 +93,7 @@ fn link(format: Format, n: usize, entry: Entry, seen: &[Set; WIDTH]) -> Verdict
 
 // Is the link dead, in a format that takes none such?
 fn is_barred(format: Format, entry: Entry) -> bool
-    ensures { deadRefusal format entry ≡ pick result deadLink 0 }
+    ensures { dead_refusal format entry ≡ pick result dead_link 0 }
 {
     if takes_dead(format) {
         return false;
@@ -102,7 +102,7 @@ fn is_barred(format: Format, entry: Entry) -> bool
 }
 
 fn takes_dead(format: Format) -> bool
-    ensures { result ≡ takesDead format }
+    ensures { result ≡ takes_dead format }
 {
     match format {
         Format::Old => true,
@@ -112,9 +112,9 @@ fn takes_dead(format: Format) -> bool
 
 // `links` is their number. Each count is tested before what it counts.
 fn rest(format: Format, file: &[u8], links: usize) -> Verdict
-    requires links_value { links ≡ linkCount file.now }
+    requires links_value { links ≡ link_count file.now }
     requires links_bound { links ≤ width * width }
-    ensures { verdictNumber result ≡ restRefusal format file.now }
+    ensures { verdict_number result ≡ rest_refusal format file.now }
 {
     let change_count_at = 3 + ENTRY * links;
     if file.len() < change_count_at + 1 {

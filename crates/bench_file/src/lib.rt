@@ -10,10 +10,10 @@ mod faults;
 mod metrics;
 
 ghost use Rattle.std.specs.Prelude.{◌≡◌, ◌≤◌};
-ghost use Rattle.area.specs.Refusals.{verdictNumber};
-ghost use Rattle.bench_file.specs.Formats.{timesSize, timeAt};
-ghost use Rattle.bench_file.specs.Faults.{fileRefusal};
-ghost use Rattle.bench_file.specs.Read.{readRefusal, contents, noContents, contentsBy, contentsOf, metricsOf};
+ghost use Rattle.area.specs.Refusals.{verdict_number};
+ghost use Rattle.bench_file.specs.Formats.{times_size, time_at};
+ghost use Rattle.bench_file.specs.Faults.{file_refusal};
+ghost use Rattle.bench_file.specs.Read.{read_refusal, contents, no_contents, contents_by, contents_of, metrics_of};
 
 use area::bytes::{byte, two};
 use area::limits::{CELLS, ENTRY};
@@ -57,12 +57,12 @@ pub struct BenchFile {
 
 // Read: judges the file, and fills the metric table with its links.
 pub fn read(file: &[u8], table: &mut [u32]) -> BenchFile
-    ensures answer { verdictNumber result.answer
-        ≡ readRefusal file.now table.old }
+    ensures answer { verdict_number result.answer
+        ≡ read_refusal file.now table.old }
     ensures contents { result.contents
-        ≡ contentsOf file.now table.old }
+        ≡ contents_of file.now table.old }
     ensures metrics { table.new
-        ≡ metricsOf file.now table.old }
+        ≡ metrics_of file.now table.old }
 {
     if table.len() != CELLS {
         return BenchFile {
@@ -82,10 +82,10 @@ pub fn read(file: &[u8], table: &mut [u32]) -> BenchFile
 
 // Judges a file, and gives what it says of itself where it is accepted.
 pub fn examine(format: Format, file: &[u8]) -> BenchFile
-    ensures answer { verdictNumber result.answer
-        ≡ fileRefusal format file.now }
+    ensures answer { verdict_number result.answer
+        ≡ file_refusal format file.now }
     ensures contents { result.contents
-        ≡ contentsBy format file.now }
+        ≡ contents_by format file.now }
 {
     let answer = judge(format, file);
     if !answer.is_accepted() {
@@ -127,7 +127,7 @@ fn describe(format: Format, file: &[u8]) -> Contents
 
 // The time that begins at this place, 0 where the format has none.
 fn time_at(format: Format, file: &[u8], at: usize) -> u16
-    ensures { result ≡ timeAt format file.now at }
+    ensures { result ≡ time_at format file.now at }
 {
     match format {
         Format::Old => 0,
@@ -137,7 +137,7 @@ fn time_at(format: Format, file: &[u8], at: usize) -> u16
 
 // How many bytes the two times take.
 pub(crate) fn times_size(format: Format) -> usize
-    ensures { (result ≡ timesSize format) × (result ≤ 4) }
+    ensures { (result ≡ times_size format) × (result ≤ 4) }
 {
     match format {
         Format::Old => 0,
@@ -147,7 +147,7 @@ pub(crate) fn times_size(format: Format) -> usize
 
 // What is handed back with a refusal.
 fn no_contents() -> Contents
-    ensures { result ≡ noContents }
+    ensures { result ≡ no_contents }
 {
     Contents {
         n: 0,

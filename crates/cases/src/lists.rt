@@ -1,6 +1,6 @@
 // Change lists: an entry is two routers, and the metric in three bytes, the high one first.
 ghost use Rattle.std.specs.Prelude.{◌+◌, ◌-◌, ◌*◌, ◌<◌, ◌≤◌};
-ghost use Rattle.area.specs.Limits.{width, mostChanges};
+ghost use Rattle.area.specs.Limits.{width, most_changes};
 
 use crate::LONG_LIST;
 use crate::read::{MOST, mark, number, value};
@@ -14,7 +14,7 @@ use area::limits::{ENTRY, MOST_CHANGES, WIDTH};
 //     u125      only the first 125 changes are left
 //     b9        only the first 9 bytes
 pub fn fill(list: &mut [u8; LONG_LIST], line: &[u8]) -> usize
-    ensures at_most { result ≤ 5 * (mostChanges + 2) }
+    ensures at_most { result ≤ 5 * (most_changes + 2) }
 {
     let mut e = 0;
     for k in 0..MOST {
@@ -25,7 +25,7 @@ pub fn fill(list: &mut [u8; LONG_LIST], line: &[u8]) -> usize
 
 // How many bytes of the list are used, after e changes.
 fn bytes(line: &[u8], e: usize) -> usize
-    ensures { result ≤ 5 * (mostChanges + 2) }
+    ensures { result ≤ 5 * (most_changes + 2) }
 {
     if MOST_CHANGES + 2 < e {
         return LONG_LIST;

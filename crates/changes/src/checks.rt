@@ -5,9 +5,9 @@
 //     is_new_beyond    the same by the list
 // That the sets tell a repeated pair is entries/specs/SeenLaws.antt.
 ghost use Rattle.std.specs.Prelude.{◌≡◌};
-ghost use Rattle.area.specs.Refusals.{verdictNumber};
+ghost use Rattle.area.specs.Refusals.{verdict_number};
 ghost use Rattle.area.specs.Tests.{first};
-ghost use Rattle.entries.specs.Entries.{entryCount, entry_of, isFirst, listedRefusal};
+ghost use Rattle.entries.specs.Entries.{entry_count, entry_of, is_first, listed_refusal};
 ghost use Rattle.entries.specs.SeenLaws.{Seen};
 
 use area::limits::{Set, WIDTH};
@@ -17,7 +17,7 @@ use sets::{add, member};
 
 // The refusal of the first faulty change.
 pub fn first_refusal(n: usize, list: &[u8]) -> Verdict
-    ensures answer { verdictNumber result ≡ first (entryCount list.now) (listedRefusal n list.now) }
+    ensures answer { verdict_number result ≡ first (entry_count list.now) (listed_refusal n list.now) }
 {
     // Set i holds every j of a change from i to j.
     let mut seen: [Set; WIDTH] = [0; WIDTH];
@@ -38,7 +38,7 @@ pub fn first_refusal(n: usize, list: &[u8]) -> Verdict
 // The refusal of change e. `seen` has the pairs before it.
 fn refusal(n: usize, list: &[u8], e: usize, change: Entry, seen: &[Set; WIDTH]) -> Verdict
     requires { (change ≡ entry_of list.now e) × Seen list.now e seen.now }
-    ensures { verdictNumber result ≡ listedRefusal n list.now e }
+    ensures { verdict_number result ≡ listed_refusal n list.now e }
 {
     let answer = check(n, change);
     if !answer.is_accepted() {
@@ -53,7 +53,7 @@ fn refusal(n: usize, list: &[u8], e: usize, change: Entry, seen: &[Set; WIDTH]) 
 // Has no change before e the same pair?
 fn is_new(list: &[u8], e: usize, change: Entry, seen: &[Set; WIDTH]) -> bool
     requires { (change ≡ entry_of list.now e) × Seen list.now e seen.now }
-    ensures { result ≡ isFirst list.now e }
+    ensures { result ≡ is_first list.now e }
 {
     let from = change.from;
     let to = change.to;
@@ -67,7 +67,7 @@ fn is_new(list: &[u8], e: usize, change: Entry, seen: &[Set; WIDTH]) -> bool
 
 // The same of any pair: no set holds a router from WIDTH on, so the list is gone over.
 fn is_new_beyond(list: &[u8], e: usize) -> bool
-    ensures { result ≡ isFirst list.now e }
+    ensures { result ≡ is_first list.now e }
 {
     let change = decode(list, e);
     for d in 0..e {

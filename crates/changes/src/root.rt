@@ -1,7 +1,7 @@
 // The router that the changes have in common.
 ghost use Rattle.std.specs.Prelude.{◌≡◌};
 ghost use Rattle.area.specs.Tests.{pick};
-ghost use Rattle.changes.specs.Root.{isCommon, root};
+ghost use Rattle.changes.specs.Root.{is_common, root};
 
 use entries::{count, decode};
 
@@ -19,14 +19,14 @@ pub fn root(list: &[u8]) -> usize
 
 // The lower of two routers where that is an end of every change, and else the upper one.
 fn common_of(list: &[u8], lower: usize, upper: usize) -> usize
-    ensures answer { result ≡ pick (isCommon list.now lower) lower upper }
+    ensures answer { result ≡ pick (is_common list.now lower) lower upper }
 {
     if is_common(list, lower) { lower } else { upper }
 }
 
 // Is router c an end of every change?
 pub fn is_common(list: &[u8], c: usize) -> bool
-    ensures answer { result ≡ isCommon list.now c }
+    ensures answer { result ≡ is_common list.now c }
 {
     for e in 0..count(list) {
         let change = decode(list, e);

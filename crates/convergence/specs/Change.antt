@@ -14,8 +14,8 @@ use Rattle.convergence.specs.Pointers.{Pointers}
 
 -- No link has a smaller metric in hi than in lo, and those that differ have the root as an end.
 pub record Change (n c : ℕ) (lo hi : Topology) : Type 0 where
-  pub lo-graph : Graph n lo
-  pub hi-graph : Graph n hi
+  pub lo_graph : Graph n lo
+  pub hi_graph : Graph n hi
   pub lower : (i k : ℕ) → lo i k ≤ hi i k
   pub elsewhere : (i k : ℕ) → i ≢ c → k ≢ c → hi i k ≡ lo i k
 
@@ -26,16 +26,16 @@ pub record Part (n d : ℕ) (g : Topology) (f : Pointers) : Type 0 where
 
 -- Those of both topologies. A router whose next hops are the same in both has one set.
 pub record Sets (n d : ℕ) (lo hi : Topology) (at-lo at-hi : Pointers) : Type 0 where
-  pub in-lo : Part n d lo at-lo
-  pub in-hi : Part n d hi at-hi
+  pub in_lo : Part n d lo at-lo
+  pub in_hi : Part n d hi at-hi
   pub same : (r : ℕ) → ((k : ℕ) → Next n lo r d k ↔ Next n hi r d k) → at-lo r ≡ at-hi r
 
 -- The order. A router writes, and is done, only after those that it waits for are done; and it is not done before it
 -- has written a set that changes.
 pub record Ordered (waits : (r w : ℕ) → Type 0) (old new : Pointers) (wrote done : ℕ → Bool) : Type 0 where
   pub wrote_after : (r w : ℕ) → wrote r ≡ true → waits r w → done w ≡ true
-  pub done-after : (r w : ℕ) → done r ≡ true → waits r w → done w ≡ true
-  pub done-wrote : (r : ℕ) → done r ≡ true → old r ≢ new r → wrote r ≡ true
+  pub done_after : (r w : ℕ) → done r ≡ true → waits r w → done w ≡ true
+  pub done_wrote : (r : ℕ) → done r ≡ true → old r ≢ new r → wrote r ≡ true
 
 -- In a rise r waits for those that have it as a next hop to the root, in a fall for its own next hops to the root
 -- (01, "The plan"). Both by lo: the topology before a rise, and after a fall.

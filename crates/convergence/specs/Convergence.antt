@@ -13,13 +13,13 @@ use Rattle.topology.specs.NextHops.{Next}
 use Rattle.convergence.specs.Pointers.{Pointers, pointers, Along, NoRouterTwice, Prolonged}
 use Rattle.convergence.specs.Change.{Change, Sets, Ordered, WaitsRise, WaitsFall}
 use Rattle.convergence.specs.Separation.{Moment}
-use Rattle.convergence.specs.NoLoop.{no-router-twice}
+use Rattle.convergence.specs.NoLoop.{no_router_twice}
 use Rattle.convergence.specs.Arrival.{arrival}
 
 -- What is promised of pointers p toward d: no walk along them meets a router twice, and from a router that reaches d in
 -- both topologies each can be prolonged to d.
 pub record Safe (n d : ℕ) (lo hi : Topology) (p : Pointers) : Type 0 where
-  pub no-router-twice : NoRouterTwice p
+  pub no_router_twice : NoRouterTwice p
   pub arrives :
       (x : ℕ) (l : List ℕ)
       → distance n lo x d < unreached
@@ -32,32 +32,32 @@ safe :
     → d < n
     → Moment n c d lo hi at-lo at-hi p
     → Safe n d lo hi p
-safe h s = record { no-router-twice = no-router-twice s; arrives = λ x l a b w. arrival s h x l b w }
+safe h s = record { no_router_twice = no_router_twice s; arrives = λ x l a b w. arrival s h x l b w }
 
 -- ---- where pointers are old, and where new
 module _ (old new : Pointers) (wrote : ℕ → Bool) where
-  points-old : (r : ℕ) → wrote r ≡ false → pointers old new wrote r ≡ old r
-  points-old r e = rw e refl
+  points_old : (r : ℕ) → wrote r ≡ false → pointers old new wrote r ≡ old r
+  points_old r e = rw e refl
 
-  points-new : (r : ℕ) → wrote r ≡ true → pointers old new wrote r ≡ new r
-  points-new r e = rw e refl
+  points_new : (r : ℕ) → wrote r ≡ true → pointers old new wrote r ≡ new r
+  points_new r e = rw e refl
 
-  old-or-new : (r : ℕ) → (pointers old new wrote r ≡ old r) ⊎ (pointers old new wrote r ≡ new r)
-  old-or-new r = ⊎_elim (λ e. inr (points-new r e)) (λ e. inl (points-old r e)) (look (wrote r))
+  old_or_new : (r : ℕ) → (pointers old new wrote r ≡ old r) ⊎ (pointers old new wrote r ≡ new r)
+  old_or_new r = ⊎_elim (λ e. inr (points_new r e)) (λ e. inl (points_old r e)) (look (wrote r))
 
-  has-written : (r : ℕ) → pointers old new wrote r ≢ old r → wrote r ≡ true
-  has-written r f = ⊎_elim (λ e. e) (λ e. absurd (f (points-old r e))) (look (wrote r))
+  has_written_lem : (r : ℕ) → pointers old new wrote r ≢ old r → wrote r ≡ true
+  has_written_lem r f = ⊎_elim (λ e. e) (λ e. absurd (f (points_old r e))) (look (wrote r))
 
   -- a router that is done points to its new set
-  done-new :
+  done_new :
       {waits : (r w : ℕ) → Type 0} {done : ℕ → Bool}
       → Ordered waits old new wrote done
       → (r : ℕ)
       → done r ≡ true
       → pointers old new wrote r ≡ new r
-  done-new o r t = elim (ℕ_discrete (old r) (new r)) [
-    | yes e ↦ ⊎_elim (λ q. q ∙ e) (λ q. q) (old-or-new r)
-    | no f ↦ points-new r (o.done-wrote r t f)
+  done_new o r t = elim (ℕ_discrete (old r) (new r)) [
+    | yes e ↦ ⊎_elim (λ q. q ∙ e) (λ q. q) (old_or_new r)
+    | no f ↦ points_new r (o.done_wrote r t f)
   ]
 
 module _
@@ -74,11 +74,11 @@ module _
         (record {
           change = g;
           sets = s;
-          either = old-or-new at-lo at-hi wrote;
+          either = old_or_new at-lo at-hi wrote;
           barred = λ x. done x ≡ true;
-          barred-first = λ x k h f. o.wrote_after k x (has-written at-lo at-hi wrote k f) h;
-          barred-on = λ x k h b. o.done-after k x b h;
-          barred-hi = done-new at-lo at-hi wrote o;
+          barred_first = λ x k h f. o.wrote_after k x (has_written_lem at-lo at-hi wrote k f) h;
+          barred_on = λ x k h b. o.done_after k x b h;
+          barred_hi = done_new at-lo at-hi wrote o;
         })
 
     -- Fall, from hi to lo: a router waits for its own next hops to the root. Barred are the routers that are not done
@@ -89,16 +89,16 @@ module _
         (record {
           change = g;
           sets = s;
-          either = λ r. ⊎_elim inr inl (old-or-new at-hi at-lo wrote r);
+          either = λ r. ⊎_elim inr inl (old_or_new at-hi at-lo wrote r);
           barred = λ x. (done x ≢ true) × (wrote x ≡ false);
-          barred-first = λ x k h f. behind x k h (λ t. f (done-new at-hi at-lo wrote o k t));
-          barred-on = λ x k h b. behind x k h b.0;
-          barred-hi = λ x b. points-old at-hi at-lo wrote x b.1;
+          barred_first = λ x k h f. behind x k h (λ t. f (done_new at-hi at-lo wrote o k t));
+          barred_on = λ x k h b. behind x k h b.0;
+          barred_hi = λ x b. points_old at-hi at-lo wrote x b.1;
         })
       where
         -- a router that waits for one that is not done
         behind : (x k : ℕ) → Next n lo x c k → done k ≢ true → (done x ≢ true) × (wrote x ≡ false)
         behind x k h f = (
-          (λ t. f (o.done-after x k t h)),
+          (λ t. f (o.done_after x k t h)),
           ⊎_elim (λ t. absurd (f (o.wrote_after x k t h))) (λ e. e) (look (wrote x)),
         )

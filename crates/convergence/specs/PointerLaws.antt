@@ -1,6 +1,6 @@
 -- Laws of walks along any pointers p.
---     along-join, last-join    one walk after another
---     along-below      where pointers lead only to routers below n, a walk meets no others
+--     along_join, last_join    one walk after another
+--     along_below      where pointers lead only to routers below n, a walk meets no others
 --     no_return        where no walk comes back to its start, no walk meets a router twice
 use Rattle.std.specs.Prelude.{ℕ, ◌<◌, ◌≡◌, refl, true, ◌≢◌, List, [], ◌∷◌, ◌++◌}
 use Rattle.std.proofs.Common.{sym, inl, inr, arith}
@@ -9,21 +9,21 @@ use Rattle.sets.specs.Sets.{bit}
 use Rattle.convergence.specs.Pointers.{Pointers, Along, last, NoRouterTwice}
 
 module _ (p : Pointers) where
-  pub along-join : (x : ℕ) (l m : List ℕ) → Along p x l → Along p (last x l) m → Along p x (l ++ m)
-  along-join x [] m a b = b
-  along-join x (k ∷ l) m a b = (a.0, along-join k l m a.1 b)
+  pub along_join : (x : ℕ) (l m : List ℕ) → Along p x l → Along p (last x l) m → Along p x (l ++ m)
+  along_join x [] m a b = b
+  along_join x (k ∷ l) m a b = (a.0, along_join k l m a.1 b)
 
-  pub along-below :
+  pub along_below :
       (n : ℕ)
       → ((x k : ℕ) → bit (p x) k ≡ true → k < n)
       → (x : ℕ) (l : List ℕ)
       → x < n
       → Along p x l
       → Below n (x ∷ l)
-  along-below n f x [] b a y (inl e) = omega arith
-  along-below n f x [] b a y (inr m) = absurd m
-  along-below n f x (k ∷ l) b a y (inl e) = omega arith
-  along-below n f x (k ∷ l) b a y (inr m) = along-below n f k l (f x k a.0) a.1 y m
+  along_below n f x [] b a y (inl e) = omega arith
+  along_below n f x [] b a y (inr m) = absurd m
+  along_below n f x (k ∷ l) b a y (inl e) = omega arith
+  along_below n f x (k ∷ l) b a y (inr m) = along_below n f k l (f x k a.0) a.1 y m
 
   -- a walk, up to a router that it meets
   up_to :
@@ -44,6 +44,6 @@ module _ (p : Pointers) where
   no_return f x (k ∷ l) a =
       ((λ m. let t = up_to k l a.1 x m in f x k t.0 a.0 t.1 t.2), no_return f k l a.1)
 
-pub last-join : (x : ℕ) (l m : List ℕ) → last x (l ++ m) ≡ last (last x l) m
-last-join x [] m = refl
-last-join x (k ∷ l) m = last-join k l m
+pub last_join : (x : ℕ) (l m : List ℕ) → last x (l ++ m) ≡ last (last x l) m
+last_join x [] m = refl
+last_join x (k ∷ l) m = last_join k l m

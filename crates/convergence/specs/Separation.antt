@@ -2,14 +2,14 @@
 -- at-lo x and at-hi x. It points by lo alone where it points to its set in lo and has another one in hi:
 -- p x ≢ at-hi x. It points by hi alone where p x ≢ at-lo x.
 -- Suppose that pointers lead from x to a router that points by hi alone. The change concerns that router
--- (`hi-through`). Back along the pointers, as long as they are lo's, each router has the one after it as a next hop to
--- the root too (`toward-root`), and so is barred. A barred router does not point by lo alone; so neither does x.
+-- (`hi_through`). Back along the pointers, as long as they are lo's, each router has the one after it as a next hop to
+-- the root too (`toward_root`), and so is barred. A barred router does not point by lo alone; so neither does x.
 --     Moment           what is known of the pointers p while routers write in order
---     lo-next, hi-next
+--     lo_next, hi_next
 --                      pointers lead to next hops in lo or in hi
 --     LoFrom           all routers that pointers lead to from x point to their sets in lo
 --     separation       so it is where x points by lo alone
---     lo-on, lo-nearer
+--     lo_on, lo_nearer
 --                      and on from there the distance to the destination falls in lo
 use Rattle.std.specs.Prelude.{ℕ, ◌+◌, ◌<◌, ◌≡◌, true, ◌≢◌, ◌⊎◌, List, [], ◌∷◌}
 use Rattle.std.proofs.Common.{sym, ◌∙◌, inl, inr, ⊎_elim}
@@ -18,10 +18,10 @@ use Rattle.sets.specs.Sets.{bit}
 use Rattle.topology.specs.Topology.{Topology}
 use Rattle.topology.specs.Distance.{distance}
 use Rattle.topology.specs.NextHops.{Next}
-use Rattle.topology.specs.NextHopLaws.{next-nearer}
+use Rattle.topology.specs.NextHopLaws.{next_nearer}
 use Rattle.convergence.specs.Pointers.{Pointers, Along, last}
 use Rattle.convergence.specs.Change.{Change, Sets}
-use Rattle.convergence.specs.ThroughRoot.{Through, toward-root, same_next}
+use Rattle.convergence.specs.ThroughRoot.{Through, toward_root, same_next}
 
 -- Each router points to its set in lo or to its set in hi. A barred router does not point by lo alone. A router is
 -- barred if one of its next hops to the root points by hi alone, or is barred. Which routers are barred is said in
@@ -31,25 +31,25 @@ pub record Moment (n c d : ℕ) (lo hi : Topology) (at-lo at-hi p : Pointers) : 
   pub sets : Sets n d lo hi at-lo at-hi
   pub either : (r : ℕ) → (p r ≡ at-lo r) ⊎ (p r ≡ at-hi r)
   pub barred : ℕ → Type 0
-  pub barred-first : (x k : ℕ) → Next n lo x c k → p k ≢ at-lo k → barred x
-  pub barred-on : (x k : ℕ) → Next n lo x c k → barred k → barred x
-  pub barred-hi : (x : ℕ) → barred x → p x ≡ at-hi x
+  pub barred_first : (x k : ℕ) → Next n lo x c k → p k ≢ at-lo k → barred x
+  pub barred_on : (x k : ℕ) → Next n lo x c k → barred k → barred x
+  pub barred_hi : (x : ℕ) → barred x → p x ≡ at-hi x
 
 -- x, and every router that pointers lead to from x, points to its set in lo
 abbrev pub LoFrom : (at-lo p : Pointers) (x : ℕ) → Type 0
 LoFrom at-lo p x = (l : List ℕ) → Along p x l → p (last x l) ≡ at-lo (last x l)
 
 module _ {n c d : ℕ} {lo hi : Topology} {at-lo at-hi p : Pointers} (s : Moment n c d lo hi at-lo at-hi p) where
-  pub lo-next : (x k : ℕ) → p x ≡ at-lo x → bit (p x) k ≡ true → Next n lo x d k
-  lo-next x k e b = s.sets.in-lo.next x k (rw e at b)
+  pub lo_next : (x k : ℕ) → p x ≡ at-lo x → bit (p x) k ≡ true → Next n lo x d k
+  lo_next x k e b = s.sets.in_lo.next x k (rw e at b)
 
-  pub hi-next : (x k : ℕ) → p x ≡ at-hi x → bit (p x) k ≡ true → Next n hi x d k
-  hi-next x k e b = s.sets.in-hi.next x k (rw e at b)
+  pub hi_next : (x k : ℕ) → p x ≡ at-hi x → bit (p x) k ≡ true → Next n hi x d k
+  hi_next x k e b = s.sets.in_hi.next x k (rw e at b)
 
   -- where a router points by hi alone, the way through the root is a shortest one: otherwise it would have the same
   -- next hops in both, and so one set
-  hi-through : (x : ℕ) → p x ≢ at-lo x → Through n lo c d x
-  hi-through x f = go (ℕ_discrete (distance n lo x c + distance n lo c d) (distance n lo x d))
+  hi_through : (x : ℕ) → p x ≢ at-lo x → Through n lo c d x
+  hi_through x f = go (ℕ_discrete (distance n lo x c + distance n lo c d) (distance n lo x d))
     where
       go : Dec (Through n lo c d x) → Through n lo c d x
       go (yes t) = t
@@ -62,35 +62,35 @@ module _ {n c d : ℕ} {lo hi : Topology} {at-lo at-hi p : Pointers} (s : Moment
   Before x = (p x ≢ at-lo x) ⊎ (Through n lo c d x × s.barred x)
 
   -- one pointer back, from k to x: k is a next hop to the root too
-  before-next : (x k : ℕ) → Next n lo x d k → Before k → Before x
-  before-next x k h (inl f) =
-      let t = toward-root s.change h (hi-through k f) in
-      inr (t.0, s.barred-first x k t.1 f)
-  before-next x k h (inr b) =
-      let t = toward-root s.change h b.0 in
-      inr (t.0, s.barred-on x k t.1 b.1)
+  before_next : (x k : ℕ) → Next n lo x d k → Before k → Before x
+  before_next x k h (inl f) =
+      let t = toward_root s.change h (hi_through k f) in
+      inr (t.0, s.barred_first x k t.1 f)
+  before_next x k h (inr b) =
+      let t = toward_root s.change h b.0 in
+      inr (t.0, s.barred_on x k t.1 b.1)
 
   before : (x : ℕ) (l : List ℕ) → Along p x l → p (last x l) ≢ at-lo (last x l) → Before x
   before x [] a f = inl f
   before x (k ∷ l) a f = go (ℕ_discrete (p x) (at-lo x)) (before k l a.1 f)
     where
       go : Dec (p x ≡ at-lo x) → Before k → Before x
-      go (yes e) b = before-next x k (lo-next x k e a.0) b
+      go (yes e) b = before_next x k (lo_next x k e a.0) b
       go (no h) b = inl h
 
   pub separation : (x : ℕ) → p x ≢ at-hi x → LoFrom at-lo p x
   separation x f l a = go (ℕ_discrete (p (last x l)) (at-lo (last x l)))
     where
-      not-before : Before x → ⊥
-      not-before (inl h) = ⊎_elim h f (s.either x)
-      not-before (inr b) = f (s.barred-hi x b.1)
+      not_before : Before x → ⊥
+      not_before (inl h) = ⊎_elim h f (s.either x)
+      not_before (inr b) = f (s.barred_hi x b.1)
 
       go : Dec (p (last x l) ≡ at-lo (last x l)) → p (last x l) ≡ at-lo (last x l)
       go (yes e) = e
-      go (no h) = absurd (not-before (before x l a h))
+      go (no h) = absurd (not_before (before x l a h))
 
-  pub lo-on : (x k : ℕ) → LoFrom at-lo p x → bit (p x) k ≡ true → LoFrom at-lo p k
-  lo-on x k f b l a = f (k ∷ l) (b, a)
+  pub lo_on : (x k : ℕ) → LoFrom at-lo p x → bit (p x) k ≡ true → LoFrom at-lo p k
+  lo_on x k f b l a = f (k ∷ l) (b, a)
 
-  pub lo-nearer : (x k : ℕ) → LoFrom at-lo p x → bit (p x) k ≡ true → distance n lo k d < distance n lo x d
-  lo-nearer x k f b = next-nearer s.change.lo-graph (lo-next x k (f [] tt) b)
+  pub lo_nearer : (x k : ℕ) → LoFrom at-lo p x → bit (p x) k ≡ true → distance n lo k d < distance n lo x d
+  lo_nearer x k f b = next_nearer s.change.lo_graph (lo_next x k (f [] tt) b)

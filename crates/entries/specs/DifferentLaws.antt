@@ -1,5 +1,5 @@
 -- How many entries of different pairs there can be between few routers.
---     different-most       entries of different pairs, whose ends are among k numbers, are at most k * k
+--     different_most       entries of different pairs, whose ends are among k numbers, are at most k * k
 -- `place` gives each of the k numbers a place below k, and so each entry a cell of a table of k rows, another one than
 -- every other entry. If there were more entries than cells, then the first k * k + 1 of them would have a cell of their
 -- own each, and one the place k * k behind the table (onto).
@@ -9,13 +9,13 @@ use Rattle.std.proofs.Common.{◌∙◌, arith}
 use Rattle.std.proofs.Math.Bool.{false≢true}
 use Rattle.std.proofs.Math.Decide.{dec_lt}
 use Rattle.area.specs.PigeonholeLaws.{onto}
-use Rattle.area.specs.TableLaws.{cell_in, row_of, column-of}
-use Rattle.entries.specs.Entries.{from, to, isFirst}
+use Rattle.area.specs.TableLaws.{cell_in, row_of, column_of}
+use Rattle.entries.specs.Entries.{from, to, is_first}
 use Rattle.entries.specs.EntryLaws.{pair_of, free_other}
 
 module _
     (l : List ℕ) (count : ℕ)
-    (new : (e : ℕ) → e < count → isFirst l e ≡ true)
+    (new : (e : ℕ) → e < count → is_first l e ≡ true)
     (Among : ℕ → Type 0)
     (ends : (e : ℕ) → e < count → Among (from l e) × Among (to l e))
     (k : ℕ) (place : ℕ → ℕ)
@@ -41,7 +41,7 @@ module _
         let u = inside (to l d) x.1 in
         let v = inside (to l e) y.1 in
         let i = sym (row_of k _ _ u) ∙ ap (λ (c : ℕ). c / k) q ∙ row_of k _ _ v in
-        let j = sym (column-of k _ _ u) ∙ ap (λ (c : ℕ). c % k) q ∙ column-of k _ _ v in
+        let j = sym (column_of k _ _ u) ∙ ap (λ (c : ℕ). c % k) q ∙ column_of k _ _ v in
         let from-same = sym (apart _ _ x.0 y.0 i) in
         let to_same = sym (apart _ _ x.1 y.1 j) in
         false≢true (sym (free_other l e d (new e h) b) ∙ pair_of l e (from l d) (to l d) from-same to_same)
@@ -55,8 +55,8 @@ module _
       ]
     ]
 
-    pub different-most : count ≤ k * k
-    different-most = elim (dec_lt (k * k) count) [
+    pub different_most : count ≤ k * k
+    different_most = elim (dec_lt (k * k) count) [
       | yes h ↦
           let x = onto (k * k + 1) cell_of
           (λ e b. let c = cell_below e (omega arith) in omega arith)

@@ -5,8 +5,8 @@
 // What each promises is specs/Entries.antt. `bench_file` reads links by these functions, `changes` reads changes; both
 // find a repeated pair by sets, and specs/SeenLaws.antt says why.
 ghost use Rattle.std.specs.Prelude.{◌≡◌, ◌<◌};
-ghost use Rattle.area.specs.Refusals.{verdictNumber};
-ghost use Rattle.entries.specs.Entries.{entryCount, entry_of, entryRefusal};
+ghost use Rattle.area.specs.Refusals.{verdict_number};
+ghost use Rattle.entries.specs.Entries.{entry_count, entry_of, entry_refusal};
 
 use area::limits::ENTRY;
 use area::refusal::{Refusal, Verdict};
@@ -20,7 +20,7 @@ pub struct Entry {
 
 // How many whole entries the list has.
 pub fn count(list: &[u8]) -> usize
-    ensures answer { result ≡ entryCount list.now }
+    ensures answer { result ≡ entry_count list.now }
 {
     list.len() / ENTRY
 }
@@ -50,7 +50,7 @@ pub fn decode(list: &[u8], e: usize) -> Entry
 
 // The refusal of an entry by itself, in an area of n routers.
 pub fn check(n: usize, entry: Entry) -> Verdict
-    ensures answer { verdictNumber result ≡ entryRefusal n entry }
+    ensures answer { verdict_number result ≡ entry_refusal n entry }
 {
     let from = entry.from;
     let to = entry.to;

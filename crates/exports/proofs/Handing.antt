@@ -1,37 +1,37 @@
 -- What a call answers and hands back is handed on: the equation that the call promises, under the function that makes
 -- a number or a record of it.
 --     same_next, same_number      what a step hands back, and its answer as a number
---     refused-number              the number of a refusal, out of the answer that has it
---     last-record                 the last record of a run, from the record that its fields make
+--     refused_number              the number of a refusal, out of the answer that has it
+--     last_record                 the last record of a run, from the record that its fields make
 use mathlib.Core.Path.{◌≡◌, sym, ap, ◌∙◌}
 use Prim.Native.Nat.{ℕ}
 use mathlib.Core.List.{List}
-use Rattle.area.specs.Refusals.{refusalNumber}
+use Rattle.area.specs.Refusals.{refusal_number}
 use Rattle.area.specs.declared.refusal.Refusal.{Refusal}
 use Rattle.plan.specs.declared.Record.{Record}
 use Rattle.machine.specs.declared.Answer.{Answer}
 use Rattle.machine.specs.declared.Answer.TheVariants.{Refused}
-use Rattle.machine.specs.Answers.{Outcome, replyOf}
+use Rattle.machine.specs.Answers.{Outcome, reply_of}
 use Rattle.machine.specs.Run.{run, calls_of}
-use Rattle.exports.specs.Fields.{replyNumber}
+use Rattle.exports.specs.Fields.{reply_number}
 
 module _ {o p : Outcome} (e : o ≡ p) where
   pub same_next : o.next ≡ p.next
   same_next = ap (λ (q : Outcome). q.next) e
 
-  pub same_number : {k : ℕ} → k ≡ replyNumber o.reply → k ≡ replyNumber p.reply
-  same_number f = f ∙ ap (λ (q : Outcome). replyNumber q.reply) e
+  pub same_number : {k : ℕ} → k ≡ reply_number o.reply → k ≡ reply_number p.reply
+  same_number f = f ∙ ap (λ (q : Outcome). reply_number q.reply) e
 
-pub refused-number :
+pub refused_number :
     (why : Refusal) {x : Answer} {k : ℕ}
-    → k ≡ refusalNumber why
+    → k ≡ refusal_number why
     → x ≡ Refused why
-    → k ≡ replyNumber (replyOf x)
-refused-number why e f = e ∙ ap (λ (y : Answer). replyNumber (replyOf y)) (sym f)
+    → k ≡ reply_number (reply_of x)
+refused_number why e f = e ∙ ap (λ (y : Answer). reply_number (reply_of y)) (sym f)
 
-pub last-record :
+pub last_record :
     (bytes : List ℕ) {lent made last : Record}
     → made ≡ lent
     → last ≡ run made (calls_of bytes)
     → last ≡ run lent (calls_of bytes)
-last-record bytes e f = f ∙ ap (λ (r : Record). run r (calls_of bytes)) e
+last_record bytes e f = f ∙ ap (λ (r : Record). run r (calls_of bytes)) e

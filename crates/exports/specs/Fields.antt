@@ -4,11 +4,11 @@ use Rattle.plan.specs.declared.Record.{Record}
 use Rattle.machine.specs.Answers.{Reply, ok, ignored, refused}
 
 -- the record whose fields are these
-abbrev pub recordFrom :
+abbrev pub record_from :
     (n root direction : ℕ) (ranks waiting telling due states written : List ℕ)
     (hold step clock : ℕ) (learned : List ℕ)
     → Record
-recordFrom n root direction ranks waiting telling due states written hold step clock learned =
+record_from n root direction ranks waiting telling due states written hold step clock learned =
     record {
       n = n;
       root = root;
@@ -26,7 +26,7 @@ recordFrom n root direction ranks waiting telling due states written hold step c
     }
 
 -- the answer of a step: 0 for ok, 255 for ignored, and the refusal's number
-abbrev pub replyNumber : Reply → ℕ
-replyNumber ok = 0
-replyNumber ignored = 255
-replyNumber (refused k) = k
+abbrev pub reply_number : Reply → ℕ
+reply_number ok = 0
+reply_number ignored = 255
+reply_number (refused k) = k

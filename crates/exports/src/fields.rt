@@ -1,7 +1,7 @@
 // Records and answers for programs in other languages: a record field by field, and an answer as a number.
 ghost use Rattle.std.specs.Prelude.{◌≡◌};
-ghost use Rattle.machine.specs.Answers.{replyOf};
-ghost use Rattle.exports.specs.Fields.{recordFrom, replyNumber};
+ghost use Rattle.machine.specs.Answers.{reply_of};
+ghost use Rattle.exports.specs.Fields.{record_from, reply_number};
 
 use area::limits::{Set, WIDTH};
 use machine::Answer;
@@ -9,7 +9,7 @@ use plan::Record;
 
 // The answer of a step: 0 for ok, 255 for ignored, and the number of a refusal.
 pub(crate) fn reply_number(answer: Answer) -> u8
-    ensures number { result ≡ replyNumber (replyOf answer) }
+    ensures number { result ≡ reply_number (reply_of answer) }
 {
     match answer {
         Answer::Ok => 0,
@@ -35,7 +35,7 @@ pub(crate) fn record_from(
     learn_times: &[u32; WIDTH],
 ) -> Record
     ensures record { result
-        ≡ recordFrom n root direction
+        ≡ record_from n root direction
         ranks.now waiting.now telling.now due.now
         states.now written.now
         hold_time step_time clock learn_times.now }
@@ -81,7 +81,7 @@ pub(crate) fn hand_back(
     clock: &mut u32,
     learn_times: &mut [u32; WIDTH],
 )
-    ensures record { recordFrom routers.new root.new direction.new
+    ensures record { record_from routers.new root.new direction.new
         ranks.new waiting.new telling.new due.new
         states.new written.new
         hold_time.new step_time.new clock.new learn_times.new

@@ -13,19 +13,19 @@
 mod fields;
 
 ghost use Rattle.std.specs.Prelude.{◌≡◌};
-ghost use Rattle.paths.specs.Paths.{pathsIn, pathsRefusal, pathsOf};
+ghost use Rattle.paths.specs.Paths.{paths_in, paths_refusal, paths_of};
 ghost use Rattle.plan.specs.declared.Record.{Record};
-ghost use Rattle.plan.specs.Plan.{tablesIn, areTables, planRefusal, recordOf, tables_of};
-ghost use Rattle.sheet.specs.Sheet.{sheetOf};
+ghost use Rattle.plan.specs.Plan.{tables_in, are_tables, plan_refusal, record_of, tables_of};
+ghost use Rattle.sheet.specs.Sheet.{sheet_of};
 ghost use Rattle.machine.specs.Machine.{over, timed, step_of};
 ghost use Rattle.machine.specs.Run.{run, calls_of};
 ghost use Rattle.needs.specs.Needs.{needs, missing};
-ghost use Rattle.bench_file.specs.Read.{readRefusal, contentsOf, metricsOf};
-ghost use Rattle.isis.specs.Isis.{isisRefusal, isisMetrics};
+ghost use Rattle.bench_file.specs.Read.{read_refusal, contents_of, metrics_of};
+ghost use Rattle.isis.specs.Isis.{isis_refusal, isis_metrics};
 ghost use Rattle.text.specs.Text.{Appended};
-ghost use Rattle.prepare.specs.Bench.{tablesAt};
+ghost use Rattle.prepare.specs.Bench.{tables_at};
 ghost use Rattle.report.specs.Report.{rehearsal, routes};
-ghost use Rattle.exports.specs.Fields.{recordFrom, replyNumber};
+ghost use Rattle.exports.specs.Fields.{record_from, reply_number};
 ghost use Rattle.exports.specs.Exports.{numbers};
 
 use area::limits::{Set, WIDTH};
@@ -36,11 +36,11 @@ use report::Text;
 // where they begin, the hold time and the step time.
 #[unsafe(no_mangle)]
 pub extern "C" fn ofib_read(file: &[u8], table: &mut [u32], contents: &mut [usize; 8]) -> u8
-    ensures answer { result ≡ readRefusal file.now table.old }
+    ensures answer { result ≡ read_refusal file.now table.old }
     ensures contents { contents.new
-        ≡ numbers (contentsOf file.now table.old) }
+        ≡ numbers (contents_of file.now table.old) }
     ensures metrics { table.new
-        ≡ metricsOf file.now table.old }
+        ≡ metrics_of file.now table.old }
 {
     let found = bench_file::read(file, table);
     *contents = [
@@ -60,9 +60,9 @@ pub extern "C" fn ofib_read(file: &[u8], table: &mut [u32], contents: &mut [usiz
 // The metrics of an area from IS-IS: a table of identities, and a list for each of the n routers.
 #[unsafe(no_mangle)]
 pub extern "C" fn ofib_isis(n: usize, identities: &[u8], lists: &[u8], table: &mut [u32]) -> u8
-    ensures answer { result ≡ isisRefusal n identities.now lists.now table.old }
+    ensures answer { result ≡ isis_refusal n identities.now lists.now table.old }
     ensures metrics { table.new
-        ≡ isisMetrics n identities.now lists.now table.old }
+        ≡ isis_metrics n identities.now lists.now table.old }
 {
     let answer = isis::read(n, identities, lists, table);
     answer.number()
@@ -77,10 +77,10 @@ pub extern "C" fn ofib_paths(
     hops: &mut [Set],
     fours: &mut [Set],
 ) -> u8
-    ensures answer { let lent = pathsIn dist.entry hops.entry fours.entry in
-        result ≡ pathsRefusal n metric.now lent }
-    ensures tables { let lent = pathsIn dist.entry hops.entry fours.entry in
-        pathsIn dist.exit hops.exit fours.exit ≡ pathsOf n metric.now lent }
+    ensures answer { let lent = paths_in dist.entry hops.entry fours.entry in
+        result ≡ paths_refusal n metric.now lent }
+    ensures tables { let lent = paths_in dist.entry hops.entry fours.entry in
+        paths_in dist.exit hops.exit fours.exit ≡ paths_of n metric.now lent }
 {
     let answer = paths::paths(n, metric, dist, hops, fours);
     answer.number()
@@ -115,24 +115,24 @@ pub extern "C" fn ofib_plan(
     clock: &mut u32,
     learn_times: &mut [u32; WIDTH],
 ) -> u8
-    ensures answer { let lent = tablesIn new.entry
+    ensures answer { let lent = tables_in new.entry
         old_dist.entry old_hops.entry old_fours.entry
         new_dist.entry new_hops.entry new_fours.entry in
         result
-        ≡ planRefusal n step_time old.now list.now (areTables old.now lent) }
-    ensures record { let lent = tablesIn new.entry
+        ≡ plan_refusal n step_time old.now list.now (are_tables old.now lent) }
+    ensures record { let lent = tables_in new.entry
         old_dist.entry old_hops.entry old_fours.entry
         new_dist.entry new_hops.entry new_fours.entry in
-        recordFrom routers.new root.new direction.new
+        record_from routers.new root.new direction.new
         ranks.new waiting.new telling.new due.new
         states.new written.new
         record_hold_time.new record_step_time.new clock.new
         learn_times.new
-        ≡ recordOf n hold_time step_time old.now list.now lent }
-    ensures tables { let lent = tablesIn new.entry
+        ≡ record_of n hold_time step_time old.now list.now lent }
+    ensures tables { let lent = tables_in new.entry
         old_dist.entry old_hops.entry old_fours.entry
         new_dist.entry new_hops.entry new_fours.entry in
-        tablesIn new.exit
+        tables_in new.exit
         old_dist.exit old_hops.exit old_fours.exit
         new_dist.exit new_hops.exit new_fours.exit
         ≡ tables_of n step_time old.now list.now lent }
@@ -178,20 +178,20 @@ pub extern "C" fn ofib_sheet(
     new_fours: &mut [Set],
     routers: &mut [u8; WIDTH],
 ) -> u8
-    ensures answer { let lent = tablesIn new.entry
+    ensures answer { let lent = tables_in new.entry
         old_dist.entry old_hops.entry old_fours.entry
         new_dist.entry new_hops.entry new_fours.entry in
         result
-        ≡ planRefusal n step_time old.now list.now (areTables old.now lent) }
-    ensures routers { let lent = tablesIn new.entry
+        ≡ plan_refusal n step_time old.now list.now (are_tables old.now lent) }
+    ensures routers { let lent = tables_in new.entry
         old_dist.entry old_hops.entry old_fours.entry
         new_dist.entry new_hops.entry new_fours.entry in
         routers.new
-        ≡ sheetOf (recordOf n hold_time step_time old.now list.now lent) }
-    ensures tables { let lent = tablesIn new.entry
+        ≡ sheet_of (record_of n hold_time step_time old.now list.now lent) }
+    ensures tables { let lent = tables_in new.entry
         old_dist.entry old_hops.entry old_fours.entry
         new_dist.entry new_hops.entry new_fours.entry in
-        tablesIn new.exit
+        tables_in new.exit
         old_dist.exit old_hops.exit old_fours.exit
         new_dist.exit new_hops.exit new_fours.exit
         ≡ tables_of n step_time old.now list.now lent }
@@ -230,7 +230,7 @@ pub extern "C" fn ofib_step(
         (timed x ranks.now hold_time step_time clock.old learn_times.old)
         n waiting.old telling.now due.now
         states.old written.old in
-        result ≡ replyNumber (step_of before kind a b).reply }
+        result ≡ reply_number (step_of before kind a b).reply }
     ensures record { (x : Record) →
         let before = over
         (timed x ranks.now hold_time step_time clock.old learn_times.old)
@@ -280,11 +280,11 @@ pub extern "C" fn ofib_run(
     learn_times: &mut [u32; WIDTH],
     bytes: &[u8],
 )
-    ensures record { let first = recordFrom routers.old root.old direction.old
+    ensures record { let first = record_from routers.old root.old direction.old
         ranks.old waiting.old telling.old due.old
         states.old written.old
         hold_time.old step_time.old clock.old learn_times.old in
-        recordFrom routers.new root.new direction.new
+        record_from routers.new root.new direction.new
         ranks.new waiting.new telling.new due.new
         states.new written.new
         hold_time.new step_time.new clock.new learn_times.new
@@ -365,19 +365,19 @@ pub extern "C" fn ofib_rehearse(
     new_fours: &mut [Set],
     out: &mut [u8],
 ) -> usize
-    ensures text { let lent = tablesIn new.entry
+    ensures text { let lent = tables_in new.entry
         old_dist.entry old_hops.entry old_fours.entry
         new_dist.entry new_hops.entry new_fours.entry in
         Appended out.old 0
         (rehearsal file.now old.old lent) out.new result }
-    ensures metrics { old.new ≡ metricsOf file.now old.old }
-    ensures tables { let lent = tablesIn new.entry
+    ensures metrics { old.new ≡ metrics_of file.now old.old }
+    ensures tables { let lent = tables_in new.entry
         old_dist.entry old_hops.entry old_fours.entry
         new_dist.entry new_hops.entry new_fours.entry in
-        let left = tablesIn new.exit
+        let left = tables_in new.exit
         old_dist.exit old_hops.exit old_fours.exit
         new_dist.exit new_hops.exit new_fours.exit in
-        left ≡ tablesAt file.now old.old lent }
+        left ≡ tables_at file.now old.old lent }
 {
     report::print(
         Text::Rehearsal,
@@ -408,18 +408,18 @@ pub extern "C" fn ofib_routes(
     new_fours: &mut [Set],
     out: &mut [u8],
 ) -> usize
-    ensures text { let lent = tablesIn new.entry
+    ensures text { let lent = tables_in new.entry
         old_dist.entry old_hops.entry old_fours.entry
         new_dist.entry new_hops.entry new_fours.entry in
         Appended out.old 0 (routes file.now old.old lent) out.new result }
-    ensures metrics { old.new ≡ metricsOf file.now old.old }
-    ensures tables { let lent = tablesIn new.entry
+    ensures metrics { old.new ≡ metrics_of file.now old.old }
+    ensures tables { let lent = tables_in new.entry
         old_dist.entry old_hops.entry old_fours.entry
         new_dist.entry new_hops.entry new_fours.entry in
-        let left = tablesIn new.exit
+        let left = tables_in new.exit
         old_dist.exit old_hops.exit old_fours.exit
         new_dist.exit new_hops.exit new_fours.exit in
-        left ≡ tablesAt file.now old.old lent }
+        left ≡ tables_at file.now old.old lent }
 {
     report::print(
         Text::Routes,

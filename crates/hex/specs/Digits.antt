@@ -3,14 +3,14 @@ use Rattle.std.specs.Prelude.{ℕ, ◌+◌, ◌/◌, ◌%◌, List, [], ◌∷�
 use Rattle.area.specs.Tests.{pick}
 
 -- the digit of a number below 16, in capitals
-unfoldable pub hexDigit : (d : ℕ) → ℕ
-hexDigit d = pick (ltb d 10) (48 + d) (55 + d)
+unfoldable pub hex_digit : (d : ℕ) → ℕ
+hex_digit d = pick (ltb d 10) (48 + d) (55 + d)
 
 -- the two digits of a byte
-unfoldable pub hexByte : (x : ℕ) → List ℕ
-hexByte x = hexDigit (x / 16) ∷ hexDigit (x % 16) ∷ []
+unfoldable pub hex_byte : (x : ℕ) → List ℕ
+hex_byte x = hex_digit (x / 16) ∷ hex_digit (x % 16) ∷ []
 
 -- two digits for each byte of a list
 unfoldable pub hexed : (l : List ℕ) → List ℕ
 hexed [] = []
-hexed (x ∷ l) = hexByte x ++ hexed l
+hexed (x ∷ l) = hex_byte x ++ hexed l

@@ -23,14 +23,14 @@ digit b =
     16))
 
 -- white space: the bytes 9 to 13, and the space
-unfoldable pub isSpace : (b : ℕ) → Bool
-isSpace b = within 9 13 b || eqb b 32
+unfoldable pub is_space : (b : ℕ) → Bool
+is_space b = within 9 13 b || eqb b 32
 
 -- The reading of the byte b where a pair may start: a first digit, white space, the start of a comment, or a fault.
 unfoldable pub first : (b : ℕ) → Reading
 first b =
     cond (ltb (digit b) 16) (High (digit b))
-    (cond (isSpace b) Between
+    (cond (is_space b) Between
     (cond (eqb b 35) Comment
     Bad))
 
@@ -38,7 +38,7 @@ first b =
 unfoldable pub second : (h b : ℕ) → Reading
 second h b =
     cond (ltb (digit b) 16) (Byte (16 * h + digit b))
-    (cond (isSpace b || eqb b 35) Odd
+    (cond (is_space b || eqb b 35) Odd
     Bad)
 
 -- The reading of the byte b by that of the byte before it. A comment lasts up to the end of its line, byte 10.
@@ -60,31 +60,31 @@ byte_of Bad = []
 byte_of Odd = []
 
 -- the names of the faults, and what is written for a text that is too long
-abbrev pub badDigit : List ℕ
-badDigit = word "bad digit at "
+abbrev pub bad_digit : List ℕ
+bad_digit = word "bad digit at "
 
-abbrev pub oddDigit : List ℕ
-oddDigit = word "odd digit at "
+abbrev pub odd_digit : List ℕ
+odd_digit = word "odd digit at "
 
-abbrev pub tooLong : List ℕ
-tooLong = word "too long\n"
+abbrev pub too_long : List ℕ
+too_long = word "too long\n"
 
 -- The output, where the byte at place `at` was read so: the line of a fault, and without one what comes of the rest.
 -- A lone digit stands just before `at`.
-unfoldable pub unlessFault : (at : ℕ) (r : Reading) (rest : List ℕ) → List ℕ
-unlessFault at Between rest = rest
-unlessFault at Comment rest = rest
-unlessFault at (High h) rest = rest
-unlessFault at (Byte x) rest = rest
-unlessFault at Bad rest = line badDigit at
-unlessFault at Odd rest = line oddDigit (at - 1)
+unfoldable pub unless_fault : (at : ℕ) (r : Reading) (rest : List ℕ) → List ℕ
+unless_fault at Between rest = rest
+unless_fault at Comment rest = rest
+unless_fault at (High h) rest = rest
+unless_fault at (Byte x) rest = rest
+unless_fault at Bad rest = line bad_digit at
+unless_fault at Odd rest = line odd_digit (at - 1)
 
 -- The output of a text whose bytes from place `at` on are given, by the reading of the byte before them and the bytes
 -- decoded so far. The end of the text reads as the end of a line.
 unfoldable pub decode : (done : List ℕ) (at : ℕ) (before : Reading) (l : List ℕ) → List ℕ
-decode done at before [] = unlessFault at (next before 10) done
+decode done at before [] = unless_fault at (next before 10) done
 decode done at before (b ∷ l) =
-    unlessFault at (next before b)
+    unless_fault at (next before b)
     (decode (done ++ byte_of (next before b)) (at + 1) (next before b) l)
 
 -- The output of a text that is not too long.
@@ -93,26 +93,26 @@ decoded text = decode [] 0 Between text
 
 -- Everything that is written for a text.
 unfoldable pub unhexed : (text : List ℕ) → List ℕ
-unhexed text = cond (ltb most (length text)) tooLong (decoded text)
+unhexed text = cond (ltb most (length text)) too_long (decoded text)
 
 -- ---- texts with a fault
 -- the readings that are faults
-unfoldable pub isFault : (r : Reading) → Bool
-isFault Between = false
-isFault Comment = false
-isFault (High h) = false
-isFault (Byte x) = false
-isFault Bad = true
-isFault Odd = true
+unfoldable pub is_fault : (r : Reading) → Bool
+is_fault Between = false
+is_fault Comment = false
+is_fault (High h) = false
+is_fault (Byte x) = false
+is_fault Bad = true
+is_fault Odd = true
 
 -- Is a byte read as a fault, or the end of the text? `before` is the reading of the byte before the given ones.
-unfoldable pub hasFault : (before : Reading) (l : List ℕ) → Bool
-hasFault before [] = isFault (next before 10)
-hasFault before (b ∷ l) = isFault (next before b) || hasFault (next before b) l
+unfoldable pub has_fault : (before : Reading) (l : List ℕ) → Bool
+has_fault before [] = is_fault (next before 10)
+has_fault before (b ∷ l) = is_fault (next before b) || has_fault (next before b) l
 
 -- A text that is too long, or has a fault: what is written for it is the line that says so.
-unfoldable pub isFaulty : (text : List ℕ) → Bool
-isFaulty text = ltb most (length text) || hasFault Between text
+unfoldable pub is_faulty : (text : List ℕ) → Bool
+is_faulty text = ltb most (length text) || has_fault Between text
 
 -- the bytes that the pairs of a text stand for
 unfoldable pub bytes_of : (before : Reading) (l : List ℕ) → List ℕ
@@ -121,10 +121,10 @@ bytes_of before (b ∷ l) = byte_of (next before b) ++ bytes_of (next before b) 
 
 -- ---- texts and binary files
 -- a control byte other than white space
-unfoldable pub isControl : (b : ℕ) → Bool
-isControl b = ltb b 32 && not (isSpace b)
+unfoldable pub is_control : (b : ℕ) → Bool
+is_control b = ltb b 32 && not (is_space b)
 
 -- a text has none
-unfoldable pub isText : (l : List ℕ) → Bool
-isText [] = true
-isText (b ∷ l) = not (isControl b) && isText l
+unfoldable pub is_text : (l : List ℕ) → Bool
+is_text [] = true
+is_text (b ∷ l) = not (is_control b) && is_text l

@@ -1,18 +1,18 @@
 -- Laws of texts that are made of pairs of digits and white space, part by part. Comments are CommentLaws.antt.
 --     Says                     what a part stands for, wherever a pair may start
 --     says_none, says_then     no text, and one part after another
---     says-pair                a pair of digits
---     byte-says, bytes-say     the digits of a byte, and of a list of bytes
---     says-blank, says-blanks, says-newline    white space
---     says-whole               such a text is decoded to what it says
+--     says_pair                a pair of digits
+--     byte_says, bytes_say     the digits of a byte, and of a list of bytes
+--     says_blank, says_blanks, says_newline    white space
+--     says_whole               such a text is decoded to what it says
 use Rattle.std.specs.Prelude.{ℕ, zero, suc, ◌+◌, ◌*◌, ◌/◌, ◌%◌, ◌≤◌, ◌<◌, ◌≡◌, refl, List, [], ◌∷◌, ◌++◌, length, get_or, replicate}
 use Rattle.std.proofs.Common.{sym, ap, ap₂, ◌∙◌, subst, append-nil, append_assoc, arith, length-append}
 use Rattle.hex.specs.declared.Reading.{Reading}
 use Rattle.hex.specs.declared.Reading.TheVariants.{Between, Byte}
-use Rattle.hex.specs.Hex.{most, digit, isSpace, first, next, byte_of, unlessFault, decode, decoded, unhexed}
-use Rattle.hex.specs.Digits.{hexDigit, hexByte, hexed}
-use Rattle.hex.specs.ReadingLaws.{first-digit, second-digit}
-use Rattle.hex.specs.HexLaws.{unhexed-decoded, digit-of, first-newline}
+use Rattle.hex.specs.Hex.{most, digit, is_space, first, next, byte_of, unless_fault, decode, decoded, unhexed}
+use Rattle.hex.specs.Digits.{hex_digit, hex_byte, hexed}
+use Rattle.hex.specs.ReadingLaws.{first_digit, second_digit}
+use Rattle.hex.specs.HexLaws.{unhexed_decoded, digit_of, first_newline}
 
 -- after this reading a pair may start
 abbrev pub Ready : (s : Reading) → Type 0
@@ -47,59 +47,59 @@ says_then {t} {u} {x} {y} p q = record {
       );
 }
 
-says-space : (b : ℕ) → first b ≡ Between → Says (b ∷ []) []
-unfolding decode unlessFault byte_of next
-says-space b space = record {
+says_space : (b : ℕ) → first b ≡ Between → Says (b ∷ []) []
+unfolding decode unless_fault byte_of next
+says_space b space = record {
   reads = λ done at s ready rest. (Between, (λ k. refl), rw (ready b, space) refl);
 }
 
-pub says-blank : Says (32 ∷ []) []
-unfolding first digit isSpace
-says-blank = says-space 32 refl
+pub says_blank : Says (32 ∷ []) []
+unfolding first digit is_space
+says_blank = says_space 32 refl
 
-pub says-blanks : (k : ℕ) → Says (replicate k 32) []
-says-blanks zero = says_none
-says-blanks (suc k) = says_then says-blank (says-blanks k)
+pub says_blanks : (k : ℕ) → Says (replicate k 32) []
+says_blanks zero = says_none
+says_blanks (suc k) = says_then says_blank (says_blanks k)
 
-pub says-newline : Says (10 ∷ []) []
-says-newline = says-space 10 first-newline
+pub says_newline : Says (10 ∷ []) []
+says_newline = says_space 10 first_newline
 
 -- the two digits of a byte
-pub says-pair :
+pub says_pair :
     (h l : ℕ)
     → digit h < 16
     → digit l < 16
     → Says (h ∷ l ∷ []) ((16 * digit h + digit l) ∷ [])
-unfolding decode unlessFault byte_of next
-says-pair h l high low =
-    let one = sym (first-digit h (digit h) refl high) in
-    let two = sym (second-digit (digit h) l (digit l) refl low) in
+unfolding decode unless_fault byte_of next
+says_pair h l high low =
+    let one = sym (first_digit h (digit h) refl high) in
+    let two = sym (second_digit (digit h) l (digit l) refl low) in
     record {
       reads = λ done at s ready rest.
           let place : at + 1 + 1 ≡ at + 2 = omega arith in
           (Byte (16 * digit h + digit l), (λ k. refl), rw (ready h, one, two, append-nil done, place) refl);
     }
 
-pub byte-says : (x : ℕ) → x < 256 → Says (hexByte x) (x ∷ [])
-unfolding hexByte
-byte-says x h =
-    let high = digit-of (x / 16) (omega arith) in
-    let low = digit-of (x % 16) (omega arith) in
-    let whole : 16 * digit (hexDigit (x / 16)) + digit (hexDigit (x % 16)) ≡ x = rw (high, low) (omega arith) in
-    subst (λ (b : ℕ). Says (hexDigit (x / 16) ∷ hexDigit (x % 16) ∷ []) (b ∷ [])) whole
-    (says-pair (hexDigit (x / 16)) (hexDigit (x % 16)) (omega (arith, high)) (omega (arith, low)))
+pub byte_says : (x : ℕ) → x < 256 → Says (hex_byte x) (x ∷ [])
+unfolding hex_byte
+byte_says x h =
+    let high = digit_of (x / 16) (omega arith) in
+    let low = digit_of (x % 16) (omega arith) in
+    let whole : 16 * digit (hex_digit (x / 16)) + digit (hex_digit (x % 16)) ≡ x = rw (high, low) (omega arith) in
+    subst (λ (b : ℕ). Says (hex_digit (x / 16) ∷ hex_digit (x % 16) ∷ []) (b ∷ [])) whole
+    (says_pair (hex_digit (x / 16)) (hex_digit (x % 16)) (omega (arith, high)) (omega (arith, low)))
 
-pub bytes-say : (l : List ℕ) → ((k : ℕ) → get_or l k 0 < 256) → Says (hexed l) l
+pub bytes_say : (l : List ℕ) → ((k : ℕ) → get_or l k 0 < 256) → Says (hexed l) l
 unfolding hexed
-bytes-say [] small = says_none
-bytes-say (x ∷ l) small = says_then (byte-says x (small 0)) (bytes-say l (λ k. small (suc k)))
+bytes_say [] small = says_none
+bytes_say (x ∷ l) small = says_then (byte_says x (small 0)) (bytes_say l (λ k. small (suc k)))
 
-pub says-whole : {t bytes : List ℕ} → Says t bytes → length t ≤ most → unhexed t ≡ bytes
-unfolding decoded decode unlessFault next
-says-whole {t} {bytes} says h =
+pub says_whole : {t bytes : List ℕ} → Says t bytes → length t ≤ most → unhexed t ≡ bytes
+unfolding decoded decode unless_fault next
+says_whole {t} {bytes} says h =
     let all = says.reads [] 0 Between (λ b. refl) [] in
-    let end = all.1 10 ∙ first-newline in
-    unhexed-decoded t h
+    let end = all.1 10 ∙ first_newline in
+    unhexed_decoded t h
     ∙ ap (decode [] 0 Between) (sym (append-nil t))
     ∙ all.2
     ∙ rw end refl

@@ -16,8 +16,8 @@ mod printing;
 ghost use Rattle.std.specs.Prelude.{◌≡◌, true, [], ◌∷◌, ◌≤◌, ◌<◌, length};
 ghost use Rattle.text.specs.Text.{Appended, line};
 ghost use Rattle.hex.specs.declared.Reading.TheVariants.{Between};
-ghost use Rattle.hex.specs.Hex.{digit, isSpace, first, second, next, isControl, isText};
-ghost use Rattle.hex.specs.Hex.{badDigit, oddDigit, most, decoded, unhexed, hasFault, isFaulty};
+ghost use Rattle.hex.specs.Hex.{digit, is_space, first, second, next, is_control, is_text};
+ghost use Rattle.hex.specs.Hex.{bad_digit, odd_digit, most, decoded, unhexed, has_fault, is_faulty};
 ghost use Rattle.hex.specs.ReadingLaws.{high_half};
 
 pub use printing::{hex_byte, hex_bytes};
@@ -57,7 +57,7 @@ pub struct Unhexed {
 // room.
 pub fn unhex(text: &[u8], out: &mut [u8]) -> Unhexed
     ensures written { Appended out.old 0 (unhexed text.now) out.new result.length }
-    ensures fault { result.is_faulty ≡ isFaulty text.now }
+    ensures fault { result.is_faulty ≡ is_faulty text.now }
 {
     if MOST < text.len() {
         return Unhexed {
@@ -72,7 +72,7 @@ pub fn unhex(text: &[u8], out: &mut [u8]) -> Unhexed
 fn decode(text: &[u8], out: &mut [u8]) -> Unhexed
     requires { length text.now ≤ most }
     ensures appended { Appended out.old 0 (decoded text.now) out.new result.length }
-    ensures is_faulty_value { result.is_faulty ≡ hasFault Between text.now }
+    ensures is_faulty_value { result.is_faulty ≡ has_fault Between text.now }
 {
     let mut reading = Reading::Between;
     let mut n = 0;
@@ -97,7 +97,7 @@ fn decode(text: &[u8], out: &mut [u8]) -> Unhexed
 // Is this a text? It has no control byte other than white space. A bench file has one: the high byte of its link count
 // or, where that is white space, an end of one of its many links.
 pub fn is_text(bytes: &[u8]) -> bool
-    ensures answer { result ≡ isText bytes.now }
+    ensures answer { result ≡ is_text bytes.now }
 {
     for at in 0..bytes.len() {
         if is_control(bytes[at]) {
@@ -177,7 +177,7 @@ fn digit(b: u8) -> u8
 
 // Is b white space?
 fn is_space(b: u8) -> bool
-    ensures { result ≡ isSpace b }
+    ensures { result ≡ is_space b }
 {
     match b {
         9..=13 | 32 => true,
@@ -187,7 +187,7 @@ fn is_space(b: u8) -> bool
 
 // Is b a control byte other than white space?
 fn is_control(b: u8) -> bool
-    ensures { result ≡ isControl b }
+    ensures { result ≡ is_control b }
 {
     if is_space(b) {
         return false;
@@ -206,7 +206,7 @@ fn put(out: &mut [u8], at: usize, b: u8) -> usize
 // Makes `out` the line of a byte at place `at` that may not stand there.
 fn bad(out: &mut [u8], at: usize) -> Unhexed
     requires { at < most }
-    ensures appended { Appended out.old 0 (line badDigit at) out.new result.length }
+    ensures appended { Appended out.old 0 (line bad_digit at) out.new result.length }
     ensures is_faulty_value { result.is_faulty ≡ true }
 {
     Unhexed {
@@ -218,7 +218,7 @@ fn bad(out: &mut [u8], at: usize) -> Unhexed
 // Makes `out` the line of a digit at place `at` that has no second digit.
 fn odd(out: &mut [u8], at: usize) -> Unhexed
     requires { at < most }
-    ensures appended { Appended out.old 0 (line oddDigit at) out.new result.length }
+    ensures appended { Appended out.old 0 (line odd_digit at) out.new result.length }
     ensures is_faulty_value { result.is_faulty ≡ true }
 {
     Unhexed {

@@ -1,7 +1,7 @@
 // Bytes as digits, two for each, appended to the text in a lent buffer.
 ghost use Rattle.std.specs.Prelude.{◌≡◌, ◌<◌};
 ghost use Rattle.text.specs.Text.{Appended};
-ghost use Rattle.hex.specs.Digits.{hexDigit, hexByte, hexed};
+ghost use Rattle.hex.specs.Digits.{hex_digit, hex_byte, hexed};
 
 use text::append;
 
@@ -18,7 +18,7 @@ pub fn hex_bytes(bytes: &[u8], out: &mut [u8], at: usize) -> usize
 
 // Appends the two digits of a byte.
 pub fn hex_byte(x: u8, out: &mut [u8], at: usize) -> usize
-    ensures text { Appended out.old at (hexByte x) out.new result }
+    ensures text { Appended out.old at (hex_byte x) out.new result }
 {
     let digits = [hex_digit(x / 16), hex_digit(x % 16)];
     append(out, at, &digits)
@@ -27,7 +27,7 @@ pub fn hex_byte(x: u8, out: &mut [u8], at: usize) -> usize
 // A digit, in capitals.
 fn hex_digit(d: u8) -> u8
     requires { d < 16 }
-    ensures digit { result ≡ hexDigit d }
+    ensures digit { result ≡ hex_digit d }
 {
     if d < 10 { 48 + d } else { 55 + d }
 }

@@ -4,10 +4,10 @@
 --                      nothing to own
 --     Done             what both functions show
 --     told, known      steps of a walk over plain data: what a call gives back, and what lies behind a reference
---     had, had-all     what is owned for nothing, by a value or by several
+--     had, had_all     what is owned for nothing, by a value or by several
 --     gone             a local that is not read again is freed
 --     bytes ..         the kind and the two bytes, which are the last three parameters of each function
---     walk-enters      a walk for which the callee's contract is taken shows the function's contract, once the callee's
+--     walk_enters      a walk for which the callee's contract is taken shows the function's contract, once the callee's
 --                      is proved
 -- Assumes nothing.
 use mathlib.Core.Path.{◌≡◌, refl, sym, subst}
@@ -53,7 +53,7 @@ use Rattle.plan.proofs.Record.TheLaws as R'
 use Rattle.machine.specs.Machine.{step_of}
 use Rattle.machine.specs.contracts.Answer as N
 use Rattle.machine.proofs.Answer.TheLaws as N'
-use Rattle.steps.specs.Outcomes.{outcomeOf}
+use Rattle.steps.specs.Outcomes.{outcome_of}
 use Rattle.steps.specs.declared.Stepped.{Stepped}
 use Rattle.steps.specs.contracts.Stepped as S
 use Rattle.steps.proofs.Stepped.TheLaws as S'
@@ -79,14 +79,14 @@ struct D L P = record {
   makes = λ 𝓛. LL.makes D P 𝓛;
 }
 
-abbrev pub the-record : Data
-the-record = struct R.the_type R'.the_laws R'.the_plain
+abbrev pub the_record : Data
+the_record = struct R.the_type R'.the_laws R'.the_plain
 
-abbrev pub the-stepped : Data
-the-stepped = struct S.the_type S'.the_laws S'.the_plain
+abbrev pub the_stepped : Data
+the_stepped = struct S.the_type S'.the_laws S'.the_plain
 
-abbrev pub the-answer : Data
-the-answer = record {
+abbrev pub the_answer : Data
+the_answer = record {
   type = N.the_row;
   ty = _;
   one = refl;
@@ -96,8 +96,8 @@ the-answer = record {
   makes = λ 𝓛. EL.makes N.the_type N'.the_plain 𝓛;
 }
 
-abbrev pub the-byte : Data
-the-byte = record {
+abbrev pub the_byte : Data
+the_byte = record {
   type = u8;
   ty = _;
   one = refl;
@@ -137,26 +137,26 @@ all_tell (D ∷ Ds) = (D.tells, all_tell Ds)
 abbrev pub All-lie : (Ds : List Data) → Denots (all_types Ds) → Type 0
 All-lie Ds x = Are (all_types Ds) (Ises (all_types Ds)) x (valss (all_types Ds) (all_vals Ds) x)
 
-all-make : {M : Type 1} {𝓤 : Ura M} (𝓛 : Logic 𝓤)
+all_make : {M : Type 1} {𝓤 : Ura M} (𝓛 : Logic 𝓤)
     →
     (Ds : List Data)
     → Makess 𝓛 (all_types Ds) (Ises (all_types Ds))
-all-make 𝓛 [] = tt
-all-make 𝓛 (D ∷ Ds) = (D.makes 𝓛, all-make 𝓛 Ds)
+all_make 𝓛 [] = tt
+all_make 𝓛 (D ∷ Ds) = (D.makes 𝓛, all_make 𝓛 Ds)
 
 -- a record and an answer lie together exactly if each does
-pub next-lies : (s : Stepped) → Lies the-stepped s → Lies the-record s.next
-next-lies s is = (LL.owed S.the_type S'.the_laws s _ is).0
+pub next_lies : (s : Stepped) → Lies the_stepped s → Lies the_record s.next
+next_lies s is = (LL.owed S.the_type S'.the_laws s _ is).0
 
-pub answer-lies : (s : Stepped) → Lies the-stepped s → Lies the-answer s.answer
-answer-lies s is = (LL.owed S.the_type S'.the_laws s _ is).1.0
+pub answer_lies : (s : Stepped) → Lies the_stepped s → Lies the_answer s.answer
+answer_lies s is = (LL.owed S.the_type S'.the_laws s _ is).1.0
 
-pub stepped-lies : (s : Stepped) → Lies the-record s.next → Lies the-answer s.answer → Lies the-stepped s
-stepped-lies s is-next is-answer = LL.owes S.the_type S'.the_laws s (is-next, (is-answer, tt))
+pub stepped_lies : (s : Stepped) → Lies the_record s.next → Lies the_answer s.answer → Lies the_stepped s
+stepped_lies s is-next is-answer = LL.owes S.the_type S'.the_laws s (is-next, (is-answer, tt))
 
 -- what both functions show: the record and the answer are those of the machine's step
 abbrev pub Done : Record → ℕ → ℕ → ℕ → Stepped → Type 0
-Done h k a b s = outcomeOf s ≡ step_of h k a b
+Done h k a b s = outcome_of s ≡ step_of h k a b
 
 -- ---- steps of a walk
 module _ {M : Type 1} {𝓤 : Ura M} {𝓛 : Logic 𝓤} {K : Type 0} {Γ : List (Item 𝓤)} where
@@ -187,12 +187,12 @@ module _ {M : Type 1} {𝓤 : Ura M} {𝓛 : Logic 𝓤} {K : Type 0} {Γ : List
     pub had : K → (D : Data) (x : D.type.Denot) → Lies D x → Step K 𝓛 (‵ (D.type.own x (D.val x ∷ [])) ∷ Γ) G Γ G
     had t D x is = owned t D.type (Is D.type) (D.makes 𝓛) x (D.val x ∷ []) is
 
-    pub had-all : K
+    pub had_all : K
         → (Ds : List Data) (x : Denots (all_types Ds))
         → All-lie Ds x
         → Step K 𝓛 (‵ (owns (all_types Ds) x (valss (all_types Ds) (all_vals Ds) x)) ∷ Γ) G Γ G
-    had-all t Ds x are = use0 𝓛 (‵ (owns (all_types Ds) x (valss (all_types Ds) (all_vals Ds) x)))
-        (owns_make 𝓛 (all_types Ds) (Ises (all_types Ds)) (all-make 𝓛 Ds) x
+    had_all t Ds x are = use0 𝓛 (‵ (owns (all_types Ds) x (valss (all_types Ds) (all_vals Ds) x)))
+        (owns_make 𝓛 (all_types Ds) (Ises (all_types Ds)) (all_make 𝓛 Ds) x
         (valss (all_types Ds) (all_vals Ds) x) are)
 
   -- a local that is not read again is freed: entry n is its cell, and the entry behind it what frees it
@@ -211,19 +211,19 @@ module _ {M : Type 1} {𝓤 : Ura M} {𝓛 : Logic 𝓤} {K : Type 0} {Γ : List
 
 -- ---- the kind and the two bytes
 abbrev pub bytes : List Data
-bytes = the-byte ∷ the-byte ∷ the-byte ∷ []
+bytes = the_byte ∷ the_byte ∷ the_byte ∷ []
 
 module _ {n : ℕ} where
   abbrev slots : List (Slot n)
   slots = plain (λ _. u8) ∷ plain (λ _. u8) ∷ plain (λ _. u8) ∷ []
 
   -- at exit they are as they were passed
-  abbrev pub bytes-stay : Stays slots (yes, (yes, (yes, tt)))
-  bytes-stay = (stay_none (λ _. u8) yes, (stay_none (λ _. u8) yes, (stay_none (λ _. u8) yes, tt)))
+  abbrev pub bytes_stay : Stays slots (yes, (yes, (yes, tt)))
+  bytes_stay = (stay_none (λ _. u8) yes, (stay_none (λ _. u8) yes, (stay_none (λ _. u8) yes, tt)))
 
-pub bytes-go : {M : Type 1} {𝓤 : Ura M} (𝓛 : Logic 𝓤) (n : ℕ)
-    → AllGo 𝓛 n slots (yes, (yes, (yes, tt))) bytes-stay
-bytes-go 𝓛 n = (
+pub bytes_go : {M : Type 1} {𝓤 : Ura M} (𝓛 : Logic 𝓤) (n : ℕ)
+    → AllGo 𝓛 n slots (yes, (yes, (yes, tt))) bytes_stay
+bytes_go 𝓛 n = (
   Goes-none 𝓛 n (λ _. u8) yes (λ κs x f. refl),
   (Goes-none 𝓛 n (λ _. u8) yes (λ κs x f. refl), (Goes-none 𝓛 n (λ _. u8) yes (λ κs x f. refl), tt)),
 )
@@ -233,7 +233,7 @@ module _ {M : Type 1} {𝓤 : Ura M} (𝓛 : Logic 𝓤) (𝓜 : Model 𝓤 𝓛
     (hs : Stays T.signature.params T.kept) (c : Clauses 𝓤 T) (γ : Env) where
   open 𝓛 use {H}
 
-  pub walk-enters : AllGo 𝓛 T.signature.lifetimes T.signature.params T.kept hs
+  pub walk_enters : AllGo 𝓛 T.signature.lifetimes T.signature.params T.kept hs
       → (name : Name) (function : Fn) → Closed 𝓤 H (tables 𝓤 H 𝓜 𝓡 γ).C (tables 𝓤 H 𝓜 𝓡 γ).Λ name function
       → (d : Contract 𝓤) (callee : Name) (routine : Routine) → γ callee ≡ routine → Triple 𝓤 (𝓡.run routine) d
       → ((C : Calls 𝓤 H) (Λ : Loops 𝓤 H)
@@ -242,7 +242,7 @@ module _ {M : Type 1} {𝓤 : Ura M} (𝓛 : Logic 𝓤) (𝓜 : Model 𝓤 𝓛
       → Walks 𝓛 T hs (WpFn 𝓤 H C Λ function) c)
       → Triple 𝓤 ((tables 𝓤 H 𝓜 𝓡 γ).C name) (triple_of 𝓛 T.signature (closing 𝓛 T c))
   unfolding tables_of
-  walk-enters gs name function closed d callee routine calls met walk =
+  walk_enters gs name function closed d callee routine calls met walk =
       let 𝓣 = tables_of 𝓤 H 𝓜 (tables 𝓤 H 𝓜 𝓡 γ) in
       entered 𝓤 H (triple_of 𝓛 T.signature (closing 𝓛 T c)) (tables 𝓤 H 𝓜 𝓡 γ).C
       (tables 𝓤 H 𝓜 𝓡 γ).Λ name function closed

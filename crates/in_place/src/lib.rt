@@ -5,9 +5,9 @@
 // function over a reference to a struct, so both are proved by hand, statement after statement; what the two proofs
 // share is proofs/Walking.antt.
 ghost use Rattle.std.specs.Prelude.{◌≡◌};
-ghost use Rattle.machine.specs.Answers.{replyOf, gives};
+ghost use Rattle.machine.specs.Answers.{reply_of, gives};
 ghost use Rattle.machine.specs.Machine.{step_of};
-ghost use Rattle.steps.specs.Outcomes.{outcomeOf};
+ghost use Rattle.steps.specs.Outcomes.{outcome_of};
 
 use machine::Answer;
 use plan::Record;
@@ -15,7 +15,7 @@ use steps::{Machine, Stepped};
 
 // Takes a step of the lent record, leaves in it the record that the machine hands back, and gives the answer.
 pub fn apply(bench: &mut Record, kind: u8, a: u8, b: u8) -> Answer
-    ensures outcome { gives bench.new (replyOf result) ≡ step_of bench.old kind a b }
+    ensures outcome { gives bench.new (reply_of result) ≡ step_of bench.old kind a b }
 {
     let stepped = Machine { now: *bench }.step(kind, a, b);
     *bench = stepped.next;
@@ -25,7 +25,7 @@ pub fn apply(bench: &mut Record, kind: u8, a: u8, b: u8) -> Answer
 // The step in place for callers that hold the record by value: the local is lent to `apply`, and handed back as that
 // left it.
 pub fn applied(first: Record, kind: u8, a: u8, b: u8) -> Stepped
-    ensures outcome { outcomeOf result ≡ step_of first kind a b }
+    ensures outcome { outcome_of result ≡ step_of first kind a b }
 {
     let mut bench = first;
     let answer = apply(&mut bench, kind, a, b);

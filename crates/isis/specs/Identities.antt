@@ -1,36 +1,36 @@
 -- The table of identities (02, No. 6): rows of eight bytes, seven of identity and one with the number of a router. t is
 -- the table, a list of bytes.
 use Rattle.std.specs.Prelude.{ℕ, ◌+◌, ◌*◌, ◌/◌, ◌%◌, Bool, ◌&&◌, List, ltb, eqb, length, get_or}
-use Rattle.area.specs.Refusals.{incomplete, unknownRouter}
-use Rattle.area.specs.Tests.{pick, orThen, first, lowest}
+use Rattle.area.specs.Refusals.{incomplete, unknown_router}
+use Rattle.area.specs.Tests.{pick, or_then, first, lowest}
 use Rattle.tlv.specs.Items.{seven}
 
 -- how many whole rows the table has
-abbrev pub rowCount : (t : List ℕ) → ℕ
-rowCount t = length t / 8
+abbrev pub row_count : (t : List ℕ) → ℕ
+row_count t = length t / 8
 
 -- the identity of row e, and its router
-abbrev pub identityOf : (t : List ℕ) (e : ℕ) → ℕ
-identityOf t e = seven t (8 * e)
+abbrev pub identity_of : (t : List ℕ) (e : ℕ) → ℕ
+identity_of t e = seven t (8 * e)
 
 abbrev pub router : (t : List ℕ) (e : ℕ) → ℕ
 router t e = get_or t (8 * e + 7) 0
 
 -- The first row with a fault: every whole row has a router below n, whether another has its identity too or not; and
 -- after the last whole row nothing is left, which would be a row that is cut short.
-unfoldable pub rowsRefusal : (n : ℕ) (t : List ℕ) → ℕ
-rowsRefusal n t =
-    orThen (first (rowCount t) (λ e. pick (ltb (router t e) n) 0 unknownRouter))
+unfoldable pub rows_refusal : (n : ℕ) (t : List ℕ) → ℕ
+rows_refusal n t =
+    or_then (first (row_count t) (λ e. pick (ltb (router t e) n) 0 unknown_router))
     (pick (eqb (length t % 8) 0) 0 incomplete)
 
--- the first row with the identity x, which counts; `rowCount t` where there is none
+-- the first row with the identity x, which counts; `row_count t` where there is none
 unfoldable pub row_of : (t : List ℕ) (x : ℕ) → ℕ
-row_of t x = lowest (rowCount t) (λ e. eqb (identityOf t e) x)
+row_of t x = lowest (row_count t) (λ e. eqb (identity_of t e) x)
 
 -- the identity x is in the table
-abbrev pub isKnown : (t : List ℕ) (x : ℕ) → Bool
-isKnown t x = ltb (row_of t x) (rowCount t)
+abbrev pub is_known : (t : List ℕ) (x : ℕ) → Bool
+is_known t x = ltb (row_of t x) (row_count t)
 
 -- the identity x is in the table, and is router j's
 unfoldable pub is_of : (t : List ℕ) (x j : ℕ) → Bool
-is_of t x j = isKnown t x && eqb (router t (row_of t x)) j
+is_of t x j = is_known t x && eqb (router t (row_of t x)) j

@@ -1,10 +1,10 @@
 -- The loop that lowers a row by the metrics of a list: what is left of the list, with the row at hand, gives what the
 -- whole list gives with the row at first. i is what stands at the place p, where the rest of the list begins.
 --     Lowering                     this, cell by cell
---     lowering-start               it holds before the first entry
---     lowering-end, -fault         where nothing is left the row is what was asked for
---     lowering-less, -stays        an entry with a lower metric, and one with none
---     entry_known, entry-router    its identity has a row, whose router has a cell
+--     lowering_start               it holds before the first entry
+--     lowering_end, -fault         where nothing is left the row is what was asked for
+--     lowering_less, -stays        an entry with a lower metric, and one with none
+--     entry_known, entry_router    its identity has a row, whose router has a cell
 --     all_known                    so it is for every entry of a list that is not refused
 use Rattle.std.specs.Prelude.{ℕ, ◌+◌, ◌≤◌, ◌<◌, min, ◌≡◌, refl, Bool, true, false, ◌≢◌, List, [], ◌∷◌, ltb, length, get_or, set}
 use Rattle.std.proofs.Math.Path.{sym}
@@ -12,79 +12,79 @@ use Rattle.std.proofs.Common.{ap, ◌∙◌, subst, ⊎_elim, arith, length-set,
 use Rattle.std.proofs.Math.Decide.{ℕ_discrete}
 use Rattle.area.specs.Limits.{width}
 use Rattle.area.specs.Tests.{pick}
-use Rattle.area.specs.TableLaws.{is-build}
+use Rattle.area.specs.TableLaws.{is_build}
 use Rattle.area.specs.declared.refusal.Refusal.{Refusal}
 use Rattle.tlv.specs.declared.Neighbour.{Neighbour}
 use Rattle.tlv.specs.declared.Item.{Item}
 use Rattle.tlv.specs.declared.Item.TheVariants.{End, Refused, Entry}
-use Rattle.tlv.specs.Items.{item_at, items, itemsAt}
-use Rattle.tlv.specs.ItemLaws.{items-end, items_refused, items-entry}
-use Rattle.isis.specs.Identities.{rowCount, router, row_of, isKnown, is_of}
-use Rattle.isis.specs.IdentityLaws.{RowsIn, of-router, of_other}
-use Rattle.isis.specs.Lists.{itemsRefusal, lowestTo}
-use Rattle.isis.specs.ListLaws.{passed-of, end-next, refusal-both, no-fault}
-use Rattle.isis.specs.ListLaws.{lowest-none, lowest-fault, lowest-next}
-use Rattle.isis.specs.Rows.{AllKnown, loweredRow}
+use Rattle.tlv.specs.Items.{item_at, items, items_at}
+use Rattle.tlv.specs.ItemLaws.{items_end, items_refused, items_entry}
+use Rattle.isis.specs.Identities.{row_count, router, row_of, is_known, is_of}
+use Rattle.isis.specs.IdentityLaws.{RowsIn, of_router, of_other}
+use Rattle.isis.specs.Lists.{items_refusal, lowest_to}
+use Rattle.isis.specs.ListLaws.{passed_of, end_next, refusal_both, no_fault}
+use Rattle.isis.specs.ListLaws.{lowest_none, lowest_fault, lowest_next}
+use Rattle.isis.specs.Rows.{AllKnown, lowered_row}
 
 pub record Lowering (t l before : List ℕ) (p : ℕ) (row : List ℕ) : Type 0 where
   pub size : length row ≡ width
   pub cells :
       (j : ℕ)
       → j < width
-      → lowestTo t j (get_or row j 0) (itemsAt l p) ≡ lowestTo t j (get_or before j 0) (items l)
-  pub known : AllKnown t (itemsAt l p)
+      → lowest_to t j (get_or row j 0) (items_at l p) ≡ lowest_to t j (get_or before j 0) (items l)
+  pub known : AllKnown t (items_at l p)
 
-pub lowering-start :
+pub lowering_start :
     (t l row : List ℕ)
     → length row ≡ width
     → AllKnown t (items l)
     → Lowering t l row 0 row
-lowering-start t l row e k = record { size = e; cells = λ j h. refl; known = k }
+lowering_start t l row e k = record { size = e; cells = λ j h. refl; known = k }
 
 module _
     (t l before : List ℕ) (p : ℕ) (row : List ℕ) (now : Lowering t l before p row)
     (i : Item) (r : i ≡ item_at l p)
   where
     done :
-        ((j : ℕ) → lowestTo t j (get_or row j 0) (itemsAt l p) ≡ get_or row j 0)
-        → row ≡ loweredRow t l before
-    unfolding loweredRow
+        ((j : ℕ) → lowest_to t j (get_or row j 0) (items_at l p) ≡ get_or row j 0)
+        → row ≡ lowered_row t l before
+    unfolding lowered_row
     done none =
-        is-build width (λ j. lowestTo t j (get_or before j 0) (items l)) row now.size
+        is_build width (λ j. lowest_to t j (get_or before j 0) (items l)) row now.size
         (λ j h. sym (none j) ∙ now.cells j h)
 
-    pub lowering-end : i ≡ End → row ≡ loweredRow t l before
-    lowering-end q = done (λ j. lowest-none t j (get_or row j 0) (itemsAt l p) (items-end l p i r q))
+    pub lowering_end : i ≡ End → row ≡ lowered_row t l before
+    lowering_end q = done (λ j. lowest_none t j (get_or row j 0) (items_at l p) (items_end l p i r q))
 
-    pub lowering-fault : (k : Refusal) → i ≡ Refused k → row ≡ loweredRow t l before
-    lowering-fault k q = done (λ j. lowest-fault t j (get_or row j 0) (itemsAt l p) k (items_refused l p i r k q))
+    pub lowering_fault : (k : Refusal) → i ≡ Refused k → row ≡ lowered_row t l before
+    lowering_fault k q = done (λ j. lowest_fault t j (get_or row j 0) (items_at l p) k (items_refused l p i r k q))
 
     -- an entry: e is the first row with its identity, and m that row's router
     module _ (x : Neighbour) (q : i ≡ Entry x) (e : ℕ) (is : e ≡ row_of t x.identity) where
-      both : (isKnown t x.identity ≡ true) × AllKnown t (itemsAt l x.next)
-      both = subst (AllKnown t) (items-entry l p i r x q) now.known
+      both : (is_known t x.identity ≡ true) × AllKnown t (items_at l x.next)
+      both = subst (AllKnown t) (items_entry l p i r x q) now.known
 
-      pub entry_known : e < rowCount t
-      entry_known = omega (arith, is, ltb-true (row_of t x.identity) (rowCount t) both.0)
+      pub entry_known : e < row_count t
+      entry_known = omega (arith, is, ltb-true (row_of t x.identity) (row_count t) both.0)
 
-      module _ (m : ℕ) (told : m ≡ router t e) (rows : RowsIn width t (rowCount t)) where
-        pub entry-router : m < width
-        entry-router = omega (arith, told, rows e entry_known)
+      module _ (m : ℕ) (told : m ≡ router t e) (rows : RowsIn width t (row_count t)) where
+        pub entry_router : m < width
+        entry_router = omega (arith, told, rows e entry_known)
 
         -- the cell of the entry's router, and every other
         taken :
-            lowestTo t m (get_or row m 0) (itemsAt l p)
-            ≡ lowestTo t m (min (get_or row m 0) x.metric) (itemsAt l x.next)
+            lowest_to t m (get_or row m 0) (items_at l p)
+            ≡ lowest_to t m (min (get_or row m 0) x.metric) (items_at l x.next)
         taken =
-            lowest-next t m (get_or row m 0) (itemsAt l p) x (itemsAt l x.next) (items-entry l p i r x q)
-            ∙ rw (of-router t x.identity e is entry_known m (sym told)) refl
+            lowest_next t m (get_or row m 0) (items_at l p) x (items_at l x.next) (items_entry l p i r x q)
+            ∙ rw (of_router t x.identity e is entry_known m (sym told)) refl
 
         passed :
             (j : ℕ)
             → j ≢ m
-            → lowestTo t j (get_or row j 0) (itemsAt l p) ≡ lowestTo t j (get_or row j 0) (itemsAt l x.next)
+            → lowest_to t j (get_or row j 0) (items_at l p) ≡ lowest_to t j (get_or row j 0) (items_at l x.next)
         passed j f =
-            lowest-next t j (get_or row j 0) (itemsAt l p) x (itemsAt l x.next) (items-entry l p i r x q)
+            lowest_next t j (get_or row j 0) (items_at l p) x (items_at l x.next) (items_entry l p i r x q)
             ∙ rw (of_other t x.identity e is entry_known j (λ s. f (sym (told ∙ s)))) refl
 
         -- a row whose cell of m is the lower, and that has every other cell as it was
@@ -96,39 +96,39 @@ module _
             → Lowering t l before x.next after
         next after size here others = record {
           size = size;
-          cells = λ j h. by-cell j h (ℕ_discrete j m);
+          cells = λ j h. by_cell j h (ℕ_discrete j m);
           known = both.1;
         }
           where
-            by-cell :
+            by_cell :
                 (j : ℕ)
                 → j < width
                 → Dec (j ≡ m)
-                → lowestTo t j (get_or after j 0) (itemsAt l x.next) ≡ lowestTo t j (get_or before j 0) (items l)
-            by-cell j h (yes s) =
+                → lowest_to t j (get_or after j 0) (items_at l x.next) ≡ lowest_to t j (get_or before j 0) (items l)
+            by_cell j h (yes s) =
                 rw s
-                (ap (λ (v : ℕ). lowestTo t m v (itemsAt l x.next)) here
+                (ap (λ (v : ℕ). lowest_to t m v (items_at l x.next)) here
                 ∙ sym taken
-                ∙ now.cells m entry-router)
-            by-cell j h (no f) =
-                ap (λ (v : ℕ). lowestTo t j v (itemsAt l x.next)) (others j f)
+                ∙ now.cells m entry_router)
+            by_cell j h (no f) =
+                ap (λ (v : ℕ). lowest_to t j v (items_at l x.next)) (others j f)
                 ∙ sym (passed j f)
                 ∙ now.cells j h
 
-        pub lowering-less : x.metric < get_or row m 0 → Lowering t l before x.next (set row m x.metric)
-        lowering-less h =
+        pub lowering_less : x.metric < get_or row m 0 → Lowering t l before x.next (set row m x.metric)
+        lowering_less h =
             next (set row m x.metric) (simp length-set now.size)
-            (get_or-set_same row m x.metric 0 (omega (arith, entry-router, now.size)) ∙ omega arith)
+            (get_or-set_same row m x.metric 0 (omega (arith, entry_router, now.size)) ∙ omega arith)
             (λ j f. get_or-set_other row m j x.metric 0 f)
 
-        pub lowering-stays : get_or row m 0 ≤ x.metric → Lowering t l before x.next row
-        lowering-stays h = next row now.size (omega arith) (λ j f. refl)
+        pub lowering_stays : get_or row m 0 ≤ x.metric → Lowering t l before x.next row
+        lowering_stays h = next row now.size (omega arith) (λ j f. refl)
 
 -- ---- a list without a refusal
-pub all_known : (t : List ℕ) (i : ℕ) (l : List Item) → itemsRefusal t i l ≡ 0 → AllKnown t l
+pub all_known : (t : List ℕ) (i : ℕ) (l : List Item) → items_refusal t i l ≡ 0 → AllKnown t l
 all_known t i [] z = tt
-all_known t i (End ∷ l) z = all_known t i l (sym (end-next t i l) ∙ z)
-all_known t i (Refused k ∷ l) z = absurd (no-fault t i k l z)
+all_known t i (End ∷ l) z = all_known t i l (sym (end_next t i l) ∙ z)
+all_known t i (Refused k ∷ l) z = absurd (no_fault t i k l z)
 all_known t i (Entry x ∷ l) z =
-    let both = refusal-both t i (Entry x ∷ l) x l refl z in
-    ((passed-of t i x both.0).known, all_known t i l both.1)
+    let both = refusal_both t i (Entry x ∷ l) x l refl z in
+    ((passed_of t i x both.0).known, all_known t i l both.1)

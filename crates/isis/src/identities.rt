@@ -3,9 +3,9 @@
 //     find     the first row with an identity
 //     router   the router of a row
 ghost use Rattle.std.specs.Prelude.{◌≡◌, ◌<◌, ◌≤◌, ◌+◌, length};
-ghost use Rattle.area.specs.Refusals.{verdictNumber};
-ghost use Rattle.isis.specs.Identities.{rowCount, router, rowsRefusal, row_of};
-ghost use Rattle.isis.specs.IdentityLaws.{hasIdentity, four};
+ghost use Rattle.area.specs.Refusals.{verdict_number};
+ghost use Rattle.isis.specs.Identities.{row_count, router, rows_refusal, row_of};
+ghost use Rattle.isis.specs.IdentityLaws.{has_identity, four};
 
 use area::bytes::{byte, two};
 use area::refusal::{Refusal, Verdict};
@@ -14,7 +14,7 @@ use area::refusal::{Refusal, Verdict};
 pub(crate) const ROW: usize = 8;
 
 pub(crate) fn judge(n: usize, table: &[u8]) -> Verdict
-    ensures { verdictNumber result ≡ rowsRefusal n table.now }
+    ensures { verdict_number result ≡ rows_refusal n table.now }
 {
     for e in 0..table.len() / ROW {
         if n <= router(table, e) {
@@ -29,7 +29,7 @@ pub(crate) fn judge(n: usize, table: &[u8]) -> Verdict
 
 // The first row with the identity x; the number of rows where there is none.
 pub(crate) fn find(table: &[u8], x: u64) -> usize
-    ensures { (result ≡ row_of table.now x) × (result ≤ rowCount table.now) }
+    ensures { (result ≡ row_of table.now x) × (result ≤ row_count table.now) }
 {
     let count = table.len() / ROW;
     for e in 0..count {
@@ -42,7 +42,7 @@ pub(crate) fn find(table: &[u8], x: u64) -> usize
 
 // The router of row e.
 pub(crate) fn router(table: &[u8], e: usize) -> usize
-    requires { e < rowCount table.now }
+    requires { e < row_count table.now }
     ensures { result ≡ router table.now e }
 {
     wide(table[ROW * e + 7]) as usize
@@ -51,8 +51,8 @@ pub(crate) fn router(table: &[u8], e: usize) -> usize
 // Has row e the identity x? The last four bytes are compared first: a machine reads them at once, and identities mostly
 // differ there.
 fn has_identity(table: &[u8], e: usize, x: u64) -> bool
-    requires { e < rowCount table.now }
-    ensures { result ≡ hasIdentity table.now x e }
+    requires { e < row_count table.now }
+    ensures { result ≡ has_identity table.now x e }
 {
     let at = ROW * e;
     if four(table, at + 3) != x % 4294967296 {

@@ -10,9 +10,9 @@ mod lists;
 mod rows;
 
 ghost use Rattle.std.specs.Prelude.{◌≡◌};
-ghost use Rattle.area.specs.Refusals.{verdictNumber};
-ghost use Rattle.isis.specs.Lists.{listCount};
-ghost use Rattle.isis.specs.Isis.{areaRefusal, isisRefusal, isisMetrics};
+ghost use Rattle.area.specs.Refusals.{verdict_number};
+ghost use Rattle.isis.specs.Lists.{list_count};
+ghost use Rattle.isis.specs.Isis.{area_refusal, isis_refusal, isis_metrics};
 
 use area::limits::{CELLS, WIDTH};
 use area::metrics::clear;
@@ -20,10 +20,10 @@ use area::refusal::{Refusal, Verdict};
 
 // Fills the metric table with the links of n lists, and with none where one of the arguments is refused.
 pub fn read(n: usize, identities: &[u8], lists: &[u8], table: &mut [u32]) -> Verdict
-    ensures answer { verdictNumber result
-        ≡ isisRefusal n identities.now lists.now table.old }
+    ensures answer { verdict_number result
+        ≡ isis_refusal n identities.now lists.now table.old }
     ensures metrics { table.new
-        ≡ isisMetrics n identities.now lists.now table.old }
+        ≡ isis_metrics n identities.now lists.now table.old }
 {
     if table.len() != CELLS {
         return Verdict::Refused(Refusal::TableSize);
@@ -38,14 +38,14 @@ pub fn read(n: usize, identities: &[u8], lists: &[u8], table: &mut [u32]) -> Ver
 
 // How many lists begin in `lists`; the last may be cut short.
 pub fn count(lists: &[u8]) -> usize
-    ensures answer { result ≡ listCount lists.now }
+    ensures answer { result ≡ list_count lists.now }
 {
     lists::count(lists)
 }
 
 // Whether n, the table of identities and the lists are accepted, in this order.
 fn judge(n: usize, identities: &[u8], lists: &[u8]) -> Verdict
-    ensures { verdictNumber result ≡ areaRefusal n identities.now lists.now }
+    ensures { verdict_number result ≡ area_refusal n identities.now lists.now }
 {
     if n < 1 {
         return Verdict::Refused(Refusal::RouterCount);

@@ -4,10 +4,10 @@
 //     neighbour    the fault of an entry
 //     count        how many lists there are
 ghost use Rattle.std.specs.Prelude.{◌≡◌};
-ghost use Rattle.area.specs.Refusals.{verdictNumber};
+ghost use Rattle.area.specs.Refusals.{verdict_number};
 ghost use Rattle.tlv.specs.Items.{items};
-ghost use Rattle.isis.specs.Lists.{neighbourRefusal, itemsRefusal, listCount};
-ghost use Rattle.isis.specs.Isis.{listsRefusal};
+ghost use Rattle.isis.specs.Lists.{neighbour_refusal, items_refusal, list_count};
+ghost use Rattle.isis.specs.Isis.{lists_refusal};
 
 use crate::identities::{ROW, find, router};
 use area::bytes::two;
@@ -15,7 +15,7 @@ use area::refusal::{Refusal, Verdict};
 use tlv::{Item, Neighbour, item_at};
 
 pub(crate) fn judge(n: usize, identities: &[u8], lists: &[u8]) -> Verdict
-    ensures { verdictNumber result ≡ listsRefusal n identities.now lists.now }
+    ensures { verdict_number result ≡ lists_refusal n identities.now lists.now }
 {
     let mut at = 0;
     for i in 0..n {
@@ -40,7 +40,7 @@ pub(crate) fn judge(n: usize, identities: &[u8], lists: &[u8]) -> Verdict
 
 // The first fault in the list of router i.
 fn list(identities: &[u8], i: usize, list: &[u8]) -> Verdict
-    ensures { verdictNumber result ≡ itemsRefusal identities.now i (items list.now) }
+    ensures { verdict_number result ≡ items_refusal identities.now i (items list.now) }
 {
     let mut at = 0;
     loop {
@@ -60,7 +60,7 @@ fn list(identities: &[u8], i: usize, list: &[u8]) -> Verdict
 
 // The fault of an entry in the list of router i.
 fn neighbour(identities: &[u8], i: usize, x: Neighbour) -> Verdict
-    ensures { verdictNumber result ≡ neighbourRefusal identities.now i x }
+    ensures { verdict_number result ≡ neighbour_refusal identities.now i x }
 {
     let row = find(identities, x.identity);
     if identities.len() / ROW <= row {
@@ -76,7 +76,7 @@ fn neighbour(identities: &[u8], i: usize, x: Neighbour) -> Verdict
 }
 
 pub(crate) fn count(lists: &[u8]) -> usize
-    ensures { result ≡ listCount lists.now }
+    ensures { result ≡ list_count lists.now }
 {
     let mut at = 0;
     let mut begun = 0;

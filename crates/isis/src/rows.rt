@@ -4,10 +4,10 @@
 ghost use Rattle.std.specs.Prelude.{◌≡◌, length};
 ghost use Rattle.area.specs.Limits.{width};
 ghost use Rattle.tlv.specs.Items.{items};
-ghost use Rattle.isis.specs.Identities.{rowCount};
+ghost use Rattle.isis.specs.Identities.{row_count};
 ghost use Rattle.isis.specs.IdentityLaws.{RowsIn};
-ghost use Rattle.isis.specs.Isis.{areaRefusal, noLinks, listed};
-ghost use Rattle.isis.specs.Rows.{AllKnown, loweredRow};
+ghost use Rattle.isis.specs.Isis.{area_refusal, no_links, listed};
+ghost use Rattle.isis.specs.Rows.{AllKnown, lowered_row};
 
 use crate::identities::{find, router};
 use area::bytes::two;
@@ -15,8 +15,8 @@ use area::limits::WIDTH;
 use tlv::{Item, item_at};
 
 pub(crate) fn fill(n: usize, identities: &[u8], lists: &[u8], table: &mut [u32])
-    requires lists_value { areaRefusal n identities.now lists.now ≡ 0 }
-    requires table_value { table.old ≡ noLinks }
+    requires lists_value { area_refusal n identities.now lists.now ≡ 0 }
+    requires table_value { table.old ≡ no_links }
     ensures { table.new ≡ listed n identities.now lists.now }
 {
     let mut at = 0;
@@ -33,10 +33,10 @@ pub(crate) fn fill(n: usize, identities: &[u8], lists: &[u8], table: &mut [u32])
 // Lowers the row by the metrics of an accepted list.
 fn lower(identities: &[u8], list: &[u8], row: &mut [u32])
     requires row_len { length row.old ≡ width }
-    requires rows_in { RowsIn width identities.now (rowCount identities.now) }
+    requires rows_in { RowsIn width identities.now (row_count identities.now) }
     requires all_known { AllKnown identities.now (items list.now) }
     ensures { row.new
-        ≡ loweredRow identities.now list.now row.old }
+        ≡ lowered_row identities.now list.now row.old }
 {
     let mut at = 0;
     loop {

@@ -1,7 +1,7 @@
 -- Demand 3 in terms of what the code hands back (01, "The steps"): the tables that Plan leaves and the records that the
--- calls give. It is proved in HandedBackLaws.antt (`handed-back-free`).
+-- calls give. It is proved in HandedBackLaws.antt (`handed_back_free`).
 --     After            a record comes after the first one, by calls of the code
---     pointsBy         where each router points, read off the tables and the last record
+--     points_by         where each router points, read off the tables and the last record
 --     LoopFreeBy       demand 3, said of these
 use Rattle.std.specs.Prelude.{ℕ, ◌-◌, ◌<◌, ◌≡◌, ◌≢◌, List, ◌∷◌}
 use Rattle.area.specs.Limits.{width, unreached}
@@ -21,8 +21,8 @@ pub data After (first : Record) : Record → Type 0 where
   -- no call
   none : After first first
   -- One step: by `step` or another method of `Machine`, by `in_place::apply` or `in_place::applied`, or by `lent::step`
-  -- on the record's tables. The premise is the line `ensures outcome` of each: `outcomeOf r`, where it says so, is
-  -- `gives r.next (replyOf r.answer)`.
+  -- on the record's tables. The premise is the line `ensures outcome` of each: `outcome_of r`, where it says so, is
+  -- `gives r.next (reply_of r.answer)`.
   stepped : {now next : Record} {reply : Reply} (kind a b : ℕ)
       → After first now
       → gives next reply ≡ step_of now kind a b
@@ -35,17 +35,17 @@ pub data After (first : Record) : Record → Type 0 where
 
 -- Where each router points toward d: to the set in its row of the new table of sets of four if d is in its written set,
 -- and to that in its row of the old one if not. `left` are the tables that Plan left.
-abbrev pub pointsBy : (left : Tables) (last : Record) (d : ℕ) → ℕ → ℕ
-pointsBy left last d =
+abbrev pub points_by : (left : Tables) (last : Record) (d : ℕ) → ℕ → ℕ
+points_by left last d =
     pointers (λ r. cell width left.old.fours r d) (λ r. cell width left.new.fours r d)
     (λ r. bit (written_of last r) d)
 
 -- Demand 3, among n routers, where Plan left the tables `left` and the last call the record `last`.
 pub record LoopFreeBy (n : ℕ) (left : Tables) (last : Record) : Type 0 where
   -- no walk along the pointers meets a router twice
-  pub no-router-twice : (d x : ℕ) (walk : List ℕ)
+  pub no_router_twice : (d x : ℕ) (walk : List ℕ)
       → d < n
-      → Along (pointsBy left last d) x walk
+      → Along (points_by left last d) x walk
       → Distinct (x ∷ walk)
   -- a walk that starts where both distance tables say that d is reached can be prolonged to d, with at most n - 1 links
   -- in all
@@ -54,5 +54,5 @@ pub record LoopFreeBy (n : ℕ) (left : Tables) (last : Record) : Type 0 where
       → x < n
       → cell width left.old.distances x d ≢ unreached
       → cell width left.new.distances x d ≢ unreached
-      → Along (pointsBy left last d) x walk
-      → Prolonged (pointsBy left last d) (n - 1) d x walk
+      → Along (points_by left last d) x walk
+      → Prolonged (points_by left last d) (n - 1) d x walk

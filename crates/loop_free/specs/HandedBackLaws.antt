@@ -1,4 +1,4 @@
--- Demand 3 holds of what the code hands back: `handed-back-free`, at the end of this file. From the code to it:
+-- Demand 3 holds of what the code hands back: `handed_back_free`, at the end of this file. From the code to it:
 --     `plan`, accepted         its line `answer` gives the first premise: the number of `Accepted` is 0
 --     `plan`                   its lines `record` and `tables` are the next two, as they stand: `first` is the record
 --                              that it hands back, `left` the tables as it leaves them
@@ -6,10 +6,10 @@
 --     the last record          its clock is 0 where no tick was answered ok; else what is supposed of it is `Timely`
 -- So a reader puts the contracts of the calls in, in the order of the calls, and has demand 3 of the record at hand.
 --
--- The argument: calls of the code make a list of calls (`after_run`), of which `last-free` speaks. The tables hold the
+-- The argument: calls of the code make a list of calls (`after_run`), of which `last_free` speaks. The tables hold the
 -- sets of four and the distances of the two topologies (FilledLaws.antt of crate plan), and a written set holds what
--- was written (`run-bit` of crate machine). So both speak of the same pointers (`same-pointers`) and the same routers
--- that reach d (`same-reach`).
+-- was written (`run_bit` of crate machine). So both speak of the same pointers (`same_pointers`) and the same routers
+-- that reach d (`same_reach`).
 use Rattle.std.specs.Prelude.{ℕ, ◌≤◌, ◌<◌, ◌≡◌, refl, Bool, ◌≢◌, List, [], ◌∷◌, ◌++◌}
 use Rattle.std.proofs.Common.{sym, ap, ◌∙◌, arith}
 use Rattle.area.specs.Limits.{width, unreached}
@@ -17,112 +17,112 @@ use Rattle.area.specs.Tests.{pick}
 use Rattle.area.specs.Tables.{cell}
 use Rattle.sets.specs.Sets.{bit}
 use Rattle.plan.specs.declared.Record.{Record}
-use Rattle.plan.specs.NewMetrics.{newMetrics}
-use Rattle.plan.specs.Plan.{Tables, areTables, planRefusal, fresh, recordOf, tables_of}
-use Rattle.plan.specs.PlanLaws.{plan-of, planned-true, record-planned, tables-planned}
-use Rattle.plan.specs.FilledLaws.{filled-old-fours, filled-new-fours, filled-old-distance, filled-new-distance}
+use Rattle.plan.specs.NewMetrics.{new_metrics}
+use Rattle.plan.specs.Plan.{Tables, are_tables, plan_refusal, fresh, record_of, tables_of}
+use Rattle.plan.specs.PlanLaws.{plan_of, planned_true, record_planned, tables_planned}
+use Rattle.plan.specs.FilledLaws.{filled_old_fours, filled_new_fours, filled_old_distance, filled_new_distance}
 use Rattle.convergence.specs.Pointers.{Pointers, Along, Prolonged}
 use Rattle.machine.specs.Answers.{Outcome}
 use Rattle.machine.specs.Run.{Call, call, run, calls_of}
-use Rattle.machine.specs.RunLaws.{run-bit, fresh_start}
-use Rattle.machine.specs.CallLaws.{run-empty, run-one, run-joined}
-use Rattle.loop_free.specs.LoopFree.{pointsTo, Reaches, OnTime}
-use Rattle.loop_free.specs.LoopFreeLaws.{last-free}
-use Rattle.loop_free.specs.HandedBack.{After, none, stepped, ran, pointsBy, LoopFreeBy}
+use Rattle.machine.specs.RunLaws.{run_bit, fresh_start}
+use Rattle.machine.specs.CallLaws.{run_empty, run_one, run_joined}
+use Rattle.loop_free.specs.LoopFree.{points_to, Reaches, OnTime}
+use Rattle.loop_free.specs.LoopFreeLaws.{last_free}
+use Rattle.loop_free.specs.HandedBack.{After, none, stepped, ran, points_by, LoopFreeBy}
 
 -- ---- calls of the code make a list of calls
 pub after_run : {first last : Record} → After first last → (calls : List Call) × (last ≡ run first calls)
-after_run {first} none = ([], sym (run-empty first))
+after_run {first} none = ([], sym (run_empty first))
 after_run {first} (stepped {now} kind a b after e) =
     let before = after_run after in
     let one = call kind a b ∷ [] in
     let joined =
     ap (λ (o : Outcome). o.next) e
-    ∙ sym (run-one now kind a b)
+    ∙ sym (run_one now kind a b)
     ∙ ap (λ (r : Record). run r one) before.1
-    ∙ sym (run-joined first before.0 one) in
+    ∙ sym (run_joined first before.0 one) in
     (before.0 ++ one, joined)
 after_run {first} (ran bytes after e) =
     let before = after_run after in
     let joined =
     e
     ∙ ap (λ (r : Record). run r (calls_of bytes)) before.1
-    ∙ sym (run-joined first before.0 (calls_of bytes)) in
+    ∙ sym (run_joined first before.0 (calls_of bytes)) in
     (before.0 ++ calls_of bytes, joined)
 
 -- ---- walks along pointers that are the same
 module _ {p q : Pointers} (same : (r : ℕ) → p r ≡ q r) where
-  same-along : (x : ℕ) (walk : List ℕ) → Along p x walk → Along q x walk
-  same-along x [] a = tt
-  same-along x (y ∷ walk) a = (ap (λ (s : ℕ). bit s y) (sym (same x)) ∙ a.0, same-along y walk a.1)
+  same_along : (x : ℕ) (walk : List ℕ) → Along p x walk → Along q x walk
+  same_along x [] a = tt
+  same_along x (y ∷ walk) a = (ap (λ (s : ℕ). bit s y) (sym (same x)) ∙ a.0, same_along y walk a.1)
 
-  same-prolonged : {most d x : ℕ} {walk : List ℕ} → Prolonged p most d x walk → Prolonged q most d x walk
-  same-prolonged {x} {walk} w = record {
+  same_prolonged : {most d x : ℕ} {walk : List ℕ} → Prolonged p most d x walk → Prolonged q most d x walk
+  same_prolonged {x} {walk} w = record {
     rest = w.rest;
-    along = same-along x (walk ++ w.rest) w.along;
+    along = same_along x (walk ++ w.rest) w.along;
     ends = w.ends;
     short = w.short;
   }
 
 -- ---- the tables and the last record
-same-pick : {s t : Bool} {a b x y : ℕ} → s ≡ t → a ≡ b → x ≡ y → pick s a x ≡ pick t b y
-same-pick p q r = rw (p, q, r) refl
+same_pick : {s t : Bool} {a b x y : ℕ} → s ≡ t → a ≡ b → x ≡ y → pick s a x ≡ pick t b y
+same_pick p q r = rw (p, q, r) refl
 
-module _ (n h s : ℕ) (m l : List ℕ) (lent : Tables) (z : planRefusal n s m l (areTables m lent) ≡ 0) where
+module _ (n h s : ℕ) (m l : List ℕ) (lent : Tables) (z : plan_refusal n s m l (are_tables m lent) ≡ 0) where
   most : n ≤ width
-  most = (plan-of n s m l lent z).ready.most
+  most = (plan_of n s m l lent z).ready.most
 
   -- what the tables and the written sets say is what sets of four and answers say, of any router r
-  pub same-pointers : (calls : List Call) (d r : ℕ)
+  pub same_pointers : (calls : List Call) (d r : ℕ)
       → d < n
-      → pointsBy (tables_of n s m l lent) (run (recordOf n h s m l lent) calls) d r
-      ≡ pointsTo n m l (recordOf n h s m l lent) calls d r
-  same-pointers calls d r in_area_lem =
-      let planned = planned-true n s m l lent z in
-      rw (record-planned n h s m l lent planned, tables-planned n s m l lent planned)
-      (same-pick (run-bit (fresh n h s m l) calls (fresh_start n h s m l) r d (omega (arith, most)))
-      (filled-new-fours n m l most r d in_area_lem) (filled-old-fours n m l most r d in_area_lem))
+      → points_by (tables_of n s m l lent) (run (record_of n h s m l lent) calls) d r
+      ≡ points_to n m l (record_of n h s m l lent) calls d r
+  same_pointers calls d r in_area_lem =
+      let planned = planned_true n s m l lent z in
+      rw (record_planned n h s m l lent planned, tables_planned n s m l lent planned)
+      (same_pick (run_bit (fresh n h s m l) calls (fresh_start n h s m l) r d (omega (arith, most)))
+      (filled_new_fours n m l most r d in_area_lem) (filled_old_fours n m l most r d in_area_lem))
 
   -- and what the distance tables say of reaching d is what distances say
-  pub same-reach : (x d : ℕ)
+  pub same_reach : (x d : ℕ)
       → x < n
       → d < n
       → (cell width (tables_of n s m l lent).old.distances x d ≢ unreached → Reaches n m x d)
-      × (cell width (tables_of n s m l lent).new.distances x d ≢ unreached → Reaches n (newMetrics n m l) x d)
-  same-reach x d a b =
-      rw (tables-planned n s m l lent (planned-true n s m l lent z))
-      (rw (filled-old-distance n m l most x d a b, filled-new-distance n m l most x d a b)
+      × (cell width (tables_of n s m l lent).new.distances x d ≢ unreached → Reaches n (new_metrics n m l) x d)
+  same_reach x d a b =
+      rw (tables_planned n s m l lent (planned_true n s m l lent z))
+      (rw (filled_old_distance n m l most x d a b, filled_new_distance n m l most x d a b)
       ((λ f. f), (λ f. f)))
 
-  free-by :
+  free_by :
       (calls : List Call)
-      → OnTime (run (recordOf n h s m l lent) calls)
-      → LoopFreeBy n (tables_of n s m l lent) (run (recordOf n h s m l lent) calls)
-  free-by calls on-time =
-      let free = last-free n h s m l lent z calls on-time in
+      → OnTime (run (record_of n h s m l lent) calls)
+      → LoopFreeBy n (tables_of n s m l lent) (run (record_of n h s m l lent) calls)
+  free_by calls on-time =
+      let free = last_free n h s m l lent z calls on-time in
       record {
-        no-router-twice = λ d x walk d-in a.
-            free.no-router-twice d x walk d-in (same-along (λ r. same-pointers calls d r d-in) x walk a);
+        no_router_twice = λ d x walk d-in a.
+            free.no_router_twice d x walk d-in (same_along (λ r. same_pointers calls d r d-in) x walk a);
         arrives = λ d x walk d-in inside old new a.
-            let reach = same-reach x d inside d-in in
-            same-prolonged (λ r. sym (same-pointers calls d r d-in))
+            let reach = same_reach x d inside d-in in
+            same_prolonged (λ r. sym (same_pointers calls d r d-in))
             (free.arrives d x walk d-in (reach.0 old) (reach.1 new)
-            (same-along (λ r. same-pointers calls d r d-in) x walk a));
+            (same_along (λ r. same_pointers calls d r d-in) x walk a));
       }
 
 -- Demand 3: for every input that Plan accepts, the record that it hands back, the tables that it leaves, and every
 -- record that comes after the first one, if its clock stands at 0 or no router is late in it.
-pub handed-back-free :
+pub handed_back_free :
     (n h s : ℕ) (metrics changes : List ℕ) (lent : Tables)
-    → planRefusal n s metrics changes (areTables metrics lent) ≡ 0
+    → plan_refusal n s metrics changes (are_tables metrics lent) ≡ 0
     → (first last : Record) (left : Tables)
-    → first ≡ recordOf n h s metrics changes lent
+    → first ≡ record_of n h s metrics changes lent
     → left ≡ tables_of n s metrics changes lent
     → After first last
     → OnTime last
     → LoopFreeBy n left last
-handed-back-free n h s m l lent z first last left e f after on-time =
+handed_back_free n h s m l lent z first last left e f after on-time =
     let by = after_run after in
     let calls = by.0 in
     let ran = by.1 ∙ ap (λ (r : Record). run r calls) e in
-    rw (f, ran) (free-by n h s m l lent z calls (rw ran at on-time))
+    rw (f, ran) (free_by n h s m l lent z calls (rw ran at on-time))

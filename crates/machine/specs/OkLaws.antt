@@ -3,105 +3,105 @@
 -- the kind (StepLaws.antt) says the rest.
 --     learns, releases, finishes       the kinds that read no b
 --     writes, delivers                 those that read it
---     ticks-on                         a tick, which reads neither
+--     ticks_on                         a tick, which reads neither
 use Rattle.std.specs.Prelude.{ℕ, ◌+◌, ◌≤◌, ◌<◌, ◌≡◌, true, false, ◌≢◌, ltb}
 use Rattle.std.proofs.Common.{◌∙◌, arith, lt-ltb}
-use Rattle.area.specs.Limits.{width, lastTime}
-use Rattle.area.specs.TestLaws.{and-true}
+use Rattle.area.specs.Limits.{width, last_time}
+use Rattle.area.specs.TestLaws.{and_true}
 use Rattle.sets.specs.Sets.{bit, added, removed, subset}
 use Rattle.plan.specs.declared.Record.{Record}
 use Rattle.machine.specs.Answers.{ok, gives}
 use Rattle.machine.specs.Machine.{idle, holding, ongoing, done}
-use Rattle.machine.specs.Machine.{learnKind, releaseKind, writeKind, finishKind, deliverKind, tickKind}
-use Rattle.machine.specs.Machine.{state_of, waitingOf, tellingOf, dueOf, written_of, heldUntil}
-use Rattle.machine.specs.Machine.{withState, withWaiting, withWritten, withLearned, withClock, isRecord, readsB}
+use Rattle.machine.specs.Machine.{learn_kind, release_kind, write_kind, finish_kind, deliver_kind, tick_kind}
+use Rattle.machine.specs.Machine.{state_of, waiting_of, telling_of, due_of, written_of, held_until}
+use Rattle.machine.specs.Machine.{with_state, with_waiting, with_written, with_learned, with_clock, is_record, reads_b}
 use Rattle.machine.specs.Machine.{call_of, step_of}
-use Rattle.machine.specs.StepLaws.{kind-known, reads_two, reads_other, step_call, routers-one, routers-two}
-use Rattle.machine.specs.StepLaws.{routers-none, call-tick, tick-ok, Free, free-waits}
-use Rattle.machine.specs.StepLaws.{call-learn, call-release, call-write, call-finish, call-deliver}
-use Rattle.machine.specs.StepLaws.{learn-ok, release-ok, write-ok, finish-ok, deliver-ok, listens-ongoing}
+use Rattle.machine.specs.StepLaws.{kind_known, reads_two, reads_other, step_call, routers_one, routers_two}
+use Rattle.machine.specs.StepLaws.{routers_none, call_tick, tick_ok, Free, free_waits}
+use Rattle.machine.specs.StepLaws.{call_learn, call_release, call_write, call_finish, call_deliver}
+use Rattle.machine.specs.StepLaws.{learn_ok, release_ok, write_ok, finish_ok, deliver_ok, listens_ongoing}
 
-module _ (r : Record) (good : isRecord r ≡ true) (a : ℕ) (inside : a < r.n) where
+module _ (r : Record) (good : is_record r ≡ true) (a : ℕ) (inside : a < r.n) where
   -- ---- the kinds that read no b
   alone :
       (kind : ℕ)
-      → learnKind ≤ kind
-      → kind ≤ tickKind
-      → kind ≢ writeKind
-      → kind ≢ deliverKind
-      → kind ≢ tickKind
+      → learn_kind ≤ kind
+      → kind ≤ tick_kind
+      → kind ≢ write_kind
+      → kind ≢ deliver_kind
+      → kind ≢ tick_kind
       → step_of r kind a 0 ≡ call_of r kind a 0
   alone kind l h f g first =
-      step_call r kind a 0 good (kind-known kind l h)
-      (routers-one r kind a 0 first (reads_other kind f g) ∙ lt-ltb a r.n inside)
+      step_call r kind a 0 good (kind_known kind l h)
+      (routers_one r kind a 0 first (reads_other kind f g) ∙ lt-ltb a r.n inside)
 
-  pub learns : state_of r a ≡ idle → step_of r learnKind a 0 ≡ gives (withLearned r a holding) ok
+  pub learns : state_of r a ≡ idle → step_of r learn_kind a 0 ≡ gives (with_learned r a holding) ok
   learns e =
-      alone learnKind (omega arith) (omega arith) (λ q. omega arith) (λ q. omega arith) (λ q. omega arith)
-      ∙ call-learn r a 0
-      ∙ learn-ok r a e
+      alone learn_kind (omega arith) (omega arith) (λ q. omega arith) (λ q. omega arith) (λ q. omega arith)
+      ∙ call_learn r a 0
+      ∙ learn_ok r a e
 
   pub releases :
       state_of r a ≡ holding
-      → heldUntil r a ≤ r.clock
-      → step_of r releaseKind a 0 ≡ gives (withState r a ongoing) ok
+      → held_until r a ≤ r.clock
+      → step_of r release_kind a 0 ≡ gives (with_state r a ongoing) ok
   releases e held =
-      alone releaseKind (omega arith) (omega arith) (λ q. omega arith) (λ q. omega arith) (λ q. omega arith)
-      ∙ call-release r a 0
-      ∙ release-ok r a e held
+      alone release_kind (omega arith) (omega arith) (λ q. omega arith) (λ q. omega arith) (λ q. omega arith)
+      ∙ call_release r a 0
+      ∙ release_ok r a e held
 
   pub finishes :
       state_of r a ≡ ongoing
       → Free r a
-      → subset width (dueOf r a) (written_of r a) ≡ true
-      → step_of r finishKind a 0 ≡ gives (withState r a done) ok
+      → subset width (due_of r a) (written_of r a) ≡ true
+      → step_of r finish_kind a 0 ≡ gives (with_state r a done) ok
   finishes e free whole =
-      alone finishKind (omega arith) (omega arith) (λ q. omega arith) (λ q. omega arith) (λ q. omega arith)
-      ∙ call-finish r a 0
-      ∙ finish-ok r a e (free-waits free) whole
+      alone finish_kind (omega arith) (omega arith) (λ q. omega arith) (λ q. omega arith) (λ q. omega arith)
+      ∙ call_finish r a 0
+      ∙ finish_ok r a e (free_waits free) whole
 
   -- ---- the kinds that read b
-  module _ (b : ℕ) (b-inside : b < r.n) where
-    with-b :
+  module _ (b : ℕ) (b_inside : b < r.n) where
+    with_b :
         (kind : ℕ)
-        → learnKind ≤ kind
-        → kind ≤ tickKind
-        → kind ≢ tickKind
-        → readsB kind ≡ true
+        → learn_kind ≤ kind
+        → kind ≤ tick_kind
+        → kind ≢ tick_kind
+        → reads_b kind ≡ true
         → step_of r kind a b ≡ call_of r kind a b
-    with-b kind l h first e =
-        let both = and-true (ltb a r.n) (ltb b r.n) (lt-ltb a r.n inside) (lt-ltb b r.n b-inside) in
-        step_call r kind a b good (kind-known kind l h) (routers-two r kind a b first e ∙ both)
+    with_b kind l h first e =
+        let both = and_true (ltb a r.n) (ltb b r.n) (lt-ltb a r.n inside) (lt-ltb b r.n b_inside) in
+        step_call r kind a b good (kind_known kind l h) (routers_two r kind a b first e ∙ both)
 
     pub writes :
         state_of r a ≡ ongoing
         → Free r a
-        → bit (dueOf r a) b ≡ true
+        → bit (due_of r a) b ≡ true
         → bit (written_of r a) b ≡ false
-        → step_of r writeKind a b ≡ gives (withWritten r a (added width (written_of r a) b)) ok
+        → step_of r write_kind a b ≡ gives (with_written r a (added width (written_of r a) b)) ok
     writes e free due new =
-        with-b writeKind (omega arith) (omega arith) (λ q. omega arith) reads_two.0
-        ∙ call-write r a b
-        ∙ write-ok r a b e (free-waits free) due new
+        with_b write_kind (omega arith) (omega arith) (λ q. omega arith) reads_two.0
+        ∙ call_write r a b
+        ∙ write_ok r a b e (free_waits free) due new
 
     pub delivers :
         state_of r a ≡ done
-        → bit (tellingOf r a) b ≡ true
+        → bit (telling_of r a) b ≡ true
         → state_of r b ≡ ongoing
-        → bit (waitingOf r b) a ≡ true
-        → step_of r deliverKind a b ≡ gives (withWaiting r b (removed width (waitingOf r b) a)) ok
+        → bit (waiting_of r b) a ≡ true
+        → step_of r deliver_kind a b ≡ gives (with_waiting r b (removed width (waiting_of r b) a)) ok
     delivers e told state waits =
-        with-b deliverKind (omega arith) (omega arith) (λ q. omega arith) reads_two.1
-        ∙ call-deliver r a b
-        ∙ deliver-ok r a b e told (listens-ongoing (state_of r b) (waitingOf r b) a state ∙ waits)
+        with_b deliver_kind (omega arith) (omega arith) (λ q. omega arith) reads_two.1
+        ∙ call_deliver r a b
+        ∙ deliver_ok r a b e told (listens_ongoing (state_of r b) (waiting_of r b) a state ∙ waits)
 
 -- ---- a tick
-pub ticks-on :
+pub ticks_on :
     (r : Record)
-    → isRecord r ≡ true
-    → r.clock ≢ lastTime
-    → step_of r tickKind 0 0 ≡ gives (withClock r (r.clock + 1)) ok
-ticks-on r good f =
-    step_call r tickKind 0 0 good (kind-known tickKind (omega arith) (omega arith)) (routers-none r 0 0)
-    ∙ call-tick r 0 0
-    ∙ tick-ok r f
+    → is_record r ≡ true
+    → r.clock ≢ last_time
+    → step_of r tick_kind 0 0 ≡ gives (with_clock r (r.clock + 1)) ok
+ticks_on r good f =
+    step_call r tick_kind 0 0 good (kind_known tick_kind (omega arith) (omega arith)) (routers_none r 0 0)
+    ∙ call_tick r 0 0
+    ∙ tick_ok r f

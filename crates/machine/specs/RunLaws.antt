@@ -2,8 +2,8 @@
 -- `Kept` is shown for four changes: of a state, of a written set, of a waiting set, of the times. Lists of calls follow
 -- by induction.
 --     Start, fresh_start       a record before the first call, and that the fresh record is one
---     Kept, run-kept           what holds of each record that comes after it, whatever the calls
---     run-bit, run-written     the written sets hold exactly what was written
+--     Kept, run_kept           what holds of each record that comes after it, whatever the calls
+--     run_bit, run_written     the written sets hold exactly what was written
 use Rattle.std.specs.Prelude.{ℕ, ◌+◌, ◌*◌, ◌^◌, ◌≤◌, ◌<◌, ◌≡◌, refl, Bool, true, false, ◌&&◌, ◌||◌, ◌≢◌, ◌⊎◌, eqb, length, get_or, set}
 use Rattle.std.proofs.Math.Path.{sym, ap}
 use Rattle.std.proofs.Common.{◌∙◌, subst, inl, inr, ⊎_elim, arith, eqb-true, eq-eqb, ne_eqb, pow_pos, length-set, get_or-set_same, get_or-set_other}
@@ -11,18 +11,18 @@ use Rattle.std.proofs.Math.Bool.{or_assoc}
 use mathlib.Core.List.{List, [], ◌∷◌}
 use Rattle.std.proofs.Math.Decide.{ℕ_discrete}
 use Rattle.area.specs.Limits.{width}
-use Rattle.area.specs.TestLaws.{and-false, and_one, or-none, same_test}
-use Rattle.sets.specs.Sets.{bit, setOf, added, removed}
-use Rattle.sets.specs.SetLaws.{bit-zero, is-setOf, member-some, bit_added, bit-removed, subset-at, added-below}
+use Rattle.area.specs.TestLaws.{and_false, and_one, or_none, same_test}
+use Rattle.sets.specs.Sets.{bit, set_of, added, removed}
+use Rattle.sets.specs.SetLaws.{bit_zero, is_set_of, member_some, bit_added, bit_removed, subset_at, added_below}
 use Rattle.plan.specs.declared.Record.{Record}
 use Rattle.plan.specs.Plan.{fresh}
-use Rattle.plan.specs.FreshLaws.{fresh-size, fresh-state, fresh-written}
+use Rattle.plan.specs.FreshLaws.{fresh_size, fresh_state, fresh_written}
 use Rattle.machine.specs.Answers.{Outcome}
-use Rattle.machine.specs.Machine.{idle, holding, ongoing, done, writeKind}
-use Rattle.machine.specs.Machine.{state_of, waitingOf, dueOf, written_of, rank_of, dueTime}
-use Rattle.machine.specs.Machine.{withState, withWaiting, withWritten, withTimes, withClock}
-use Rattle.machine.specs.Run.{Call, call, step, run, isWrite, hasWritten}
-use Rattle.machine.specs.StepLaws.{waits-none, time-come, Free}
+use Rattle.machine.specs.Machine.{idle, holding, ongoing, done, write_kind}
+use Rattle.machine.specs.Machine.{state_of, waiting_of, due_of, written_of, rank_of, due_time}
+use Rattle.machine.specs.Machine.{with_state, with_waiting, with_written, with_times, with_clock}
+use Rattle.machine.specs.Run.{Call, call, step, run, is_write, has_written}
+use Rattle.machine.specs.StepLaws.{waits_none, time_come, Free}
 use Rattle.machine.specs.MoveLaws.{Entry, entry, MayFinish, moves}
 use Rattle.machine.specs.MoveLaws.{Move, stays, learned, released, wrote, finished, delivered, ticked}
 
@@ -37,30 +37,30 @@ pub record Kept (first now : Record) : Type 0 where
   -- no call changes n, what is due at a router, or how many written sets there are
   pub count : now.n ≡ first.n
   pub due : now.due ≡ first.due
-  pub written-size : length now.written ≡ length first.written
+  pub written_size : length now.written ≡ length first.written
   -- a router that x waited for at first is done, or x still waits for it
-  pub waits : (x w : ℕ) → w < width → bit (waitingOf first x) w ≡ true
-      → (bit (waitingOf now x) w ≡ true) ⊎ (state_of now w ≡ done)
+  pub waits : (x w : ℕ) → w < width → bit (waiting_of first x) w ≡ true
+      → (bit (waiting_of now x) w ≡ true) ⊎ (state_of now w ≡ done)
   -- a router that has written has learned; and it, and one that is done, waits for none, or its due time has come
-  pub wrote-awake : (x d : ℕ) → bit (written_of now x) d ≡ true → state_of now x ≢ idle
-  pub wrote-free : (x d : ℕ) → bit (written_of now x) d ≡ true → Free now x
-  pub done-free : (x : ℕ) → state_of now x ≡ done → Free now x
+  pub wrote_awake : (x d : ℕ) → bit (written_of now x) d ≡ true → state_of now x ≢ idle
+  pub wrote_free : (x d : ℕ) → bit (written_of now x) d ≡ true → Free now x
+  pub done_free : (x : ℕ) → state_of now x ≡ done → Free now x
   -- a router that is done has written all that is due
-  pub done-wrote : (x d : ℕ) → d < width → state_of now x ≡ done → bit (dueOf now x) d ≡ true
+  pub done_wrote : (x d : ℕ) → d < width → state_of now x ≡ done → bit (due_of now x) d ≡ true
       → bit (written_of now x) d ≡ true
   -- what is written is a set of routers of the area
   pub below : (x : ℕ) → written_of now x < 2 ^ first.n
 
-start-kept : (first : Record) → Start first → Kept first first
-start-kept first s = record {
+start_kept : (first : Record) → Start first → Kept first first
+start_kept first s = record {
   count = refl;
   due = refl;
-  written-size = refl;
+  written_size = refl;
   waits = λ x w h e. inl e;
-  wrote-awake = λ x d e. absurd (member-some (written_of first x) d e (s.written x));
-  wrote-free = λ x d e. absurd (member-some (written_of first x) d e (s.written x));
-  done-free = λ x e. absurd (not_done x e);
-  done-wrote = λ x d h e u. absurd (not_done x e);
+  wrote_awake = λ x d e. absurd (member_some (written_of first x) d e (s.written x));
+  wrote_free = λ x d e. absurd (member_some (written_of first x) d e (s.written x));
+  done_free = λ x e. absurd (not_done x e);
+  done_wrote = λ x d h e u. absurd (not_done x e);
   below = λ x. omega (arith, s.written x, pow_pos first.n);
 }
   where
@@ -71,29 +71,29 @@ start-kept first s = record {
 module _ {first r : Record} (kept : Kept first r) where
   -- the state of a, which is not done, becomes s, which is not idle; where s is done, a need not wait and has written
   -- all that is due
-  state-kept :
+  state_kept :
       (a s : ℕ)
       → state_of r a ≢ done
       → s ≢ idle
       → (s ≡ done → MayFinish r a)
-      → Kept first (withState r a s)
-  state-kept a s f g ends = record {
+      → Kept first (with_state r a s)
+  state_kept a s f g ends = record {
     count = kept.count;
     due = kept.due;
-    written-size = kept.written-size;
+    written_size = kept.written_size;
     waits = λ x w h e.
         ⊎_elim inl (λ q. inr (get_or-set_other r.states a w s 0 (λ p. f (ap (state_of r) (sym p) ∙ q)) ∙ q))
         (kept.waits x w h e);
-    wrote-awake = λ x d e.
-        ⊎_elim (λ p z. g (sym p.1 ∙ z)) (λ q z. kept.wrote-awake x d e (sym q ∙ z)) (entry r.states a s x);
-    wrote-free = kept.wrote-free;
-    done-free = λ x e.
+    wrote_awake = λ x d e.
+        ⊎_elim (λ p z. g (sym p.1 ∙ z)) (λ q z. kept.wrote_awake x d e (sym q ∙ z)) (entry r.states a s x);
+    wrote_free = kept.wrote_free;
+    done_free = λ x e.
         ⊎_elim
         (λ p. rw p.0 (ends (sym p.1 ∙ e)).free)
-        (λ q. kept.done-free x (sym q ∙ e))
+        (λ q. kept.done_free x (sym q ∙ e))
         (entry r.states a s x);
-    done-wrote = λ x d h e.
-        ⊎_elim (λ p. whole x d h p.0 (ends (sym p.1 ∙ e))) (λ q. kept.done-wrote x d h (sym q ∙ e))
+    done_wrote = λ x d h e.
+        ⊎_elim (λ p. whole x d h p.0 (ends (sym p.1 ∙ e))) (λ q. kept.done_wrote x d h (sym q ∙ e))
         (entry r.states a s x);
     below = kept.below;
   }
@@ -103,37 +103,37 @@ module _ {first r : Record} (kept : Kept first r) where
           → d < width
           → x ≡ a
           → MayFinish r a
-          → bit (dueOf r x) d ≡ true
+          → bit (due_of r x) d ≡ true
           → bit (written_of r x) d ≡ true
-      whole x d h e t = rw e (subset-at width (dueOf r a) (written_of r a) t.whole d h)
+      whole x d h e t = rw e (subset_at width (due_of r a) (written_of r a) t.whole d h)
 
   -- the written set of a, which need not wait and is ongoing, becomes s
-  written-kept :
+  written_kept :
       (a s : ℕ)
       → Free r a
       → state_of r a ≡ ongoing
       → s < 2 ^ first.n
-      → Kept first (withWritten r a s)
-  written-kept a s z f l = record {
+      → Kept first (with_written r a s)
+  written_kept a s z f l = record {
     count = kept.count;
     due = kept.due;
-    written-size = length-set r.written a s ∙ kept.written-size;
+    written_size = length-set r.written a s ∙ kept.written_size;
     waits = kept.waits;
-    wrote-awake = λ x d e.
+    wrote_awake = λ x d e.
         ⊎_elim
         (λ p q. omega (arith, ap (state_of r) p.0))
-        (λ q. kept.wrote-awake x d (ap (λ (t : ℕ). bit t d) (sym q) ∙ e))
+        (λ q. kept.wrote_awake x d (ap (λ (t : ℕ). bit t d) (sym q) ∙ e))
         (entry r.written a s x);
-    wrote-free = λ x d e.
+    wrote_free = λ x d e.
         ⊎_elim
         (λ p. rw p.0 z)
-        (λ q. kept.wrote-free x d (ap (λ (t : ℕ). bit t d) (sym q) ∙ e))
+        (λ q. kept.wrote_free x d (ap (λ (t : ℕ). bit t d) (sym q) ∙ e))
         (entry r.written a s x);
-    done-free = kept.done-free;
-    done-wrote = λ x d h e u.
+    done_free = kept.done_free;
+    done_wrote = λ x d h e u.
         ⊎_elim
         (λ p. absurd (let y : ⊥ = omega (arith, ap (state_of r) p.0) in y))
-        (λ q. ap (λ (t : ℕ). bit t d) q ∙ kept.done-wrote x d h e u)
+        (λ q. ap (λ (t : ℕ). bit t d) q ∙ kept.done_wrote x d h e u)
         (entry r.written a s x);
     below = λ x.
         ⊎_elim (λ p. omega (arith, p.1)) (λ q. omega (arith, q, kept.below x)) (entry r.written a s x);
@@ -141,107 +141,107 @@ module _ {first r : Record} (kept : Kept first r) where
 
   -- the waiting set of b, which has a member, becomes s, and those of its members that are not in s are done
   waiting_kept : (b s : ℕ)
-      → waitingOf r b ≢ 0
-      → ((w : ℕ) → w < width → bit (waitingOf r b) w ≡ true → (bit s w ≡ true) ⊎ (state_of r w ≡ done))
-      → Kept first (withWaiting r b s)
+      → waiting_of r b ≢ 0
+      → ((w : ℕ) → w < width → bit (waiting_of r b) w ≡ true → (bit s w ≡ true) ⊎ (state_of r w ≡ done))
+      → Kept first (with_waiting r b s)
   waiting_kept b s f told = record {
     count = kept.count;
     due = kept.due;
-    written-size = kept.written-size;
+    written_size = kept.written_size;
     waits = λ x w h e. ⊎_elim (still x w h (entry r.waiting b s x)) inr (kept.waits x w h e);
-    wrote-awake = kept.wrote-awake;
-    wrote-free = λ x d e. free x (kept.wrote-free x d e);
-    done-free = λ x e. free x (kept.done-free x e);
-    done-wrote = kept.done-wrote;
+    wrote_awake = kept.wrote_awake;
+    wrote_free = λ x d e. free x (kept.wrote_free x d e);
+    done_free = λ x e. free x (kept.done_free x e);
+    done_wrote = kept.done_wrote;
     below = kept.below;
   }
     where
-      free : (x : ℕ) → Free r x → Free (withWaiting r b s) x
-      free x (waits-none z) =
-          waits-none
-          (⊎_elim (λ p. absurd (f (ap (waitingOf r) (sym p.0) ∙ z))) (λ q. q ∙ z) (entry r.waiting b s x))
-      free x (time-come h) = time-come h
+      free : (x : ℕ) → Free r x → Free (with_waiting r b s) x
+      free x (waits_none z) =
+          waits_none
+          (⊎_elim (λ p. absurd (f (ap (waiting_of r) (sym p.0) ∙ z))) (λ q. q ∙ z) (entry r.waiting b s x))
+      free x (time_come h) = time_come h
 
-      still : (x w : ℕ) → w < width → Entry r.waiting b s x → bit (waitingOf r x) w ≡ true
+      still : (x w : ℕ) → w < width → Entry r.waiting b s x → bit (waiting_of r x) w ≡ true
           → (bit (get_or (set r.waiting b s) x 0) w ≡ true) ⊎ (state_of r w ≡ done)
       still x w h (inl p) e =
           ⊎_elim (λ t. inl (ap (λ (t : ℕ). bit t w) p.1 ∙ t)) inr
-          (told w h (ap (λ (y : ℕ). bit (waitingOf r y) w) (sym p.0) ∙ e))
+          (told w h (ap (λ (y : ℕ). bit (waiting_of r y) w) (sym p.0) ∙ e))
       still x w h (inr q) e = inl (ap (λ (t : ℕ). bit t w) q ∙ e)
 
   -- the times become others, by which each due time that has come has still come, but for that of an idle router
-  times-kept :
+  times_kept :
       (clock : ℕ) (times : List ℕ)
-      → ((x : ℕ) → state_of r x ≢ idle → dueTime r x ≤ r.clock → dueTime (withTimes r clock times) x ≤ clock)
-      → Kept first (withTimes r clock times)
-  times-kept clock times come = record {
+      → ((x : ℕ) → state_of r x ≢ idle → due_time r x ≤ r.clock → due_time (with_times r clock times) x ≤ clock)
+      → Kept first (with_times r clock times)
+  times_kept clock times come = record {
     count = kept.count;
     due = kept.due;
-    written-size = kept.written-size;
+    written_size = kept.written_size;
     waits = kept.waits;
-    wrote-awake = kept.wrote-awake;
-    wrote-free = λ x d e. free x (kept.wrote-awake x d e) (kept.wrote-free x d e);
-    done-free = λ x e. free x (λ q. omega arith) (kept.done-free x e);
-    done-wrote = kept.done-wrote;
+    wrote_awake = kept.wrote_awake;
+    wrote_free = λ x d e. free x (kept.wrote_awake x d e) (kept.wrote_free x d e);
+    done_free = λ x e. free x (λ q. omega arith) (kept.done_free x e);
+    done_wrote = kept.done_wrote;
     below = kept.below;
   }
     where
-      free : (x : ℕ) → state_of r x ≢ idle → Free r x → Free (withTimes r clock times) x
-      free x f (waits-none z) = waits-none z
-      free x f (time-come h) = time-come (come x f h)
+      free : (x : ℕ) → state_of r x ≢ idle → Free r x → Free (with_times r clock times) x
+      free x f (waits_none z) = waits_none z
+      free x f (time_come h) = time_come (come x f h)
 
-  clock-kept : Kept first (withClock r (r.clock + 1))
-  clock-kept = times-kept (r.clock + 1) r.learn_times (λ x f h. omega arith)
+  clock_kept : Kept first (with_clock r (r.clock + 1))
+  clock_kept = times_kept (r.clock + 1) r.learn_times (λ x f h. omega arith)
 
   -- a, which is idle, notes the clock
-  noted-kept : (a : ℕ) → state_of r a ≡ idle → Kept first (withTimes r r.clock (set r.learn_times a r.clock))
-  noted-kept a i = times-kept r.clock (set r.learn_times a r.clock) (λ x f h. as_before x f h)
+  noted_kept : (a : ℕ) → state_of r a ≡ idle → Kept first (with_times r r.clock (set r.learn_times a r.clock))
+  noted_kept a i = times_kept r.clock (set r.learn_times a r.clock) (λ x f h. as_before x f h)
     where
       as_before :
-          (x : ℕ) → state_of r x ≢ idle → dueTime r x ≤ r.clock
+          (x : ℕ) → state_of r x ≢ idle → due_time r x ≤ r.clock
           → get_or (set r.learn_times a r.clock) x 0 + r.hold_time + rank_of r x * r.step_time ≤ r.clock
       as_before x f h =
           rw (get_or-set_other r.learn_times a x r.clock 0 (λ p. f (ap (state_of r) p ∙ i))) h
 
 -- a member of s is one of s without a, or it is a
-removed-cases : (w s a k : ℕ) → k < w → bit s k ≡ true → (bit (removed w s a) k ≡ true) ⊎ (k ≡ a)
-removed-cases w s a k h e = elim (ℕ_discrete k a) [
+removed_cases : (w s a k : ℕ) → k < w → bit s k ≡ true → (bit (removed w s a) k ≡ true) ⊎ (k ≡ a)
+removed_cases w s a k h e = elim (ℕ_discrete k a) [
   | yes q ↦ inr q
-  | no f ↦ inl (bit-removed w s a k h ∙ rw (e, ne_eqb k a f))
+  | no f ↦ inl (bit_removed w s a k h ∙ rw (e, ne_eqb k a f))
 ]
 
-move-kept :
+move_kept :
     {first r : Record} {kind a b : ℕ} {o : Outcome}
     → Kept first r
     → Move r kind a b o
     → Kept first o.next
-move-kept {first} kept (stays e f) = subst (Kept first) (sym e) kept
-move-kept {a} kept (learned k at e) =
+move_kept {first} kept (stays e f) = subst (Kept first) (sym e) kept
+move_kept {a} kept (learned k at e) =
     rw e
-    (state-kept (noted-kept kept a at.state) a holding (λ q. omega (arith, at.state)) (λ q. omega arith)
+    (state_kept (noted_kept kept a at.state) a holding (λ q. omega (arith, at.state)) (λ q. omega arith)
     (λ q. absurd (omega arith)))
-move-kept {a} kept (released k at held e) =
-    rw e (state-kept kept a ongoing (λ q. omega (arith, at.state)) (λ q. omega arith) (λ q. absurd (omega arith)))
-move-kept {first} {r} {a} {b} kept (wrote k at t e) =
+move_kept {a} kept (released k at held e) =
+    rw e (state_kept kept a ongoing (λ q. omega (arith, at.state)) (λ q. omega arith) (λ q. absurd (omega arith)))
+move_kept {first} {r} {a} {b} kept (wrote k at t e) =
     let most : first.n ≤ width = omega (arith, kept.count, at.most) in
     let inside : b < first.n = omega (arith, kept.count, t.inside) in
-    let l = added-below width first.n (written_of r a) b most (kept.below a) inside in
-    rw e (written-kept kept a (added width (written_of r a) b) t.free at.state l)
-move-kept {a} kept (finished k at t e) =
-    rw e (state-kept kept a done (λ q. omega (arith, at.state)) (λ q. omega arith) (λ q. t))
-move-kept {r} {a} {b} kept (delivered k at t e) =
-    rw e (waiting_kept kept b (removed width (waitingOf r b) a) (member-some (waitingOf r b) a t.waits)
-    (λ w h u. ⊎_elim inl (λ q. inr (ap (state_of r) q ∙ at.state)) (removed-cases width (waitingOf r b) a w h u)))
-move-kept kept (ticked k on e) = rw e (clock-kept kept)
+    let l = added_below width first.n (written_of r a) b most (kept.below a) inside in
+    rw e (written_kept kept a (added width (written_of r a) b) t.free at.state l)
+move_kept {a} kept (finished k at t e) =
+    rw e (state_kept kept a done (λ q. omega (arith, at.state)) (λ q. omega arith) (λ q. t))
+move_kept {r} {a} {b} kept (delivered k at t e) =
+    rw e (waiting_kept kept b (removed width (waiting_of r b) a) (member_some (waiting_of r b) a t.waits)
+    (λ w h u. ⊎_elim inl (λ q. inr (ap (state_of r) q ∙ at.state)) (removed_cases width (waiting_of r b) a w h u)))
+move_kept kept (ticked k on e) = rw e (clock_kept kept)
 
 -- ---- a list of calls
-calls-kept : {first r : Record} (calls : List Call) → Kept first r → Kept first (run r calls)
+calls_kept : {first r : Record} (calls : List Call) → Kept first r → Kept first (run r calls)
 unfolding run
-calls-kept [] kept = kept
-calls-kept {r} (c ∷ cs) kept = calls-kept cs (move-kept kept (moves r c.kind c.a c.b))
+calls_kept [] kept = kept
+calls_kept {r} (c ∷ cs) kept = calls_kept cs (move_kept kept (moves r c.kind c.a c.b))
 
-pub run-kept : (first : Record) (calls : List Call) → Start first → Kept first (run first calls)
-run-kept first calls s = calls-kept calls (start-kept first s)
+pub run_kept : (first : Record) (calls : List Call) → Start first → Kept first (run first calls)
+run_kept first calls s = calls_kept calls (start_kept first s)
 
 -- ---- the written sets, destination by destination
 eqb_swap : (x y : ℕ) → eqb x y ≡ eqb y x
@@ -255,59 +255,59 @@ module _
     (size : length r.written ≡ width) (x d : ℕ) (h : d < width)
   where
     -- such a write adds d to the written set of x, and no other call does
-    move-written : Move r kind a b o
-        → bit (written_of o.next x) d ≡ (bit (written_of r x) d || isWrite (call kind a b) o x d)
-    move-written (stays e f) =
-        rw (e, f, and-false (eqb kind writeKind && (eqb a x && eqb b d)) false refl)
-        (sym (or-none (bit (written_of r x) d)))
-    move-written (learned k at e) = rw (k, e) (sym (or-none (bit (written_of r x) d)))
-    move-written (released k at held e) = rw (k, e) (sym (or-none (bit (written_of r x) d)))
-    move-written (wrote k at t e) = rw (k, e) (by-writer (ℕ_discrete x a))
+    move_written : Move r kind a b o
+        → bit (written_of o.next x) d ≡ (bit (written_of r x) d || is_write (call kind a b) o x d)
+    move_written (stays e f) =
+        rw (e, f, and_false (eqb kind write_kind && (eqb a x && eqb b d)) false refl)
+        (sym (or_none (bit (written_of r x) d)))
+    move_written (learned k at e) = rw (k, e) (sym (or_none (bit (written_of r x) d)))
+    move_written (released k at held e) = rw (k, e) (sym (or_none (bit (written_of r x) d)))
+    move_written (wrote k at t e) = rw (k, e) (by_writer (ℕ_discrete x a))
       where
-        by-writer : Dec (x ≡ a)
+        by_writer : Dec (x ≡ a)
             → bit (get_or (set r.written a (added width (written_of r a) b)) x 0) d
             ≡ (bit (written_of r x) d || ((eqb a x && eqb b d) && true))
-        by-writer (yes q) =
+        by_writer (yes q) =
             let new = added width (written_of r a) b in
             let inside : a < length r.written = omega (arith, at.most, at.inside) in
             rw q
             (ap (λ (s : ℕ). bit s d) (get_or-set_same r.written a new 0 inside)
             ∙ bit_added width (written_of r a) b d h ∙ rw (eq-eqb a a refl, eqb_swap d b, and_one))
-        by-writer (no f) =
+        by_writer (no f) =
             ap (λ (s : ℕ). bit s d) (get_or-set_other r.written a x (added width (written_of r a) b) 0 f)
-            ∙ rw (ne_eqb a x (λ q. f (sym q))) (sym (or-none (bit (written_of r x) d)))
-    move-written (finished k at t e) = rw (k, e) (sym (or-none (bit (written_of r x) d)))
-    move-written (delivered k at t e) = rw (k, e) (sym (or-none (bit (written_of r x) d)))
-    move-written (ticked k on e) = rw (k, e) (sym (or-none (bit (written_of r x) d)))
+            ∙ rw (ne_eqb a x (λ q. f (sym q))) (sym (or_none (bit (written_of r x) d)))
+    move_written (finished k at t e) = rw (k, e) (sym (or_none (bit (written_of r x) d)))
+    move_written (delivered k at t e) = rw (k, e) (sym (or_none (bit (written_of r x) d)))
+    move_written (ticked k on e) = rw (k, e) (sym (or_none (bit (written_of r x) d)))
 
 module _ {first : Record} (size : length first.written ≡ width) (x d : ℕ) (h : d < width) where
-  calls-written : {r : Record} (calls : List Call)
+  calls_written : {r : Record} (calls : List Call)
       → Kept first r
-      → bit (written_of (run r calls) x) d ≡ (bit (written_of r x) d || hasWritten r calls x d)
-  unfolding run hasWritten
-  calls-written {r} [] kept = sym (or-none (bit (written_of r x) d))
-  calls-written {r} (c ∷ cs) kept =
+      → bit (written_of (run r calls) x) d ≡ (bit (written_of r x) d || has_written r calls x d)
+  unfolding run has_written
+  calls_written {r} [] kept = sym (or_none (bit (written_of r x) d))
+  calls_written {r} (c ∷ cs) kept =
       let m = moves r c.kind c.a c.b in
-      calls-written cs (move-kept kept m)
-      ∙ ap (λ (t : Bool). t || hasWritten (step r c).next cs x d)
-      (move-written (kept.written-size ∙ size) x d h m)
-      ∙ or_assoc (bit (written_of r x) d) (isWrite c (step r c) x d) (hasWritten (step r c).next cs x d)
+      calls_written cs (move_kept kept m)
+      ∙ ap (λ (t : Bool). t || has_written (step r c).next cs x d)
+      (move_written (kept.written_size ∙ size) x d h m)
+      ∙ or_assoc (bit (written_of r x) d) (is_write c (step r c) x d) (has_written (step r c).next cs x d)
 
 module _ (first : Record) (calls : List Call) (s : Start first) where
-  pub run-bit : (x d : ℕ) → d < width → bit (written_of (run first calls) x) d ≡ hasWritten first calls x d
-  run-bit x d h = calls-written s.size x d h calls (start-kept first s) ∙ rw (s.written x, bit-zero d)
+  pub run_bit : (x d : ℕ) → d < width → bit (written_of (run first calls) x) d ≡ has_written first calls x d
+  run_bit x d h = calls_written s.size x d h calls (start_kept first s) ∙ rw (s.written x, bit_zero d)
 
-  pub run-written : first.n ≤ width
+  pub run_written : first.n ≤ width
       → (x : ℕ)
-      → written_of (run first calls) x ≡ setOf first.n (hasWritten first calls x)
-  run-written most x =
-      is-setOf first.n (written_of (run first calls) x) (hasWritten first calls x)
-      ((run-kept first calls s).below x) (λ d h. run-bit x d (omega arith))
+      → written_of (run first calls) x ≡ set_of first.n (has_written first calls x)
+  run_written most x =
+      is_set_of first.n (written_of (run first calls) x) (has_written first calls x)
+      ((run_kept first calls s).below x) (λ d h. run_bit x d (omega arith))
 
 -- ---- the fresh record
 pub fresh_start : (n h s : ℕ) (m l : List ℕ) → Start (fresh n h s m l)
 fresh_start n h s m l = record {
-  state = fresh-state n h s m l;
-  written = fresh-written n h s m l;
-  size = fresh-size n h s m l;
+  state = fresh_state n h s m l;
+  written = fresh_written n h s m l;
+  size = fresh_size n h s m l;
 }

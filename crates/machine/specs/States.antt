@@ -10,14 +10,14 @@ use Rattle.machine.specs.declared.states.Event.TheVariants.{Learn, Release, Writ
 use Rattle.machine.specs.declared.states.NextState.{NextState}
 use Rattle.machine.specs.declared.states.NextState.TheVariants.{To, Nowhere}
 use Rattle.machine.specs.Machine.{idle, holding, ongoing, done, state_of}
-use Rattle.machine.specs.Machine.{learnKind, releaseKind, writeKind, finishKind}
+use Rattle.machine.specs.Machine.{learn_kind, release_kind, write_kind, finish_kind}
 
 -- the number that a state has in the record
-abbrev pub stateNumber : State → ℕ
-stateNumber Idle = idle
-stateNumber Holding = holding
-stateNumber Ongoing = ongoing
-stateNumber Done = done
+abbrev pub state_number : State → ℕ
+state_number Idle = idle
+state_number Holding = holding
+state_number Ongoing = ongoing
+state_number Done = done
 
 -- the state of a number; one that is none of the four is taken for done, from which no event leads on
 abbrev pub named : (number : ℕ) → State
@@ -25,38 +25,38 @@ named s = pick (eqb s idle) Idle (pick (eqb s holding) Holding (pick (eqb s ongo
 
 -- the kind of call by which an event comes
 abbrev pub kind_of : Event → ℕ
-kind_of Learn = learnKind
-kind_of Release = releaseKind
-kind_of Write = writeKind
-kind_of Finish = finishKind
+kind_of Learn = learn_kind
+kind_of Release = release_kind
+kind_of Write = write_kind
+kind_of Finish = finish_kind
 
 -- The next state: a line for each state and event.
-abbrev pub nextState : State → Event → NextState
+abbrev pub next_state : State → Event → NextState
 -- 8.1, OFIB_STABLE: a link-state packet describes the change, and the hold-down begins
-nextState Idle Learn = To Holding
-nextState Idle Release = Nowhere
-nextState Idle Write = Nowhere
-nextState Idle Finish = Nowhere
+next_state Idle Learn = To Holding
+next_state Idle Release = Nowhere
+next_state Idle Write = Nowhere
+next_state Idle Finish = Nowhere
 -- 8.2 and 8.3, OFIB_HOLDING_DOWN and OFIB_HOLDING_UP: the hold-down timer expires
-nextState Holding Learn = Nowhere
-nextState Holding Release = To Ongoing
-nextState Holding Write = Nowhere
-nextState Holding Finish = Nowhere
+next_state Holding Learn = Nowhere
+next_state Holding Release = To Ongoing
+next_state Holding Write = Nowhere
+next_state Holding Finish = Nowhere
 -- 8.4, OFIB_ONGOING: FIB updates are performed, and after the last one the router is stable again
-nextState Ongoing Learn = Nowhere
-nextState Ongoing Release = Nowhere
-nextState Ongoing Write = To Ongoing
-nextState Ongoing Finish = To Done
+next_state Ongoing Learn = Nowhere
+next_state Ongoing Release = Nowhere
+next_state Ongoing Write = To Ongoing
+next_state Ongoing Finish = To Done
 -- OFIB_STABLE again: the change is over for this router
-nextState Done Learn = Nowhere
-nextState Done Release = Nowhere
-nextState Done Write = Nowhere
-nextState Done Finish = Nowhere
+next_state Done Learn = Nowhere
+next_state Done Release = Nowhere
+next_state Done Write = Nowhere
+next_state Done Finish = Nowhere
 
 -- the next state of router a of the record r
 abbrev pub next_of : (r : Record) (a : ℕ) (event : Event) → NextState
-next_of r a event = nextState (named (state_of r a)) event
+next_of r a event = next_state (named (state_of r a)) event
 
 -- by the event router a goes on to its next state, which it has in the record `next`
 abbrev pub Goes : (r : Record) (a : ℕ) (event : Event) (next : Record) → Type 0
-Goes r a event next = (s : State) × (next_of r a event ≡ To s) × (state_of next a ≡ stateNumber s)
+Goes r a event next = (s : State) × (next_of r a event ≡ To s) × (state_of next a ≡ state_number s)

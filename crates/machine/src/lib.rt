@@ -3,11 +3,11 @@
 // in specs/, in reading order:
 //     Answers      what a call gives: a record and a reply
 //     Machine      Step, for every record and all three bytes: `step_of`
-//     States       the next state, a line for each state and event: `nextState`
-//     Run          lists of calls, and what a router has written by them: `run`, `replies`, `hasWritten`
+//     States       the next state, a line for each state and event: `next_state`
+//     Run          lists of calls, and what a router has written by them: `run`, `replies`, `has_written`
 //     Timely       what is supposed of a list of calls that holds ticks: `Timely`
 //     StepLaws     a law for each way that a call can end; the proofs of the crate steps cite them
-//     StateLaws    Step goes by `nextState`; the proofs of the crate steps cite these too
+//     StateLaws    Step goes by `next_state`; the proofs of the crate steps cite these too
 //     MoveLaws     the ways in which a call changes the record: `Move`
 //     CallLaws     bytes and the calls that they stand for
 //     RunLaws      what every list of calls keeps: `Kept`; crate loop_free builds on it

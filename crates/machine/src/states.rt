@@ -1,7 +1,7 @@
 // The states of a router by name, and each event as a case, as in section 8 of the draft. Which state comes next is
 // specs/States.antt.
 ghost use Rattle.std.specs.Prelude.{◌≡◌};
-ghost use Rattle.machine.specs.States.{stateNumber, named, nextState};
+ghost use Rattle.machine.specs.States.{state_number, named, next_state};
 
 use crate::{DONE, HOLDING, IDLE, ONGOING};
 
@@ -40,7 +40,7 @@ pub enum NextState {
 impl State {
     // The record's number for it.
     pub fn number(self) -> u8
-        ensures number { result ≡ stateNumber self }
+        ensures number { result ≡ state_number self }
     {
         match self {
             State::Idle => IDLE,
@@ -52,7 +52,7 @@ impl State {
 
     // The state after an event.
     pub fn after(self, event: Event) -> NextState
-        ensures next { result ≡ nextState self event }
+        ensures next { result ≡ next_state self event }
     {
         match self {
             State::Idle => match event {

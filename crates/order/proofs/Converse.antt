@@ -3,18 +3,18 @@ use Prim.Native.Nat.{ℕ, ◌≤◌, ◌<◌}
 use mathlib.Core.Path.{◌≡◌, ap, ◌∙◌}
 use mathlib.Core.List.{List}
 use lib.ListN.{get_or}
-use Rattle.area.specs.Tables.{perRouter}
-use Rattle.area.specs.PerRouterLaws.{per-at}
+use Rattle.area.specs.Tables.{per_router}
+use Rattle.area.specs.PerRouterLaws.{per_at}
 use Rattle.ranks.specs.Rank.{rank}
-use Rattle.order.specs.Order.{tellingBy}
-use Rattle.order.specs.OrderLaws.{telling-same, ranks-same}
+use Rattle.order.specs.Order.{telling_by}
+use Rattle.order.specs.OrderLaws.{telling_same, ranks_same}
 
-module _ (w n : ℕ) (f : ℕ → ℕ) (t : List ℕ) (most : n ≤ w) (e : t ≡ perRouter w n f) where
+module _ (w n : ℕ) (f : ℕ → ℕ) (t : List ℕ) (most : n ≤ w) (e : t ≡ per_router w n f) where
   entry_of : (s : ℕ) → s < n → get_or t s 0 ≡ f s
-  entry_of s h = ap (λ (x : List ℕ). get_or x s 0) e ∙ per-at w n f s h most
+  entry_of s h = ap (λ (x : List ℕ). get_or x s 0) e ∙ per_at w n f s h most
 
-  pub converse-of : perRouter w n (tellingBy n (λ s. get_or t s 0)) ≡ perRouter w n (tellingBy n f)
-  converse-of = telling-same w n (λ s. get_or t s 0) f most entry_of
+  pub converse_of : per_router w n (telling_by n (λ s. get_or t s 0)) ≡ per_router w n (telling_by n f)
+  converse_of = telling_same w n (λ s. get_or t s 0) f most entry_of
 
-  pub ranks-of : perRouter w n (rank n (λ s. get_or t s 0)) ≡ perRouter w n (rank n f)
-  ranks-of = ranks-same w n (λ s. get_or t s 0) f most entry_of
+  pub ranks_of_lem : per_router w n (rank n (λ s. get_or t s 0)) ≡ per_router w n (rank n f)
+  ranks_of_lem = ranks_same w n (λ s. get_or t s 0) f most entry_of

@@ -1,6 +1,6 @@
 -- The converse of a table of sets, made by entering router s at each member of its set, for one s after another.
 --     Entered          s was entered at every member below n of its set
---     Entering, entering-start, entering-next, entering-skip, entering-end     the loop over the members
+--     Entering, entering_start, entering_next, entering_skip, entering_end     the loop over the members
 --     Held, held_none, held_more, held_all     the loop over the routers; then the table is the converse
 use Rattle.std.specs.Prelude.{ℕ, ◌+◌, ◌^◌, ◌≤◌, ◌<◌, ◌≡◌, refl, Bool, true, false, ◌||◌, ◌≢◌, ◌⊎◌, List, eqb, length, get_or, set, replicate}
 use Rattle.std.proofs.Common.{sym, ap, ◌∙◌, inl, inr, ⊎_elim, arith, length-set, get_or-set_same, get_or-set_other}
@@ -9,13 +9,13 @@ use Rattle.std.proofs.Math.Decide.{ℕ_discrete}
 use Rattle.std.proofs.lemmas.List.{length-replicate}
 use Rattle.area.specs.Tests.{lowest}
 use Rattle.area.specs.TestLaws.{look}
-use Rattle.area.specs.Tables.{perRouter}
-use Rattle.area.specs.PerRouterLaws.{is-per, zeros-at}
-use Rattle.sets.specs.Sets.{bit, setOf, added}
-use Rattle.sets.specs.SetLaws.{setOf-same, setOf-start, setOf-skip, setOf-more, bit_added}
+use Rattle.area.specs.Tables.{per_router}
+use Rattle.area.specs.PerRouterLaws.{is_per, zeros_at}
+use Rattle.sets.specs.Sets.{bit, set_of, added}
+use Rattle.sets.specs.SetLaws.{set_of_same, set_of_start, set_of_skip, set_of_more, bit_added}
 use Rattle.sets.specs.Four.{beyond}
-use Rattle.sets.specs.VisitLaws.{Visited, visit-start, visit-more, visit-next, visit-end, visit-member}
-use Rattle.order.specs.Order.{tellingBy}
+use Rattle.sets.specs.VisitLaws.{Visited, visit_start, visit_more, visit_next, visit_end, visit_member}
+use Rattle.order.specs.Order.{telling_by}
 
 -- ---- one router
 -- x is the set of router s. At each member of x below n the table t has s beside what `was` had there.
@@ -37,7 +37,7 @@ pub record Entering (w n x s left : ℕ) (was t : List ℕ) : Type 0 where
 added_twice : (w s k : ℕ) → added w (added w s k) k ≡ added w s k
 unfolding added
 added_twice w s k =
-    setOf-same w (λ i. bit (added w s k) i || eqb i k) (λ i. bit s i || eqb i k)
+    set_of_same w (λ i. bit (added w s k) i || eqb i k) (λ i. bit s i || eqb i k)
     (λ i h. ap (λ (b : Bool). b || eqb i k) (bit_added w s k i h) ∙ twice (bit s i) (eqb i k))
   where
     twice : (a b : Bool) → ((a || b) || b) ≡ (a || b)
@@ -46,30 +46,30 @@ added_twice w s k =
     twice false false = refl
 
 module _ (w n x s : ℕ) (was : List ℕ) where
-  pub entering-start : x < 2 ^ w → Entering w n x s x was was
-  entering-start h = record { size = refl; held = visit-start w x _ h; either = λ r. inl refl }
+  pub entering_start : x < 2 ^ w → Entering w n x s x was was
+  entering_start h = record { size = refl; held = visit_start w x _ h; either = λ r. inl refl }
 
-  pub entering-end : {left : ℕ} {t : List ℕ} → Entering w n x s left was t → left ≡ 0 → Entered w n x s was t
-  entering-end i z = record {
+  pub entering_end : {left : ℕ} {t : List ℕ} → Entering w n x s left was t → left ≡ 0 → Entered w n x s was t
+  entering_end i z = record {
     size = i.size;
-    held = λ r l e. visit-end i.held z r e l;
+    held = λ r l e. visit_end i.held z r e l;
     kept = λ r f. ⊎_elim (λ e. e) (λ p. absurd (f (p.0, p.1))) (i.either r);
   }
 
   module _
       {left : ℕ} {t : List ℕ} (q r : ℕ) (i : Entering w n x s left was t)
       (some : left ≢ 0) (is : q ≡ lowest w (bit left)) (e : r ≡ beyond w 1 left) where
-    pub entering-skip : n ≤ q → Entering w n x s r was t
-    entering-skip h = record {
+    pub entering_skip : n ≤ q → Entering w n x s r was t
+    entering_skip h = record {
       size = i.size;
-      held = visit-next _ q r i.held some is e (λ k p. p) (λ l. absurd (omega arith));
+      held = visit_next _ q r i.held some is e (λ k p. p) (λ l. absurd (omega arith));
       either = i.either;
     }
 
-    pub entering-next :
+    pub entering_next :
         (v : ℕ) → n ≤ length was → q < n → v ≡ added w (get_or t q 0) s → Entering w n x s r was (set t q v)
-    entering-next v room h a =
-        let inside = i.held.part q (visit-member w left q i.held.fits some is).1 in
+    entering_next v room h a =
+        let inside = i.held.part q (visit_member w left q i.held.fits some is).1 in
         let v-is : v ≡ added w (get_or was q 0) s =
         a ∙ ⊎_elim
         (λ p. ap (λ (y : ℕ). added w y s) p)
@@ -79,7 +79,7 @@ module _ (w n x s : ℕ) (was : List ℕ) where
         get_or-set_same t q v 0 (omega (arith, i.size)) ∙ v-is in
         record {
           size = simp length-set i.size;
-          held = visit-more _ q r i.held some is e
+          held = visit_more _ q r i.held some is e
               (λ k f p l. get_or-set_other t q k v 0 f ∙ p l) (λ l. here);
           either = λ k. elim (ℕ_discrete k q) [
             | yes p ↦ inr (rw p h, rw p inside, rw p here)
@@ -91,15 +91,15 @@ module _ (w n x s : ℕ) (was : List ℕ) where
 -- f k is the set of router k. The entry of r in t has the routers before s whose set r is in; it is 0 from n on.
 pub record Held (w n s : ℕ) (f : ℕ → ℕ) (t : List ℕ) : Type 0 where
   pub size : length t ≡ w
-  pub held : (r : ℕ) → r < n → get_or t r 0 ≡ setOf s (λ k. bit (f k) r)
+  pub held : (r : ℕ) → r < n → get_or t r 0 ≡ set_of s (λ k. bit (f k) r)
   pub rest : (r : ℕ) → n ≤ r → get_or t r 0 ≡ 0
 
 module _ (w n : ℕ) (f : ℕ → ℕ) where
   pub held_none : Held w n 0 f (replicate w 0)
   held_none = record {
     size = length-replicate w 0;
-    held = λ r l. zeros-at w r ∙ setOf-start (λ k. bit (f k) r);
-    rest = λ r l. zeros-at w r;
+    held = λ r l. zeros_at w r ∙ set_of_start (λ k. bit (f k) r);
+    rest = λ r l. zeros_at w r;
   }
 
   pub held_more :
@@ -109,11 +109,11 @@ module _ (w n : ℕ) (f : ℕ → ℕ) where
     held = λ r l.
         let p : ℕ → Bool = λ k. bit (f k) r in
         ⊎_elim
-        (λ b. e.held r l b ∙ ap (λ (y : ℕ). added w y s) (i.held r l) ∙ setOf-more w s p h b)
-        (λ b. e.kept r (λ u. false≢true (sym b ∙ u.1)) ∙ i.held r l ∙ setOf-skip s p b)
+        (λ b. e.held r l b ∙ ap (λ (y : ℕ). added w y s) (i.held r l) ∙ set_of_more w s p h b)
+        (λ b. e.kept r (λ u. false≢true (sym b ∙ u.1)) ∙ i.held r l ∙ set_of_skip s p b)
         (look (p s));
     rest = λ r l. e.kept r (λ u. let z : ⊥ = omega (arith, u.0) in z) ∙ i.rest r l;
   }
 
-  pub held_all : (t : List ℕ) → Held w n n f t → t ≡ perRouter w n (tellingBy n f)
-  held_all t i = is-per w n (tellingBy n f) t i.size (λ r a b. i.held r b) (λ r a b. i.rest r b)
+  pub held_all : (t : List ℕ) → Held w n n f t → t ≡ per_router w n (telling_by n f)
+  held_all t i = is_per w n (telling_by n f) t i.size (λ r a b. i.held r b) (λ r a b. i.rest r b)

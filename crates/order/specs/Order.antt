@@ -4,32 +4,32 @@
 use Rattle.std.specs.Prelude.{ℕ, Bool, not, ◌&&◌, List, ltb, leb, eqb, replicate}
 use Rattle.area.specs.Limits.{width}
 use Rattle.area.specs.Tests.{pick}
-use Rattle.area.specs.Sizes.{isTable}
-use Rattle.area.specs.Tables.{cell, perRouter}
-use Rattle.sets.specs.Sets.{bit, setOf}
+use Rattle.area.specs.Sizes.{is_table}
+use Rattle.area.specs.Tables.{cell, per_router}
+use Rattle.sets.specs.Sets.{bit, set_of}
 use Rattle.ranks.specs.Rank.{rank}
 use Rattle.order.specs.declared.Order.{Order}
 
 -- The routers that r waits for. In a rise: those whose old next hops to the root hold r. In a fall: its own new next
 -- hops to the root.
-abbrev pub waitingBy : (n c : ℕ) (rising : Bool) (o p : ℕ → ℕ → ℕ) (r : ℕ) → ℕ
-waitingBy n c rising o p r = pick rising (setOf n (λ s. bit (o s c) r)) (p r c)
+abbrev pub waiting_by : (n c : ℕ) (rising : Bool) (o p : ℕ → ℕ → ℕ) (r : ℕ) → ℕ
+waiting_by n c rising o p r = pick rising (set_of n (λ s. bit (o s c) r)) (p r c)
 
 -- The routers that r tells: those that wait for it. w s is the set of routers that s waits for.
-abbrev pub tellingBy : (n : ℕ) (w : ℕ → ℕ) (r : ℕ) → ℕ
-tellingBy n w r = setOf n (λ s. bit (w s) r)
+abbrev pub telling_by : (n : ℕ) (w : ℕ → ℕ) (r : ℕ) → ℕ
+telling_by n w r = set_of n (λ s. bit (w s) r)
 
 -- the destinations that are due at r: those to which its set changes
-abbrev pub dueBy : (n : ℕ) (o p : ℕ → ℕ → ℕ) (r : ℕ) → ℕ
-dueBy n o p r = setOf n (λ d. not (eqb (o r d) (p r d)))
+abbrev pub due_by : (n : ℕ) (o p : ℕ → ℕ → ℕ) (r : ℕ) → ℕ
+due_by n o p r = set_of n (λ d. not (eqb (o r d) (p r d)))
 
 -- The order by the tables of the full sets, as the struct of src/lib.rt: each array is a list.
 unfoldable pub ordered : (n c : ℕ) (rising : Bool) (old new : List ℕ) → Order
 ordered n c rising old new =
     record {
-      waiting = perRouter width n (waitingBy n c rising (cell width old) (cell width new));
-      telling = perRouter width n (tellingBy n (waitingBy n c rising (cell width old) (cell width new)));
-      ranks = perRouter width n (rank n (waitingBy n c rising (cell width old) (cell width new)));
+      waiting = per_router width n (waiting_by n c rising (cell width old) (cell width new));
+      telling = per_router width n (telling_by n (waiting_by n c rising (cell width old) (cell width new)));
+      ranks = per_router width n (rank n (waiting_by n c rising (cell width old) (cell width new)));
     }
 
 -- 0 for every router
@@ -41,15 +41,15 @@ no_order = record {
 }
 
 -- The tables can be read for every router and the root: these are below the width, and both tables have their size.
-unfoldable pub isOrderable : (n c : ℕ) (old new : List ℕ) → Bool
-isOrderable n c old new = leb n width && (ltb c width && (isTable old && isTable new))
+unfoldable pub is_orderable : (n c : ℕ) (old new : List ℕ) → Bool
+is_orderable n c old new = leb n width && (ltb c width && (is_table old && is_table new))
 
 unfoldable pub order_of : (n c : ℕ) (rising : Bool) (old new : List ℕ) → Order
-order_of n c rising old new = pick (isOrderable n c old new) (ordered n c rising old new) no_order
+order_of n c rising old new = pick (is_orderable n c old new) (ordered n c rising old new) no_order
 
 -- What is due by the tables of the sets of four; 0 for every router where these cannot be read.
-unfoldable pub dueTable : (n : ℕ) (old new : List ℕ) → List ℕ
-dueTable n old new =
-    pick (leb n width && (isTable old && isTable new))
-    (perRouter width n (dueBy n (cell width old) (cell width new)))
+unfoldable pub due_table : (n : ℕ) (old new : List ℕ) → List ℕ
+due_table n old new =
+    pick (leb n width && (is_table old && is_table new))
+    (per_router width n (due_by n (cell width old) (cell width new)))
     (replicate width 0)

@@ -2,8 +2,8 @@
 // topologies.
 ghost use Rattle.std.specs.Prelude.{◌≡◌, ◌≤◌, ◌<◌, ◌*◌, length};
 ghost use Rattle.area.specs.Limits.{width};
-ghost use Rattle.area.specs.Tables.{cell, perRouter};
-ghost use Rattle.order.specs.Order.{dueBy};
+ghost use Rattle.area.specs.Tables.{cell, per_router};
+ghost use Rattle.order.specs.Order.{due_by};
 
 use area::limits::{Set, WIDTH};
 use sets::add;
@@ -11,7 +11,7 @@ use sets::add;
 // The destinations that are due at each router.
 pub(crate) fn due(n: usize, old: &[Set], new: &[Set]) -> [Set; WIDTH]
     requires { (n ≤ width) × (length old.now ≡ width * width) × (length new.now ≡ width * width) }
-    ensures { result ≡ perRouter width n (dueBy n (cell width old.now) (cell width new.now)) }
+    ensures { result ≡ per_router width n (due_by n (cell width old.now) (cell width new.now)) }
 {
     let mut out: [Set; WIDTH] = [0; WIDTH];
     for r in 0..n {
@@ -24,7 +24,7 @@ pub(crate) fn due(n: usize, old: &[Set], new: &[Set]) -> [Set; WIDTH]
 fn changed(n: usize, old: &[Set], new: &[Set], r: usize) -> Set
     requires n_le_width { (n ≤ width) × (r < width) }
     requires len { (length old.now ≡ width * width) × (length new.now ≡ width * width) }
-    ensures { result ≡ dueBy n (cell width old.now) (cell width new.now) r }
+    ensures { result ≡ due_by n (cell width old.now) (cell width new.now) r }
 {
     let mut found: Set = 0;
     for d in 0..n {

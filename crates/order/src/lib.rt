@@ -11,7 +11,7 @@ mod waiting;
 
 ghost use Rattle.std.specs.Prelude.{◌≡◌, ◌≤◌, ◌<◌, ◌*◌, length};
 ghost use Rattle.area.specs.Limits.{width};
-ghost use Rattle.order.specs.Order.{isOrderable, ordered, no_order, order_of, dueTable};
+ghost use Rattle.order.specs.Order.{is_orderable, ordered, no_order, order_of, due_table};
 
 use area::limits::{CELLS, Set, WIDTH};
 
@@ -36,7 +36,7 @@ pub fn order_of(n: usize, root: usize, rising: bool, old: &[Set], new: &[Set]) -
 
 // Are there at most WIDTH routers, is the root below WIDTH, and has each table its size?
 fn is_orderable(n: usize, root: usize, old: &[Set], new: &[Set]) -> bool
-    ensures { result ≡ isOrderable n root old.now new.now }
+    ensures { result ≡ is_orderable n root old.now new.now }
 {
     if WIDTH < n {
         return false;
@@ -80,7 +80,7 @@ fn ordered(n: usize, root: usize, rising: bool, old: &[Set], new: &[Set]) -> Ord
 // The destinations that are due at each router: `old` and `new` are the sets of four of the two topologies. All is 0
 // where n is above WIDTH, or a table has not its size.
 pub fn due_table(n: usize, old: &[Set], new: &[Set]) -> [Set; WIDTH]
-    ensures due { result ≡ dueTable n old.now new.now }
+    ensures due { result ≡ due_table n old.now new.now }
 {
     if WIDTH < n {
         return [0; WIDTH];

@@ -1,8 +1,8 @@
 // Who waits for whom, and for each router those whose set it is in. A table per router has WIDTH entries, 0 from n on.
 ghost use Rattle.std.specs.Prelude.{◌≡◌, ◌≤◌, ◌<◌, ◌*◌, length, get_or};
 ghost use Rattle.area.specs.Limits.{width};
-ghost use Rattle.area.specs.Tables.{cell, perRouter};
-ghost use Rattle.order.specs.Order.{waitingBy, tellingBy};
+ghost use Rattle.area.specs.Tables.{cell, per_router};
+ghost use Rattle.order.specs.Order.{waiting_by, telling_by};
 ghost use Rattle.order.specs.EnteringLaws.{Entered};
 
 use area::limits::{Set, WIDTH};
@@ -13,8 +13,8 @@ use sets::{add, lowest, rest};
 pub(crate) fn waiting(n: usize, root: usize, rising: bool, old: &[Set], new: &[Set]) -> [Set; WIDTH]
     requires n_le_width { (n ≤ width) × (root < width) }
     requires len { (length old.now ≡ width * width) × (length new.now ≡ width * width) }
-    ensures { result ≡ perRouter width n
-        (waitingBy n root rising (cell width old.now) (cell width new.now)) }
+    ensures { result ≡ per_router width n
+        (waiting_by n root rising (cell width old.now) (cell width new.now)) }
 {
     if rising {
         converse(n, &toward(n, root, old))
@@ -26,7 +26,7 @@ pub(crate) fn waiting(n: usize, root: usize, rising: bool, old: &[Set], new: &[S
 // Each router's next hops to the root.
 fn toward(n: usize, root: usize, hops: &[Set]) -> [Set; WIDTH]
     requires { (n ≤ width) × (root < width) × (length hops.now ≡ width * width) }
-    ensures { result ≡ perRouter width n (λ r. cell width hops.now r root) }
+    ensures { result ≡ per_router width n (λ r. cell width hops.now r root) }
 {
     let mut out: [Set; WIDTH] = [0; WIDTH];
     for r in 0..n {
@@ -38,7 +38,7 @@ fn toward(n: usize, root: usize, hops: &[Set]) -> [Set; WIDTH]
 // For each router, those whose set it is a member of.
 pub(crate) fn converse(n: usize, sets: &[Set; WIDTH]) -> [Set; WIDTH]
     requires { n ≤ width }
-    ensures { result ≡ perRouter width n (tellingBy n (λ s. get_or sets.now s 0)) }
+    ensures { result ≡ per_router width n (telling_by n (λ s. get_or sets.now s 0)) }
 {
     let mut out: [Set; WIDTH] = [0; WIDTH];
     for s in 0..n {

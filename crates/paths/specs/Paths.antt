@@ -4,23 +4,23 @@
 use Rattle.std.specs.Prelude.{ℕ, Bool, not, ◌&&◌, ◌||◌, List, leb, eqb}
 use Rattle.std.specs.Borrow.{Bor}
 use Rattle.area.specs.Limits.{width, unused}
-use Rattle.area.specs.Refusals.{routerCount, badMetric, tableSize}
+use Rattle.area.specs.Refusals.{router_count, bad_metric, table_size}
 use Rattle.area.specs.Tests.{pick, all}
-use Rattle.area.specs.Sizes.{isRouterCount, isTable}
+use Rattle.area.specs.Sizes.{is_router_count, is_table}
 use Rattle.area.specs.Tables.{cell, tabulate}
-use Rattle.topology.specs.Cells.{distanceCell, hopCell, fourCell}
+use Rattle.topology.specs.Cells.{distance_cell, hop_cell, four_cell}
 
 -- The metric of (i, j) is 1 to `unused`.
-unfoldable pub isMetric : (m : List ℕ) (i j : ℕ) → Bool
-isMetric m i j = leb 1 (cell width m i j) && leb (cell width m i j) unused
+unfoldable pub is_metric : (m : List ℕ) (i j : ℕ) → Bool
+is_metric m i j = leb 1 (cell width m i j) && leb (cell width m i j) unused
 
 -- Every link from router i has such a metric. The diagonal, and what lies beyond n, is not looked at.
-abbrev pub areMetricsFrom : (n : ℕ) (m : List ℕ) (i : ℕ) → Bool
-areMetricsFrom n m i = all n (λ j. eqb j i || isMetric m i j)
+abbrev pub are_metrics_from : (n : ℕ) (m : List ℕ) (i : ℕ) → Bool
+are_metrics_from n m i = all n (λ j. eqb j i || is_metric m i j)
 
 -- Every ordered pair of different routers has such a metric.
-unfoldable pub areMetrics : (n : ℕ) (m : List ℕ) → Bool
-areMetrics n m = all n (λ i. areMetricsFrom n m i)
+unfoldable pub are_metrics : (n : ℕ) (m : List ℕ) → Bool
+are_metrics n m = all n (λ i. are_metrics_from n m i)
 
 -- The tables of one topology: its distances, its next-hop sets, and of each of these the set of four (02, No. 9).
 pub record PathTables : Type 0 where
@@ -29,33 +29,33 @@ pub record PathTables : Type 0 where
   pub fours : List ℕ
 
 -- what three lent slices hold: `RefT` is a slice that is lent, and `now` the list of its numbers
-abbrev pub pathsIn : (distances hops fours : Bor (List ℕ)) → PathTables
-pathsIn d h f = record { distances = d.now; hops = h.now; fours = f.now }
+abbrev pub paths_in : (distances hops fours : Bor (List ℕ)) → PathTables
+paths_in d h f = record { distances = d.now; hops = h.now; fours = f.now }
 
 -- each of the three has the size of a table
-unfoldable pub arePaths : (t : PathTables) → Bool
-arePaths t = isTable t.distances && (isTable t.hops && isTable t.fours)
+unfoldable pub are_paths : (t : PathTables) → Bool
+are_paths t = is_table t.distances && (is_table t.hops && is_table t.fours)
 
 -- The number of the first refusal that applies, in the order 3, 8, 6; 0 where the input is accepted.
-unfoldable pub pathsRefusal : (n : ℕ) (m : List ℕ) (t : PathTables) → ℕ
-pathsRefusal n m t =
-    pick (not (isRouterCount n)) routerCount
-    (pick (not (isTable m && arePaths t)) tableSize
-    (pick (not (areMetrics n m)) badMetric
+unfoldable pub paths_refusal : (n : ℕ) (m : List ℕ) (t : PathTables) → ℕ
+paths_refusal n m t =
+    pick (not (is_router_count n)) router_count
+    (pick (not (is_table m && are_paths t)) table_size
+    (pick (not (are_metrics n m)) bad_metric
     0))
 
 -- The tables of a topology with all their cells, those beyond n too.
-unfoldable pub filledPaths : (n : ℕ) (m : List ℕ) → PathTables
-filledPaths n m = record {
-  distances = tabulate width (distanceCell n m);
-  hops = tabulate width (hopCell n m);
-  fours = tabulate width (fourCell n m);
+unfoldable pub filled_paths : (n : ℕ) (m : List ℕ) → PathTables
+filled_paths n m = record {
+  distances = tabulate width (distance_cell n m);
+  hops = tabulate width (hop_cell n m);
+  fours = tabulate width (four_cell n m);
 }
 
 -- The tables when Paths returns: filled where it accepts, and as it was lent them where it refuses.
-unfoldable pub pathsOf : (n : ℕ) (m : List ℕ) (t : PathTables) → PathTables
-pathsOf n m t = pick (eqb (pathsRefusal n m t) 0) (filledPaths n m) t
+unfoldable pub paths_of : (n : ℕ) (m : List ℕ) (t : PathTables) → PathTables
+paths_of n m t = pick (eqb (paths_refusal n m t) 0) (filled_paths n m) t
 
 -- n routers and a metric table for which Paths has no refusal, whatever tables of the right size it is lent.
-unfoldable pub isArea : (n : ℕ) (m : List ℕ) → Bool
-isArea n m = isRouterCount n && (isTable m && areMetrics n m)
+unfoldable pub is_area : (n : ℕ) (m : List ℕ) → Bool
+is_area n m = is_router_count n && (is_table m && are_metrics n m)

@@ -11,11 +11,11 @@ mod metrics;
 
 ghost use Rattle.std.specs.Prelude.{◌≡◌, ◌*◌, ◌≤◌, length, get_or};
 ghost use Rattle.area.specs.Limits.{width};
-ghost use Rattle.area.specs.Refusals.{verdictNumber};
+ghost use Rattle.area.specs.Refusals.{verdict_number};
 ghost use Rattle.area.specs.Tables.{build, tabulate};
 ghost use Rattle.sets.specs.Four.{four};
-ghost use Rattle.paths.specs.Paths.{pathsIn, arePaths, isArea, pathsRefusal, pathsOf};
-ghost use Rattle.topology.specs.Cells.{distanceCell, hopCell};
+ghost use Rattle.paths.specs.Paths.{paths_in, are_paths, is_area, paths_refusal, paths_of};
+ghost use Rattle.topology.specs.Cells.{distance_cell, hop_cell};
 
 use area::limits::{CELLS, Set, WIDTH};
 use area::refusal::{Refusal, Verdict};
@@ -31,10 +31,10 @@ pub fn paths(
     hops: &mut [Set],
     fours: &mut [Set],
 ) -> Verdict
-    ensures answer { let lent = pathsIn dist.entry hops.entry fours.entry in
-        verdictNumber result ≡ pathsRefusal n metric.now lent }
-    ensures tables { let lent = pathsIn dist.entry hops.entry fours.entry in
-        pathsIn dist.exit hops.exit fours.exit ≡ pathsOf n metric.now lent }
+    ensures answer { let lent = paths_in dist.entry hops.entry fours.entry in
+        verdict_number result ≡ paths_refusal n metric.now lent }
+    ensures tables { let lent = paths_in dist.entry hops.entry fours.entry in
+        paths_in dist.exit hops.exit fours.exit ≡ paths_of n metric.now lent }
 {
     if n < 1 {
         return Verdict::Refused(Refusal::RouterCount);
@@ -59,7 +59,7 @@ pub fn paths(
 // Are these n routers with a metric table of the right size and valid metrics? Where they are, Paths refuses no tables
 // of the right size.
 pub fn is_area(n: usize, metric: &[u32]) -> bool
-    ensures answer { result ≡ isArea n metric.now }
+    ensures answer { result ≡ is_area n metric.now }
 {
     if n < 1 {
         return false;
@@ -75,7 +75,7 @@ pub fn is_area(n: usize, metric: &[u32]) -> bool
 
 // Have the tables of one topology the right size?
 pub fn are_paths(dist: &[u32], hops: &[Set], fours: &[Set]) -> bool
-    ensures answer { result ≡ arePaths (pathsIn dist.entry hops.entry fours.entry) }
+    ensures answer { result ≡ are_paths (paths_in dist.entry hops.entry fours.entry) }
 {
     if dist.len() != CELLS {
         return false;
@@ -90,8 +90,8 @@ pub fn are_paths(dist: &[u32], hops: &[Set], fours: &[Set]) -> bool
 fn fill(n: usize, metric: &[u32], dist: &mut [u32], hops: &mut [Set])
     requires n_le_width { (n ≤ width) × (length metric.now ≡ width * width) }
     requires dist_len { (length dist.old ≡ width * width) × (length hops.old ≡ width * width) }
-    ensures dist_after { dist.new ≡ tabulate width (distanceCell n metric.now) }
-    ensures hops_after { hops.new ≡ tabulate width (hopCell n metric.now) }
+    ensures dist_after { dist.new ≡ tabulate width (distance_cell n metric.now) }
+    ensures hops_after { hops.new ≡ tabulate width (hop_cell n metric.now) }
 {
     for i in 0..WIDTH {
         let a = WIDTH * i;

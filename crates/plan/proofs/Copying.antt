@@ -1,5 +1,5 @@
 -- The loops that copy the old metrics, row by row, into a table that was cleared.
---     Copied, copied_none, copied_more, copied-row     the cells of one row, one place after another; then its own cell
+--     Copied, copied_none, copied_more, copied_row     the cells of one row, one place after another; then its own cell
 --     Rows, rows_none, rows_more, rows_all             one row after another; then the table is copied
 use Prim.Native.Nat.{ℕ, ◌+◌, ◌*◌, ◌≤◌, ◌<◌}
 use mathlib.Core.Path.{◌≡◌, refl, sym, ap, ◌∙◌}
@@ -11,9 +11,9 @@ use lib.ListN.{length, get_or, set, length-set}
 use lib.Seq.{get_or-set_same, get_or-set_other}
 use Rattle.area.specs.Limits.{width, unused}
 use Rattle.area.specs.Tables.{build, cell, tabulate}
-use Rattle.area.specs.TableLaws.{length-build, build-at, is-tabulate}
-use Rattle.plan.specs.NewMetrics.{newCell}
-use Rattle.plan.specs.MetricLaws.{cell-own, cell-beyond, pair-copied}
+use Rattle.area.specs.TableLaws.{length_build, build_at, is_tabulate}
+use Rattle.plan.specs.NewMetrics.{new_cell}
+use Rattle.plan.specs.MetricLaws.{cell_own, cell_beyond, pair_copied}
 use Rattle.plan.specs.Parts.{RowCopied}
 
 -- ---- one row
@@ -40,11 +40,11 @@ module _ (a : ℕ) (m was : List ℕ) where
         ∙ i.outside k (⊎_elim inl (λ l. inr (omega arith)) x);
   }
 
-  pub copied-row :
+  pub copied_row :
       (n i : ℕ) (t : List ℕ) → a ≡ width * i → n ≤ width → i < n → length was ≡ width * width
       → Copied a (a + n) m was t
       → RowCopied n m i was (set t (a + i) unused)
-  copied-row n i t e most l size c = record {
+  copied_row n i t e most l size c = record {
     size = simp length-set c.size;
     own = ap (λ (k : ℕ). get_or (set t (a + i) unused) k 0) (omega arith)
         ∙ get_or-set_same t (a + i) unused 0 (omega (arith, c.size));
@@ -62,16 +62,16 @@ module _ (a : ℕ) (m was : List ℕ) where
 -- the rows before r are copied, and the others clear
 pub record Rows (n : ℕ) (m : List ℕ) (r : ℕ) (t : List ℕ) : Type 0 where
   pub size : length t ≡ width * width
-  pub done : (i j : ℕ) → i < r → j < width → cell width t i j ≡ newCell n m [] i j
+  pub done : (i j : ℕ) → i < r → j < width → cell width t i j ≡ new_cell n m [] i j
   pub rest : (i j : ℕ) → r ≤ i → i < width → j < width → cell width t i j ≡ unused
 
 module _ (n : ℕ) (m : List ℕ) (most : n ≤ width) where
   pub rows_none : (was t : List ℕ) → length was ≡ width * width → t ≡ build (length was) (λ _. unused) → Rows n m 0 t
   rows_none was t size e = record {
-    size = ap length e ∙ length-build (length was) (λ _. unused) ∙ size;
+    size = ap length e ∙ length_build (length was) (λ _. unused) ∙ size;
     done = λ i j a b. absurd (omega arith);
     rest = λ i j a b c. ap (λ (x : List ℕ). get_or x (width * i + j) 0) e
-        ∙ build-at (length was) (λ _. unused) (width * i + j) (omega arith);
+        ∙ build_at (length was) (λ _. unused) (width * i + j) (omega arith);
   }
 
   pub rows_more : (r : ℕ) (was t : List ℕ) → r < n → Rows n m r was → RowCopied n m r was t → Rows n m (r + 1) t
@@ -84,18 +84,18 @@ module _ (n : ℕ) (m : List ℕ) (most : n ≤ width) where
     rest = λ h j a b d. c.others h j (λ q. let z : ⊥ = omega arith in z) d ∙ i.rest h j (omega arith) b d;
   }
     where
-      row : (j : ℕ) → j < width → Dec (r ≡ j) → Dec (j < n) → cell width t r j ≡ newCell n m [] r j
-      row j b (yes q) d = rw (← q) (c.own ∙ sym (cell-own n m [] r r refl))
-      row j b (no f) (yes l) = c.row j l (λ q. f (sym q)) ∙ sym (pair-copied n m r j h l f)
+      row : (j : ℕ) → j < width → Dec (r ≡ j) → Dec (j < n) → cell width t r j ≡ new_cell n m [] r j
+      row j b (yes q) d = rw (← q) (c.own ∙ sym (cell_own n m [] r r refl))
+      row j b (no f) (yes l) = c.row j l (λ q. f (sym q)) ∙ sym (pair_copied n m r j h l f)
       row j b (no f) (no g) =
           c.beyond j (omega arith) b
           ∙ i.rest r j (omega arith) (omega arith) b
-          ∙ sym (cell-beyond n m [] r j (inr (omega arith)))
+          ∙ sym (cell_beyond n m [] r j (inr (omega arith)))
 
-  pub rows_all : (t : List ℕ) → Rows n m n t → t ≡ tabulate width (newCell n m [])
+  pub rows_all : (t : List ℕ) → Rows n m n t → t ≡ tabulate width (new_cell n m [])
   rows_all t i =
-      is-tabulate width (newCell n m []) t (omega arith) i.size
+      is_tabulate width (new_cell n m []) t (omega arith) i.size
       (λ h j a b. elim (dec_lt h n) [
         | yes l ↦ i.done h j l b
-        | no f ↦ i.rest h j (omega arith) a b ∙ sym (cell-beyond n m [] h j (inl (omega arith)))
+        | no f ↦ i.rest h j (omega arith) a b ∙ sym (cell_beyond n m [] h j (inl (omega arith)))
       ])

@@ -5,12 +5,12 @@ use Prim.Native.Nat.{ℕ, ◌<◌}
 use mathlib.Core.Path.{◌≡◌, refl, ap, ◌∙◌}
 use mathlib.Core.List.{List}
 use lib.ListN.{get_or}
-use Rattle.entries.specs.EntryLaws.{metric-fits}
-use Rattle.paths.specs.Paths.{PathTables, pathsOf}
-use Rattle.paths.specs.PathsLaws.{SizedPaths, ready-accepted, tables-filled}
-use Rattle.plan.specs.NewMetrics.{newMetrics}
+use Rattle.entries.specs.EntryLaws.{metric_fits}
+use Rattle.paths.specs.Paths.{PathTables, paths_of}
+use Rattle.paths.specs.PathsLaws.{SizedPaths, ready_accepted, tables_filled}
+use Rattle.plan.specs.NewMetrics.{new_metrics}
 use Rattle.plan.specs.Plan.{filled}
-use Rattle.plan.specs.MetricLaws.{new-ready}
+use Rattle.plan.specs.MetricLaws.{new_ready}
 use Rattle.plan.specs.PlanLaws.{Plan}
 
 pub filled_is :
@@ -21,16 +21,16 @@ pub filled_is :
     → SizedPaths old
     → SizedPaths new
     → (metrics : List ℕ) (old-left new-left : PathTables)
-    → metrics ≡ newMetrics n m l
-    → old-left ≡ pathsOf n m old
-    → new-left ≡ pathsOf n metrics new
+    → metrics ≡ new_metrics n m l
+    → old-left ≡ paths_of n m old
+    → new-left ≡ paths_of n metrics new
     → record { metrics = metrics; old = old-left; new = new-left } ≡ filled n m l
 unfolding filled
-filled_is n m l p bytes old new old-size new-size metrics old-left new-left applied a b =
-    let ready = new-ready n m l p.ready (λ e h. (p.sound e h).some) (λ e h. metric-fits l bytes e) in
-    let old-is = a ∙ tables-filled n m old (ready-accepted n m old p.ready old-size) in
+filled_is n m l p bytes old new old-size new_size metrics old-left new-left applied a b =
+    let ready = new_ready n m l p.ready (λ e h. (p.sound e h).some) (λ e h. metric_fits l bytes e) in
+    let old_is = a ∙ tables_filled n m old (ready_accepted n m old p.ready old-size) in
     let New-is =
     b
-    ∙ ap (λ (x : List ℕ). pathsOf n x new) applied
-    ∙ tables-filled n (newMetrics n m l) new (ready-accepted n (newMetrics n m l) new ready new-size) in
-    rw (applied, old-is, New-is) refl
+    ∙ ap (λ (x : List ℕ). paths_of n x new) applied
+    ∙ tables_filled n (new_metrics n m l) new (ready_accepted n (new_metrics n m l) new ready new_size) in
+    rw (applied, old_is, New-is) refl

@@ -5,17 +5,17 @@ use mathlib.Core.Bool.{Bool}
 use mathlib.Core.List.{List}
 use native.Mathlib.Omega.{arith}
 use Rattle.area.specs.declared.refusal.Verdict.{Verdict}
-use Rattle.area.specs.Refusals.{verdictNumber}
+use Rattle.area.specs.Refusals.{verdict_number}
 use Rattle.plan.specs.declared.judging.Judged.{Judged}
-use Rattle.plan.specs.Plan.{changeRefusal}
+use Rattle.plan.specs.Plan.{change_refusal}
 use Rattle.plan.specs.Parts.{Judges}
 
 -- the refusal is not 0, so nothing is promised of root and direction
-pub judged-refused :
+pub judged_refused :
     (n : ℕ) (m l : List ℕ) (sized : Bool) (k : ℕ) (v : Verdict)
-    → changeRefusal n m l sized ≡ suc k
-    → verdictNumber v ≡ suc k
+    → change_refusal n m l sized ≡ suc k
+    → verdict_number v ≡ suc k
     → (r : Judged) → r.answer ≡ v
     → Judges n m l sized r
-judged-refused n m l sized k v e is r given =
-    (ap verdictNumber given ∙ is ∙ sym e, λ z. absurd (let x : ⊥ = omega (arith, e, z) in x))
+judged_refused n m l sized k v e is r given =
+    (ap verdict_number given ∙ is ∙ sym e, λ z. absurd (let x : ⊥ = omega (arith, e, z) in x))

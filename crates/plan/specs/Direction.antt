@@ -3,19 +3,19 @@
 use Rattle.std.specs.Prelude.{ℕ, Bool, List, leb, eqb}
 use Rattle.area.specs.Tests.{all}
 use Rattle.topology.specs.Topology.{topology}
-use Rattle.plan.specs.NewMetrics.{newMetrics}
+use Rattle.plan.specs.NewMetrics.{new_metrics}
 
 -- no usable metric of the table m is larger than that of the table o
-unfoldable pub areAtMost : (n : ℕ) (m o : List ℕ) → Bool
-areAtMost n m o = all n (λ i. all n (λ j. leb (topology n m i j) (topology n o i j)))
+unfoldable pub are_at_most : (n : ℕ) (m o : List ℕ) → Bool
+are_at_most n m o = all n (λ i. all n (λ j. leb (topology n m i j) (topology n o i j)))
 
 -- No usable metric becomes smaller, or none becomes larger: the pairs that keep theirs decide nothing.
-unfoldable pub isRise : (n : ℕ) (m l : List ℕ) → Bool
-isRise n m l = areAtMost n m (newMetrics n m l)
+unfoldable pub is_rise : (n : ℕ) (m l : List ℕ) → Bool
+is_rise n m l = are_at_most n m (new_metrics n m l)
 
-unfoldable pub isFall : (n : ℕ) (m l : List ℕ) → Bool
-isFall n m l = areAtMost n (newMetrics n m l) m
+unfoldable pub is_fall : (n : ℕ) (m l : List ℕ) → Bool
+is_fall n m l = are_at_most n (new_metrics n m l) m
 
 -- every pair keeps its usable metric
-unfoldable pub isSame : (n : ℕ) (m l : List ℕ) → Bool
-isSame n m l = all n (λ i. all n (λ j. eqb (topology n m i j) (topology n (newMetrics n m l) i j)))
+unfoldable pub is_same : (n : ℕ) (m l : List ℕ) → Bool
+is_same n m l = all n (λ i. all n (λ j. eqb (topology n m i j) (topology n (new_metrics n m l) i j)))

@@ -1,8 +1,8 @@
 -- Laws of which way a change goes.
---     at-most-at, at-most-true     the test over all pairs of routers, pair by pair; beyond n nothing is usable
---     rise-at, fall-at     no usable metric becomes smaller in a rise, and none larger in a fall
---     same_at, same-both   every pair keeps its own exactly where none becomes smaller and none larger
---     listed-rise, listed-fall     it is enough to look at the pairs of the changes
+--     at_most_at, at_most_true     the test over all pairs of routers, pair by pair; beyond n nothing is usable
+--     rise_at, fall_at     no usable metric becomes smaller in a rise, and none larger in a fall
+--     same_at, same_both   every pair keeps its own exactly where none becomes smaller and none larger
+--     listed_rise, listed_fall     it is enough to look at the pairs of the changes
 use Rattle.std.specs.Prelude.{ℕ, ◌≤◌, ◌<◌, ◌≡◌, Bool, true, ◌&&◌, List}
 use Rattle.std.proofs.Math.Path.{sym}
 use Rattle.std.proofs.Common.{◌∙◌, arith}
@@ -12,148 +12,148 @@ use borrow.Author.Tests.{leb-true, le-leb, eqb-true, eq-eqb}
 use Rattle.area.specs.Limits.{width, unused}
 use Rattle.area.specs.Tables.{cell}
 use Rattle.area.specs.Tests.{all}
-use Rattle.area.specs.TestLaws.{same_test, both_true, and-true, all-at, all_true}
-use Rattle.entries.specs.Entries.{entryCount, from, to}
+use Rattle.area.specs.TestLaws.{same_test, both_true, and_true, all_at, all_true}
+use Rattle.entries.specs.Entries.{entry_count, from, to}
 use Rattle.topology.specs.Topology.{topology}
-use Rattle.topology.specs.TopologyLaws.{link-back, link-metric, metric-link, no-link, topology-top}
-use Rattle.plan.specs.NewMetrics.{newMetrics}
-use Rattle.plan.specs.Direction.{areAtMost, isSame, isRise, isFall}
+use Rattle.topology.specs.TopologyLaws.{link_back, link_metric, metric_link, no_link, topology_top}
+use Rattle.plan.specs.NewMetrics.{new_metrics}
+use Rattle.plan.specs.Direction.{are_at_most, is_same, is_rise, is_fall}
 use Rattle.plan.specs.MetricLaws.{Pair, listed, reversed, untouched, pair_of}
-use Rattle.plan.specs.Parts.{isAtMost, areListedAtMost}
+use Rattle.plan.specs.Parts.{is_at_most, are_listed_at_most}
 
 module _ (n : ℕ) (m o : List ℕ) where
-  pub at-most-at : areAtMost n m o ≡ true → (i j : ℕ) → topology n m i j ≤ topology n o i j
-  unfolding areAtMost
-  at-most-at h i j = by-routers (dec_lt i n) (dec_lt j n)
+  pub at_most_at : are_at_most n m o ≡ true → (i j : ℕ) → topology n m i j ≤ topology n o i j
+  unfolding are_at_most
+  at_most_at h i j = by_routers (dec_lt i n) (dec_lt j n)
     where
-      by-routers : Dec (i < n) → Dec (j < n) → topology n m i j ≤ topology n o i j
-      by-routers (yes a) (yes b) =
-          let row = all-at n (λ i. all n (λ j. leb (topology n m i j) (topology n o i j))) h i a in
+      by_routers : Dec (i < n) → Dec (j < n) → topology n m i j ≤ topology n o i j
+      by_routers (yes a) (yes b) =
+          let row = all_at n (λ i. all n (λ j. leb (topology n m i j) (topology n o i j))) h i a in
           leb-true (topology n m i j) (topology n o i j)
-          (all-at n (λ j. leb (topology n m i j) (topology n o i j)) row j b)
-      by-routers (no a) b =
-          omega (arith, no-link n o i j (λ l. a l.from), topology-top n m i j)
-      by-routers (yes a) (no b) =
-          omega (arith, no-link n o i j (λ l. b l.to), topology-top n m i j)
+          (all_at n (λ j. leb (topology n m i j) (topology n o i j)) row j b)
+      by_routers (no a) b =
+          omega (arith, no_link n o i j (λ l. a l.from), topology_top n m i j)
+      by_routers (yes a) (no b) =
+          omega (arith, no_link n o i j (λ l. b l.to), topology_top n m i j)
 
-  pub at-most-true : ((i j : ℕ) → topology n m i j ≤ topology n o i j) → areAtMost n m o ≡ true
-  unfolding areAtMost
-  at-most-true each =
+  pub at_most_true : ((i j : ℕ) → topology n m i j ≤ topology n o i j) → are_at_most n m o ≡ true
+  unfolding are_at_most
+  at_most_true each =
       all_true n (λ i. all n (λ j. leb (topology n m i j) (topology n o i j)))
       (λ i a. all_true n (λ j. leb (topology n m i j) (topology n o i j))
       (λ j b. le-leb (topology n m i j) (topology n o i j) (each i j)))
 
 module _ (n : ℕ) (m l : List ℕ) where
-  pub rise-at : isRise n m l ≡ true → (i j : ℕ) → topology n m i j ≤ topology n (newMetrics n m l) i j
-  unfolding isRise
-  rise-at = at-most-at n m (newMetrics n m l)
+  pub rise_at : is_rise n m l ≡ true → (i j : ℕ) → topology n m i j ≤ topology n (new_metrics n m l) i j
+  unfolding is_rise
+  rise_at = at_most_at n m (new_metrics n m l)
 
-  pub fall-at : isFall n m l ≡ true → (i j : ℕ) → topology n (newMetrics n m l) i j ≤ topology n m i j
-  unfolding isFall
-  fall-at = at-most-at n (newMetrics n m l) m
+  pub fall_at : is_fall n m l ≡ true → (i j : ℕ) → topology n (new_metrics n m l) i j ≤ topology n m i j
+  unfolding is_fall
+  fall_at = at_most_at n (new_metrics n m l) m
 
-  pub same_at : isSame n m l ≡ true → (i j : ℕ) → topology n m i j ≡ topology n (newMetrics n m l) i j
-  unfolding isSame
-  same_at h i j = by-routers (dec_lt i n) (dec_lt j n)
+  pub same_at : is_same n m l ≡ true → (i j : ℕ) → topology n m i j ≡ topology n (new_metrics n m l) i j
+  unfolding is_same
+  same_at h i j = by_routers (dec_lt i n) (dec_lt j n)
     where
-      by-routers : Dec (i < n) → Dec (j < n) → topology n m i j ≡ topology n (newMetrics n m l) i j
-      by-routers (yes a) (yes b) =
-          let row = all-at n (λ i. all n (λ j. eqb (topology n m i j) (topology n (newMetrics n m l) i j))) h i a in
-          eqb-true (topology n m i j) (topology n (newMetrics n m l) i j)
-          (all-at n (λ j. eqb (topology n m i j) (topology n (newMetrics n m l) i j)) row j b)
-      by-routers (no a) b =
-          no-link n m i j (λ l. a l.from) ∙ sym (no-link n (newMetrics n m l) i j (λ l. a l.from))
-      by-routers (yes a) (no b) =
-          no-link n m i j (λ l. b l.to) ∙ sym (no-link n (newMetrics n m l) i j (λ l. b l.to))
+      by_routers : Dec (i < n) → Dec (j < n) → topology n m i j ≡ topology n (new_metrics n m l) i j
+      by_routers (yes a) (yes b) =
+          let row = all_at n (λ i. all n (λ j. eqb (topology n m i j) (topology n (new_metrics n m l) i j))) h i a in
+          eqb-true (topology n m i j) (topology n (new_metrics n m l) i j)
+          (all_at n (λ j. eqb (topology n m i j) (topology n (new_metrics n m l) i j)) row j b)
+      by_routers (no a) b =
+          no_link n m i j (λ l. a l.from) ∙ sym (no_link n (new_metrics n m l) i j (λ l. a l.from))
+      by_routers (yes a) (no b) =
+          no_link n m i j (λ l. b l.to) ∙ sym (no_link n (new_metrics n m l) i j (λ l. b l.to))
 
   same_true :
-      ((i j : ℕ) → topology n m i j ≡ topology n (newMetrics n m l) i j)
-      → isSame n m l ≡ true
-  unfolding isSame
+      ((i j : ℕ) → topology n m i j ≡ topology n (new_metrics n m l) i j)
+      → is_same n m l ≡ true
+  unfolding is_same
   same_true each =
-      all_true n (λ i. all n (λ j. eqb (topology n m i j) (topology n (newMetrics n m l) i j)))
-      (λ i a. all_true n (λ j. eqb (topology n m i j) (topology n (newMetrics n m l) i j))
-      (λ j b. eq-eqb (topology n m i j) (topology n (newMetrics n m l) i j) (each i j)))
+      all_true n (λ i. all n (λ j. eqb (topology n m i j) (topology n (new_metrics n m l) i j)))
+      (λ i a. all_true n (λ j. eqb (topology n m i j) (topology n (new_metrics n m l) i j))
+      (λ j b. eq-eqb (topology n m i j) (topology n (new_metrics n m l) i j) (each i j)))
 
-  rise-true :
-      ((i j : ℕ) → topology n m i j ≤ topology n (newMetrics n m l) i j)
-      → isRise n m l ≡ true
-  unfolding isRise
-  rise-true = at-most-true n m (newMetrics n m l)
+  rise_true :
+      ((i j : ℕ) → topology n m i j ≤ topology n (new_metrics n m l) i j)
+      → is_rise n m l ≡ true
+  unfolding is_rise
+  rise_true = at_most_true n m (new_metrics n m l)
 
-  fall-true :
-      ((i j : ℕ) → topology n (newMetrics n m l) i j ≤ topology n m i j)
-      → isFall n m l ≡ true
-  unfolding isFall
-  fall-true = at-most-true n (newMetrics n m l) m
+  fall_true :
+      ((i j : ℕ) → topology n (new_metrics n m l) i j ≤ topology n m i j)
+      → is_fall n m l ≡ true
+  unfolding is_fall
+  fall_true = at_most_true n (new_metrics n m l) m
 
-  pub same-both : isSame n m l ≡ (isRise n m l && isFall n m l)
-  same-both =
-      same_test (isSame n m l) (isRise n m l && isFall n m l)
-      (λ h. and-true (isRise n m l) (isFall n m l)
-      (rise-true (λ i j. omega (arith, same_at h i j)))
-      (fall-true (λ i j. omega (arith, same_at h i j))))
-      (λ h. let b = both_true (isRise n m l) (isFall n m l) h in
-      same_true (λ i j. omega (arith, rise-at b.0 i j, fall-at b.1 i j)))
+  pub same_both : is_same n m l ≡ (is_rise n m l && is_fall n m l)
+  same_both =
+      same_test (is_same n m l) (is_rise n m l && is_fall n m l)
+      (λ h. and_true (is_rise n m l) (is_fall n m l)
+      (rise_true (λ i j. omega (arith, same_at h i j)))
+      (fall_true (λ i j. omega (arith, same_at h i j))))
+      (λ h. let b = both_true (is_rise n m l) (is_fall n m l) h in
+      same_true (λ i j. omega (arith, rise_at b.0 i j, fall_at b.1 i j)))
 
 -- ---- the pairs that are enough to look at
 -- The reverse of a listed pair needs no look: where its own metric stays, its usable one can only come and go, and with
 -- it that of the listed pair.
-reverse-at-most :
+reverse_at_most :
     (n : ℕ) (m o : List ℕ) (i j : ℕ)
     → cell width o i j ≡ cell width m i j
     → topology n m j i ≤ topology n o j i
     → topology n m i j ≤ topology n o i j
-reverse-at-most n m o i j same back = by-use (dec_lt (topology n o i j) unused)
+reverse_at_most n m o i j same back = by_use (dec_lt (topology n o i j) unused)
   where
-    by-use : Dec (topology n o i j < unused) → topology n m i j ≤ topology n o i j
-    by-use (no u) = omega (arith, topology-top n m i j)
-    by-use (yes u) =
-        let in-o = metric-link n o i j u in
-        let back-used : topology n o j i < unused = rw (link-metric (link-back in-o)) in-o.back-used in
-        let in-m = link-back (metric-link n m j i (omega (arith, back, back-used))) in
-        omega (arith, link-metric in-m, link-metric in-o, same)
+    by_use : Dec (topology n o i j < unused) → topology n m i j ≤ topology n o i j
+    by_use (no u) = omega (arith, topology_top n m i j)
+    by_use (yes u) =
+        let in-o = metric_link n o i j u in
+        let back_used : topology n o j i < unused = rw (link_metric (link_back in-o)) in-o.back_used in
+        let in-m = link_back (metric_link n m j i (omega (arith, back, back_used))) in
+        omega (arith, link_metric in-m, link_metric in-o, same)
 
 -- two tables that compare as those of a list do, wherever they do so at the listed pairs
-listed-at-most :
+listed_at_most :
     (n : ℕ) (m o l : List ℕ)
-    → (((e : ℕ) → e < entryCount l → isAtMost n m o (from l e) (to l e) ≡ true)
+    → (((e : ℕ) → e < entry_count l → is_at_most n m o (from l e) (to l e) ≡ true)
     → (i j : ℕ) → topology n m i j ≤ topology n o i j)
-    → areListedAtMost n m o l ≡ areAtMost n m o
-unfolding areListedAtMost
-listed-at-most n m o l each =
-    same_test (areListedAtMost n m o l) (areAtMost n m o)
-    (λ h. at-most-true n m o (each (all-at (entryCount l) (λ e. isAtMost n m o (from l e) (to l e)) h)))
-    (λ h. all_true (entryCount l) (λ e. isAtMost n m o (from l e) (to l e))
-    (λ e b. le-leb _ _ (at-most-at n m o h (from l e) (to l e))))
+    → are_listed_at_most n m o l ≡ are_at_most n m o
+unfolding are_listed_at_most
+listed_at_most n m o l each =
+    same_test (are_listed_at_most n m o l) (are_at_most n m o)
+    (λ h. at_most_true n m o (each (all_at (entry_count l) (λ e. is_at_most n m o (from l e) (to l e)) h)))
+    (λ h. all_true (entry_count l) (λ e. is_at_most n m o (from l e) (to l e))
+    (λ e b. le-leb _ _ (at_most_at n m o h (from l e) (to l e))))
 
 module _ (n : ℕ) (m l : List ℕ) (most : n ≤ width) where
-  pub listed-rise : areListedAtMost n m (newMetrics n m l) l ≡ isRise n m l
-  unfolding isRise
-  listed-rise = listed-at-most n m (newMetrics n m l) l each
+  pub listed_rise : are_listed_at_most n m (new_metrics n m l) l ≡ is_rise n m l
+  unfolding is_rise
+  listed_rise = listed_at_most n m (new_metrics n m l) l each
     where
       each :
-          ((e : ℕ) → e < entryCount l → isAtMost n m (newMetrics n m l) (from l e) (to l e) ≡ true)
-          → (i j : ℕ) → topology n m i j ≤ topology n (newMetrics n m l) i j
-      each h i j = by-case (pair_of n m l most i j)
+          ((e : ℕ) → e < entry_count l → is_at_most n m (new_metrics n m l) (from l e) (to l e) ≡ true)
+          → (i j : ℕ) → topology n m i j ≤ topology n (new_metrics n m l) i j
+      each h i j = by_case (pair_of n m l most i j)
         where
-          by-case : Pair n m l i j → topology n m i j ≤ topology n (newMetrics n m l) i j
-          by-case (listed e b f t) = rw (sym f, sym t) (leb-true _ _ (h e b))
-          by-case (reversed e b f t same) =
-              reverse-at-most n m (newMetrics n m l) i j same (rw (sym f, sym t) (leb-true _ _ (h e b)))
-          by-case (untouched same) = omega (arith, same)
+          by_case : Pair n m l i j → topology n m i j ≤ topology n (new_metrics n m l) i j
+          by_case (listed e b f t) = rw (sym f, sym t) (leb-true _ _ (h e b))
+          by_case (reversed e b f t same) =
+              reverse_at_most n m (new_metrics n m l) i j same (rw (sym f, sym t) (leb-true _ _ (h e b)))
+          by_case (untouched same) = omega (arith, same)
 
-  pub listed-fall : areListedAtMost n (newMetrics n m l) m l ≡ isFall n m l
-  unfolding isFall
-  listed-fall = listed-at-most n (newMetrics n m l) m l each
+  pub listed_fall : are_listed_at_most n (new_metrics n m l) m l ≡ is_fall n m l
+  unfolding is_fall
+  listed_fall = listed_at_most n (new_metrics n m l) m l each
     where
       each :
-          ((e : ℕ) → e < entryCount l → isAtMost n (newMetrics n m l) m (from l e) (to l e) ≡ true)
-          → (i j : ℕ) → topology n (newMetrics n m l) i j ≤ topology n m i j
-      each h i j = by-case (pair_of n m l most i j)
+          ((e : ℕ) → e < entry_count l → is_at_most n (new_metrics n m l) m (from l e) (to l e) ≡ true)
+          → (i j : ℕ) → topology n (new_metrics n m l) i j ≤ topology n m i j
+      each h i j = by_case (pair_of n m l most i j)
         where
-          by-case : Pair n m l i j → topology n (newMetrics n m l) i j ≤ topology n m i j
-          by-case (listed e b f t) = rw (sym f, sym t) (leb-true _ _ (h e b))
-          by-case (reversed e b f t same) =
-              reverse-at-most n (newMetrics n m l) m i j (sym same) (rw (sym f, sym t) (leb-true _ _ (h e b)))
-          by-case (untouched same) = omega (arith, same)
+          by_case : Pair n m l i j → topology n (new_metrics n m l) i j ≤ topology n m i j
+          by_case (listed e b f t) = rw (sym f, sym t) (leb-true _ _ (h e b))
+          by_case (reversed e b f t same) =
+              reverse_at_most n (new_metrics n m l) m i j (sym same) (rw (sym f, sym t) (leb-true _ _ (h e b)))
+          by_case (untouched same) = omega (arith, same)

@@ -3,19 +3,19 @@
 -- l the change list. `Record` is the struct of src/lib.rt, each array as a list.
 use Rattle.std.specs.Prelude.{ℕ, ◌%◌, Bool, not, ◌&&◌, ◌||◌, List, ltb, eqb, length, replicate}
 use Rattle.std.specs.Borrow.{Bor}
-use Rattle.area.specs.Limits.{width, mostChanges}
-use Rattle.area.specs.Refusals.{routerCount, tableSize, badMetric, incomplete, tooMany}
-use Rattle.area.specs.Refusals.{noChange, sameMetric, mixed, noCommonRouter, noStepTime}
-use Rattle.area.specs.Tests.{pick, orThen, first}
-use Rattle.area.specs.Tables.{perRouter}
-use Rattle.area.specs.Sizes.{isRouterCount, isTable}
-use Rattle.paths.specs.Paths.{PathTables, pathsIn, arePaths, areMetrics, filledPaths}
+use Rattle.area.specs.Limits.{width, most_changes}
+use Rattle.area.specs.Refusals.{router_count, table_size, bad_metric, incomplete, too_many}
+use Rattle.area.specs.Refusals.{no_change, same_metric, mixed, no_common_router, no_step_time}
+use Rattle.area.specs.Tests.{pick, or_then, first}
+use Rattle.area.specs.Tables.{per_router}
+use Rattle.area.specs.Sizes.{is_router_count, is_table}
+use Rattle.paths.specs.Paths.{PathTables, paths_in, are_paths, are_metrics, filled_paths}
 use Rattle.ranks.specs.Rank.{rank}
-use Rattle.entries.specs.Entries.{entryCount, listedRefusal}
-use Rattle.changes.specs.Root.{isCommon, root}
+use Rattle.entries.specs.Entries.{entry_count, listed_refusal}
+use Rattle.changes.specs.Root.{is_common, root}
 use Rattle.plan.specs.declared.Record.{Record}
-use Rattle.plan.specs.NewMetrics.{newMetrics}
-use Rattle.plan.specs.Direction.{isSame, isRise, isFall}
+use Rattle.plan.specs.NewMetrics.{new_metrics}
+use Rattle.plan.specs.Direction.{is_same, is_rise, is_fall}
 use Rattle.plan.specs.Waiting.{waiting, telling, due}
 
 -- the tables that Plan is lent and fills: the new metrics, and the paths of the old and of the new topology
@@ -25,40 +25,40 @@ pub record Tables : Type 0 where
   pub new : PathTables
 
 -- what seven lent slices hold
-abbrev pub tablesIn :
-    (metrics oldDistances oldHops oldFours newDistances newHops newFours : Bor (List ℕ)) → Tables
-tablesIn m od oh of nd nh nf = record { metrics = m.now; old = pathsIn od oh of; new = pathsIn nd nh nf }
+abbrev pub tables_in :
+    (metrics oldDistances old_hops old_fours newDistances new_hops new_fours : Bor (List ℕ)) → Tables
+tables_in m od oh of nd nh nf = record { metrics = m.now; old = paths_in od oh of; new = paths_in nd nh nf }
 
 -- the old metric table and each of those have the right size
-unfoldable pub areTables : (m : List ℕ) (t : Tables) → Bool
-areTables m t = isTable m && (isTable t.metrics && (arePaths t.old && arePaths t.new))
+unfoldable pub are_tables : (m : List ℕ) (t : Tables) → Bool
+are_tables m t = is_table m && (is_table t.metrics && (are_paths t.old && are_paths t.new))
 
 -- The number of the first refusal of the area and its change that applies; 0 where there is none. 01 has them in this
 -- order: the three that Paths has too, then the length of the list and the number of its entries, then that of the
--- first faulty entry (`listedRefusal`), and last those of the changes together, of which 02, No. 4, has put 11 first.
+-- first faulty entry (`listed_refusal`), and last those of the changes together, of which 02, No. 4, has put 11 first.
 -- `sized` says that the tables have the right size.
-unfoldable pub changeRefusal : (n : ℕ) (m l : List ℕ) (sized : Bool) → ℕ
-changeRefusal n m l sized =
-    pick (not (isRouterCount n)) routerCount
-    (pick (not sized) tableSize
-    (pick (not (areMetrics n m)) badMetric
+unfoldable pub change_refusal : (n : ℕ) (m l : List ℕ) (sized : Bool) → ℕ
+change_refusal n m l sized =
+    pick (not (is_router_count n)) router_count
+    (pick (not sized) table_size
+    (pick (not (are_metrics n m)) bad_metric
     (pick (not (eqb (length l % 5) 0)) incomplete
-    (pick (ltb mostChanges (entryCount l)) tooMany
-    (pick (eqb (entryCount l) 0) noChange
-    (orThen (first (entryCount l) (listedRefusal n l))
-    (pick (isSame n m l) sameMetric
-    (pick (not (isRise n m l || isFall n m l)) mixed
-    (pick (not (isCommon l (root l))) noCommonRouter
+    (pick (ltb most_changes (entry_count l)) too_many
+    (pick (eqb (entry_count l) 0) no_change
+    (or_then (first (entry_count l) (listed_refusal n l))
+    (pick (is_same n m l) same_metric
+    (pick (not (is_rise n m l || is_fall n m l)) mixed
+    (pick (not (is_common l (root l))) no_common_router
     0)))))))))
 
 -- The number of the first refusal that applies; 0 where the input is planned. To those of the change comes one of the
 -- step time, after that of n (02, No. 10).
-unfoldable pub planRefusal : (n s : ℕ) (m l : List ℕ) (sized : Bool) → ℕ
-planRefusal n s m l sized = pick (isRouterCount n && eqb s 0) noStepTime (changeRefusal n m l sized)
+unfoldable pub plan_refusal : (n s : ℕ) (m l : List ℕ) (sized : Bool) → ℕ
+plan_refusal n s m l sized = pick (is_router_count n && eqb s 0) no_step_time (change_refusal n m l sized)
 
 -- the input is planned, that is, none of the refusals is given
-unfoldable pub isPlanned : (n s : ℕ) (m l : List ℕ) (t : Tables) → Bool
-isPlanned n s m l t = eqb (planRefusal n s m l (areTables m t)) 0
+unfoldable pub is_planned : (n s : ℕ) (m l : List ℕ) (t : Tables) → Bool
+is_planned n s m l t = eqb (plan_refusal n s m l (are_tables m t)) 0
 
 -- 0 for every router
 abbrev pub zeros : List ℕ
@@ -71,11 +71,11 @@ fresh n h s m l =
     record {
       n = n;
       root = root l;
-      direction = pick (isRise n m l) 1 2;
-      ranks = perRouter width n (rank n (waiting n m l));
-      waiting = perRouter width n (waiting n m l);
-      telling = perRouter width n (telling n m l);
-      due = perRouter width n (due n m l);
+      direction = pick (is_rise n m l) 1 2;
+      ranks = per_router width n (rank n (waiting n m l));
+      waiting = per_router width n (waiting n m l);
+      telling = per_router width n (telling n m l);
+      due = per_router width n (due n m l);
       states = zeros;
       written = zeros;
       hold_time = h;
@@ -106,15 +106,15 @@ blank = record {
 unfoldable pub filled : (n : ℕ) (m l : List ℕ) → Tables
 filled n m l =
     record {
-      metrics = newMetrics n m l;
-      old = filledPaths n m;
-      new = filledPaths n (newMetrics n m l);
+      metrics = new_metrics n m l;
+      old = filled_paths n m;
+      new = filled_paths n (new_metrics n m l);
     }
 
 -- What Plan hands back and leaves, where t are the tables as it was lent them: a refusal hands back zeros and leaves
 -- every table as it was.
-unfoldable pub recordOf : (n h s : ℕ) (m l : List ℕ) (t : Tables) → Record
-recordOf n h s m l t = pick (isPlanned n s m l t) (fresh n h s m l) blank
+unfoldable pub record_of : (n h s : ℕ) (m l : List ℕ) (t : Tables) → Record
+record_of n h s m l t = pick (is_planned n s m l t) (fresh n h s m l) blank
 
 unfoldable pub tables_of : (n s : ℕ) (m l : List ℕ) (t : Tables) → Tables
-tables_of n s m l t = pick (isPlanned n s m l t) (filled n m l) t
+tables_of n s m l t = pick (is_planned n s m l t) (filled n m l) t

@@ -1,7 +1,7 @@
 -- An accepted plan depends on the set of changes and not on their order (02, No. 2). l and k are lists with the same
 -- changes.
---     same-plan        where both are accepted, the records are the same, and so are the tables
---     same-accepted    where l is accepted, so is k if it is as long: the same changes in another order
+--     same_plan        where both are accepted, the records are the same, and so are the tables
+--     same_accepted    where l is accepted, so is k if it is as long: the same changes in another order
 --     either_order     two reports, each of whole entries, give the same plan whichever comes first
 -- The number of a refusal is not among this: it is that of the first faulty change.
 use Rattle.std.specs.Prelude.{ℕ, ◌%◌, ◌≤◌, ◌<◌, ◌≡◌, true, ◌&&◌, ◌≢◌, ltb, eqb, length}
@@ -11,151 +11,151 @@ use Rattle.std.proofs.Math.Bool.{not}
 use mathlib.Core.List.{List, ◌++◌}
 use Rattle.area.specs.Limits.{width, unused}
 use Rattle.area.specs.Tests.{pick}
-use Rattle.area.specs.Tables.{cell, perRouter}
-use Rattle.area.specs.TableLaws.{is-tabulate, length-tabulate, cell-tabulate}
-use Rattle.area.specs.PerRouterLaws.{per-same}
-use Rattle.sets.specs.SetLaws.{setOf-same}
+use Rattle.area.specs.Tables.{cell, per_router}
+use Rattle.area.specs.TableLaws.{is_tabulate, length_tabulate, cell_tabulate}
+use Rattle.area.specs.PerRouterLaws.{per_same}
+use Rattle.sets.specs.SetLaws.{set_of_same}
 use Rattle.sets.specs.Four.{four}
 use Rattle.topology.specs.Topology.{topology}
-use Rattle.topology.specs.NextHops.{nextHops}
-use Rattle.order.specs.OrderLaws.{telling-same, ranks-same}
-use Rattle.entries.specs.Entries.{entryCount}
-use Rattle.entries.specs.EntryLaws.{entry-count-same}
-use Rattle.changes.specs.Root.{isCommon, root}
+use Rattle.topology.specs.NextHops.{next_hops}
+use Rattle.order.specs.OrderLaws.{telling_same, ranks_same}
+use Rattle.entries.specs.Entries.{entry_count}
+use Rattle.entries.specs.EntryLaws.{entry_count_same}
+use Rattle.changes.specs.Root.{is_common, root}
 use Rattle.changes.specs.SameChanges.{SameChanges, Once}
 use Rattle.changes.specs.ChangeLaws.{Sound}
-use Rattle.changes.specs.RootLaws.{common-root}
-use Rattle.changes.specs.SameLaws.{joined_same, common-same, root-same, given-same, sound-same}
-use Rattle.plan.specs.NewMetrics.{newCell, newMetrics}
-use Rattle.plan.specs.Direction.{areAtMost, isSame, isRise, isFall}
-use Rattle.plan.specs.Waiting.{newHops, oldFours, newFours, waiting, telling, due}
-use Rattle.plan.specs.Plan.{Tables, areTables, planRefusal, fresh, filled, recordOf, tables_of}
-use Rattle.plan.specs.DirectionLaws.{same-both}
-use Rattle.plan.specs.PlanLaws.{Plan, plan-of, of-plan, planned-true, planned-is}
-use Rattle.plan.specs.PlanLaws.{record-planned, tables-planned}
+use Rattle.changes.specs.RootLaws.{common_root}
+use Rattle.changes.specs.SameLaws.{joined_same, common_same, root_same, given_same, sound_same}
+use Rattle.plan.specs.NewMetrics.{new_cell, new_metrics}
+use Rattle.plan.specs.Direction.{are_at_most, is_same, is_rise, is_fall}
+use Rattle.plan.specs.Waiting.{new_hops, old_fours, new_fours, waiting, telling, due}
+use Rattle.plan.specs.Plan.{Tables, are_tables, plan_refusal, fresh, filled, record_of, tables_of}
+use Rattle.plan.specs.DirectionLaws.{same_both}
+use Rattle.plan.specs.PlanLaws.{Plan, plan_of, of_plan, planned_true, planned_is}
+use Rattle.plan.specs.PlanLaws.{record_planned, tables_planned}
 
-sound-once : (n : ℕ) (l : List ℕ) → Sound n l → Once l
-sound-once n l sound e b = (sound e b).new
+sound_once : (n : ℕ) (l : List ℕ) → Sound n l → Once l
+sound_once n l sound e b = (sound e b).new
 
 -- ---- the new tables, and which way they go
-module _ (n : ℕ) (m l k : List ℕ) (s : SameChanges l k) (once-l : Once l) (once-k : Once k) where
-  same-cell : (i j : ℕ) → newCell n m l i j ≡ newCell n m k i j
-  unfolding newCell
-  same-cell i j =
+module _ (n : ℕ) (m l k : List ℕ) (s : SameChanges l k) (once_l : Once l) (once_k : Once k) where
+  same_cell : (i j : ℕ) → new_cell n m l i j ≡ new_cell n m k i j
+  unfolding new_cell
+  same_cell i j =
       ap (λ (x : ℕ). pick (ltb i n && (ltb j n && not (eqb i j))) x unused)
-      (given-same l k i j (cell width m i j) s once-l once-k)
+      (given_same l k i j (cell width m i j) s once_l once_k)
 
-  same-metrics : newMetrics n m l ≡ newMetrics n m k
-  unfolding newMetrics
-  same-metrics =
-      is-tabulate width (newCell n m k) (newMetrics n m l) (omega arith) (length-tabulate width (newCell n m l))
-      (λ i j a b. cell-tabulate width (newCell n m l) i j a b ∙ same-cell i j)
+  same_metrics : new_metrics n m l ≡ new_metrics n m k
+  unfolding new_metrics
+  same_metrics =
+      is_tabulate width (new_cell n m k) (new_metrics n m l) (omega arith) (length_tabulate width (new_cell n m l))
+      (λ i j a b. cell_tabulate width (new_cell n m l) i j a b ∙ same_cell i j)
 
-  same-rise : isRise n m l ≡ isRise n m k
-  unfolding isRise
-  same-rise = ap (areAtMost n m) same-metrics
+  same_rise : is_rise n m l ≡ is_rise n m k
+  unfolding is_rise
+  same_rise = ap (are_at_most n m) same_metrics
 
-  same-fall : isFall n m l ≡ isFall n m k
-  unfolding isFall
-  same-fall = ap (λ (o : List ℕ). areAtMost n o m) same-metrics
+  same_fall : is_fall n m l ≡ is_fall n m k
+  unfolding is_fall
+  same_fall = ap (λ (o : List ℕ). are_at_most n o m) same_metrics
 
-  same_effect : isSame n m l ≡ isSame n m k
-  same_effect = same-both n m l ∙ ap₂ ◌&&◌ same-rise same-fall ∙ sym (same-both n m k)
+  same_effect : is_same n m l ≡ is_same n m k
+  same_effect = same_both n m l ∙ ap₂ ◌&&◌ same_rise same_fall ∙ sym (same_both n m k)
 
-  same-filled : filled n m l ≡ filled n m k
+  same_filled : filled n m l ≡ filled n m k
   unfolding filled
-  same-filled = rw same-metrics refl
+  same_filled = rw same_metrics refl
 
-  same-hops : (i j : ℕ) → newHops n m l i j ≡ newHops n m k i j
-  unfolding newHops
-  same-hops i j = ap (λ (t : List ℕ). nextHops width n (topology n t) i j) same-metrics
+  same_hops : (i j : ℕ) → new_hops n m l i j ≡ new_hops n m k i j
+  unfolding new_hops
+  same_hops i j = ap (λ (t : List ℕ). next_hops width n (topology n t) i j) same_metrics
 
-  same-fours : (i j : ℕ) → newFours n m l i j ≡ newFours n m k i j
-  unfolding newFours
-  same-fours i j = ap (four width) (same-hops i j)
+  same_fours : (i j : ℕ) → new_fours n m l i j ≡ new_fours n m k i j
+  unfolding new_fours
+  same_fours i j = ap (four width) (same_hops i j)
 
   -- ---- the record, field by field
   module _ (most : n ≤ width) (same-root : root l ≡ root k) where
-    same-waiting : (r : ℕ) → waiting n m l r ≡ waiting n m k r
+    same_waiting : (r : ℕ) → waiting n m l r ≡ waiting n m k r
     unfolding waiting
-    same-waiting r = rw (same-root, same-rise, same-hops r (root k)) refl
+    same_waiting r = rw (same-root, same_rise, same_hops r (root k)) refl
 
-    same-due : (r : ℕ) → due n m l r ≡ due n m k r
+    same_due : (r : ℕ) → due n m l r ≡ due n m k r
     unfolding due
-    same-due r =
-        setOf-same n
-        (λ d. not (eqb (oldFours n m r d) (newFours n m l r d)))
-        (λ d. not (eqb (oldFours n m r d) (newFours n m k r d)))
-        (λ d h. ap (λ (x : ℕ). not (eqb (oldFours n m r d) x)) (same-fours r d))
+    same_due r =
+        set_of_same n
+        (λ d. not (eqb (old_fours n m r d) (new_fours n m l r d)))
+        (λ d. not (eqb (old_fours n m r d) (new_fours n m k r d)))
+        (λ d h. ap (λ (x : ℕ). not (eqb (old_fours n m r d) x)) (same_fours r d))
 
-    same-telling : perRouter width n (telling n m l) ≡ perRouter width n (telling n m k)
+    same_telling : per_router width n (telling n m l) ≡ per_router width n (telling n m k)
     unfolding telling
-    same-telling = telling-same width n (waiting n m l) (waiting n m k) most (λ r h. same-waiting r)
+    same_telling = telling_same width n (waiting n m l) (waiting n m k) most (λ r h. same_waiting r)
 
-    same-fresh : (hold step : ℕ) → fresh n hold step m l ≡ fresh n hold step m k
+    same_fresh : (hold step : ℕ) → fresh n hold step m l ≡ fresh n hold step m k
     unfolding fresh
-    same-fresh hold step =
-        let waits = per-same width n (waiting n m l) (waiting n m k) most (λ r h. same-waiting r) in
-        let ranks = ranks-same width n (waiting n m l) (waiting n m k) most (λ r h. same-waiting r) in
-        let dues = per-same width n (due n m l) (due n m k) most (λ r h. same-due r) in
-        rw (same-root, same-rise, waits, same-telling, ranks, dues) refl
+    same_fresh hold step =
+        let waits = per_same width n (waiting n m l) (waiting n m k) most (λ r h. same_waiting r) in
+        let ranks = ranks_same width n (waiting n m l) (waiting n m k) most (λ r h. same_waiting r) in
+        let dues = per_same width n (due n m l) (due n m k) most (λ r h. same_due r) in
+        rw (same-root, same_rise, waits, same_telling, ranks, dues) refl
 
 module _ (n s : ℕ) (m l k : List ℕ) (t : Tables) (same : SameChanges l k) where
-  pub same-plan :
+  pub same_plan :
       (h : ℕ)
-      → planRefusal n s m l (areTables m t) ≡ 0
-      → planRefusal n s m k (areTables m t) ≡ 0
-      → (recordOf n h s m l t ≡ recordOf n h s m k t) × (tables_of n s m l t ≡ tables_of n s m k t)
-  same-plan h a b =
-      let p = plan-of n s m l t a in
-      let q = plan-of n s m k t b in
-      let x = planned-true n s m l t a in
-      let y = planned-true n s m k t b in
-      let once-l = sound-once n l p.sound in
-      let once-k = sound-once n k q.sound in
-      let roots = root-same l k same p.some q.some p.common in
-      let records = same-fresh n m l k same once-l once-k p.ready.most roots h s in (
-        record-planned n h s m l t x ∙ records ∙ sym (record-planned n h s m k t y),
-        tables-planned n s m l t x ∙ same-filled n m l k same once-l once-k ∙ sym (tables-planned n s m k t y),
+      → plan_refusal n s m l (are_tables m t) ≡ 0
+      → plan_refusal n s m k (are_tables m t) ≡ 0
+      → (record_of n h s m l t ≡ record_of n h s m k t) × (tables_of n s m l t ≡ tables_of n s m k t)
+  same_plan h a b =
+      let p = plan_of n s m l t a in
+      let q = plan_of n s m k t b in
+      let x = planned_true n s m l t a in
+      let y = planned_true n s m k t b in
+      let once_l = sound_once n l p.sound in
+      let once_k = sound_once n k q.sound in
+      let roots = root_same l k same p.some q.some p.common in
+      let records = same_fresh n m l k same once_l once_k p.ready.most roots h s in (
+        record_planned n h s m l t x ∙ records ∙ sym (record_planned n h s m k t y),
+        tables_planned n s m l t x ∙ same_filled n m l k same once_l once_k ∙ sym (tables_planned n s m k t y),
       )
 
   -- ---- whether a list is accepted
-  module _ (long : length k ≡ length l) (a : planRefusal n s m l (areTables m t) ≡ 0) where
+  module _ (long : length k ≡ length l) (a : plan_refusal n s m l (are_tables m t) ≡ 0) where
     p : Plan n m l
-    p = plan-of n s m l t a
+    p = plan_of n s m l t a
 
-    many : entryCount k ≡ entryCount l
-    many = entry-count-same k l long
+    many : entry_count k ≡ entry_count l
+    many = entry_count_same k l long
 
-    some : 0 < entryCount k
+    some : 0 < entry_count k
     some = omega (arith, many, p.some)
 
-    once-l : Once l
-    once-l = sound-once n l p.sound
+    once_l : Once l
+    once_l = sound_once n l p.sound
 
     sound : Sound n k
-    sound = sound-same l k same many once-l n p.sound
+    sound = sound_same l k same many once_l n p.sound
 
-    once-k : Once k
-    once-k = sound-once n k sound
+    once_k : Once k
+    once_k = sound_once n k sound
 
-    common : isCommon k (root k) ≡ true
-    common = common-root k some (root l) (sym (common-same l k same (root l)) ∙ p.common)
+    common : is_common k (root k) ≡ true
+    common = common_root k some (root l) (sym (common_same l k same (root l)) ∙ p.common)
 
-    given : (areTables m t ≡ true) × (s ≢ 0) × Plan n m l
-    given = (planned-is n s m l t).0 (planned-true n s m l t a)
+    given : (are_tables m t ≡ true) × (s ≢ 0) × Plan n m l
+    given = (planned_is n s m l t).0 (planned_true n s m l t a)
 
-    pub same-accepted : planRefusal n s m k (areTables m t) ≡ 0
-    same-accepted = of-plan n s m k t given.0 given.1 (record {
+    pub same_accepted : plan_refusal n s m k (are_tables m t) ≡ 0
+    same_accepted = of_plan n s m k t given.0 given.1 (record {
       ready = p.ready;
       whole = ap (λ (x : ℕ). x % 5) long ∙ p.whole;
       most = omega (arith, many, p.most);
       some = some;
       sound = sound;
-      effect = sym (same_effect n m l k same once-l once-k) ∙ p.effect;
+      effect = sym (same_effect n m l k same once_l once_k) ∙ p.effect;
       way = ⊎_elim
-          (λ r. inl (sym (same-rise n m l k same once-l once-k) ∙ r))
-          (λ f. inr (sym (same-fall n m l k same once-l once-k) ∙ f))
+          (λ r. inl (sym (same_rise n m l k same once_l once_k) ∙ r))
+          (λ f. inr (sym (same_fall n m l k same once_l once_k) ∙ f))
           p.way;
       common = common;
     })
@@ -165,13 +165,13 @@ pub either_order :
     (n h s : ℕ) (m l k : List ℕ) (t : Tables)
     → length l % 5 ≡ 0
     → length k % 5 ≡ 0
-    → planRefusal n s m (l ++ k) (areTables m t) ≡ 0
-    → (planRefusal n s m (k ++ l) (areTables m t) ≡ 0)
-    × (recordOf n h s m (l ++ k) t ≡ recordOf n h s m (k ++ l) t)
+    → plan_refusal n s m (l ++ k) (are_tables m t) ≡ 0
+    → (plan_refusal n s m (k ++ l) (are_tables m t) ≡ 0)
+    × (record_of n h s m (l ++ k) t ≡ record_of n h s m (k ++ l) t)
     × (tables_of n s m (l ++ k) t ≡ tables_of n s m (k ++ l) t)
 either_order n h s m l k t a b accepted =
     let same = joined_same l k a b in
     let long : length (k ++ l) ≡ length (l ++ k) = omega (arith, length-append l k, length-append k l) in
-    let back = same-accepted n s m (l ++ k) (k ++ l) t same long accepted in
-    let plan = same-plan n s m (l ++ k) (k ++ l) t same h accepted back in
+    let back = same_accepted n s m (l ++ k) (k ++ l) t same long accepted in
+    let plan = same_plan n s m (l ++ k) (k ++ l) t same h accepted back in
     (back, plan.0, plan.1)

@@ -3,8 +3,8 @@
 ghost use Rattle.std.specs.Prelude.{◌≡◌, ◌≤◌, ◌*◌, length};
 ghost use Rattle.area.specs.Limits.{width};
 ghost use Rattle.changes.specs.ChangeLaws.{Sound};
-ghost use Rattle.plan.specs.Direction.{isRise, isFall};
-ghost use Rattle.plan.specs.Parts.{isAtMost, areListedAtMost};
+ghost use Rattle.plan.specs.Direction.{is_rise, is_fall};
+ghost use Rattle.plan.specs.Parts.{is_at_most, are_listed_at_most};
 
 use crate::metrics::apply;
 use area::limits::CELLS;
@@ -22,8 +22,8 @@ pub struct Direction {
 // once all is accepted.
 pub(crate) fn direction_of(n: usize, old: &[u32], list: &[u8]) -> Direction
     requires { (n ≤ width) × (length old.now ≡ width * width) × Sound n list.now }
-    ensures rising_value { result.rising ≡ isRise n old.now list.now }
-    ensures falling_value { result.falling ≡ isFall n old.now list.now }
+    ensures rising_value { result.rising ≡ is_rise n old.now list.now }
+    ensures falling_value { result.falling ≡ is_fall n old.now list.now }
 {
     let mut new = [0u32; CELLS];
     apply(n, old, list, &mut new);
@@ -36,7 +36,7 @@ pub(crate) fn direction_of(n: usize, old: &[u32], list: &[u8]) -> Direction
 // Is no usable metric of a listed pair larger in `less` than in `more`?
 fn are_at_most(n: usize, less: &[u32], more: &[u32], list: &[u8]) -> bool
     requires { (n ≤ width) × (length less.now ≡ width * width) × (length more.now ≡ width * width) }
-    ensures { result ≡ areListedAtMost n less.now more.now list.now }
+    ensures { result ≡ are_listed_at_most n less.now more.now list.now }
 {
     for e in 0..count(list) {
         let change = decode(list, e);
@@ -50,7 +50,7 @@ fn are_at_most(n: usize, less: &[u32], more: &[u32], list: &[u8]) -> bool
 // The same of the pair (i, j).
 fn is_at_most(n: usize, less: &[u32], more: &[u32], i: usize, j: usize) -> bool
     requires { (n ≤ width) × (length less.now ≡ width * width) × (length more.now ≡ width * width) }
-    ensures { result ≡ isAtMost n less.now more.now i j }
+    ensures { result ≡ is_at_most n less.now more.now i j }
 {
     usable(n, less, i, j) <= usable(n, more, i, j)
 }

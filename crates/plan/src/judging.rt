@@ -8,11 +8,11 @@
 // (specs/Parts.antt), by the ladder of specs/Plan.antt.
 ghost use Rattle.std.specs.Prelude.{◌≡◌, Bool, true, ◌&&◌, ◌||◌, List, ℕ, ◌*◌, length};
 ghost use Rattle.area.specs.Limits.{width};
-ghost use Rattle.area.specs.Refusals.{refusalNumber};
+ghost use Rattle.area.specs.Refusals.{refusal_number};
 ghost use Rattle.paths.specs.PathsLaws.{Ready};
 ghost use Rattle.changes.specs.ChangeLaws.{Sound};
 ghost use Rattle.plan.specs.PlanLaws.{Listed};
-ghost use Rattle.plan.specs.Plan.{planRefusal};
+ghost use Rattle.plan.specs.Plan.{plan_refusal};
 ghost use Rattle.plan.specs.Parts.{Judges, JudgesPlan};
 
 use crate::direction::direction_of;
@@ -45,7 +45,7 @@ pub(crate) fn judge(n: usize, step_time: u16, old: &[u32], list: &[u8], sized: b
 
 // The refusal where the step time is 0: that of n comes first.
 fn untimed(n: usize) -> Refusal
-    ensures { (m l : List ℕ) (sized : Bool) → refusalNumber result ≡ planRefusal n 0 m l sized }
+    ensures { (m l : List ℕ) (sized : Bool) → refusal_number result ≡ plan_refusal n 0 m l sized }
 {
     if n < 1 {
         return Refusal::RouterCount;

@@ -15,11 +15,11 @@ mod metrics;
 
 ghost use Rattle.std.specs.Prelude.{◌≡◌, ◌≤◌, ◌<◌};
 ghost use Rattle.area.specs.Limits.{width};
-ghost use Rattle.area.specs.Refusals.{verdictNumber};
-ghost use Rattle.order.specs.Order.{order_of, dueTable};
+ghost use Rattle.area.specs.Refusals.{verdict_number};
+ghost use Rattle.order.specs.Order.{order_of, due_table};
 ghost use Rattle.changes.specs.Root.{root};
-ghost use Rattle.plan.specs.Direction.{isRise};
-ghost use Rattle.plan.specs.Plan.{tablesIn, areTables, planRefusal, fresh, blank, filled, recordOf, tables_of};
+ghost use Rattle.plan.specs.Direction.{is_rise};
+ghost use Rattle.plan.specs.Plan.{tables_in, are_tables, plan_refusal, fresh, blank, filled, record_of, tables_of};
 ghost use Rattle.plan.specs.PlanLaws.{Plan, Sized};
 ghost use Rattle.plan.specs.Parts.{started};
 
@@ -74,19 +74,19 @@ pub fn plan(
     new_hops: &mut [Set],
     new_fours: &mut [Set],
 ) -> Planned
-    ensures answer { let lent = tablesIn new.entry
+    ensures answer { let lent = tables_in new.entry
         old_dist.entry old_hops.entry old_fours.entry
         new_dist.entry new_hops.entry new_fours.entry in
-        verdictNumber result.answer
-        ≡ planRefusal n step_time old.now list.now (areTables old.now lent) }
-    ensures record { let lent = tablesIn new.entry
+        verdict_number result.answer
+        ≡ plan_refusal n step_time old.now list.now (are_tables old.now lent) }
+    ensures record { let lent = tables_in new.entry
         old_dist.entry old_hops.entry old_fours.entry
         new_dist.entry new_hops.entry new_fours.entry in
-        result.record ≡ recordOf n hold_time step_time old.now list.now lent }
-    ensures tables { let lent = tablesIn new.entry
+        result.record ≡ record_of n hold_time step_time old.now list.now lent }
+    ensures tables { let lent = tables_in new.entry
         old_dist.entry old_hops.entry old_fours.entry
         new_dist.entry new_hops.entry new_fours.entry in
-        let left = tablesIn new.exit
+        let left = tables_in new.exit
         old_dist.exit old_hops.exit old_fours.exit
         new_dist.exit new_hops.exit new_fours.exit in
         left ≡ tables_of n step_time old.now list.now lent }
@@ -129,11 +129,11 @@ fn fill(
     new_fours: &mut [Set],
 ) -> Record
     requires plan { Plan n old.now list.now }
-    requires c_value { (c ≡ root list.now) × (rising ≡ isRise n old.now list.now) }
+    requires c_value { (c ≡ root list.now) × (rising ≡ is_rise n old.now list.now) }
     requires sized { Sized old.now
-        (tablesIn new old_dist old_hops old_fours new_dist new_hops new_fours) }
+        (tables_in new old_dist old_hops old_fours new_dist new_hops new_fours) }
     ensures value { result ≡ fresh n hold_time step_time old.now list.now }
-    ensures left_value { let left = tablesIn new.exit
+    ensures left_value { let left = tables_in new.exit
         old_dist.exit old_hops.exit old_fours.exit
         new_dist.exit new_hops.exit new_fours.exit in
         left ≡ filled n old.now list.now }
@@ -161,8 +161,8 @@ fn topologies(
 )
     requires plan { Plan n old.now list.now }
     requires sized { Sized old.now
-        (tablesIn new old_dist old_hops old_fours new_dist new_hops new_fours) }
-    ensures { let left = tablesIn new.exit
+        (tables_in new old_dist old_hops old_fours new_dist new_hops new_fours) }
+    ensures { let left = tables_in new.exit
         old_dist.exit old_hops.exit old_fours.exit
         new_dist.exit new_hops.exit new_fours.exit in
         left ≡ filled n old.now list.now }
@@ -184,10 +184,10 @@ fn are_tables(
     new_hops: &[Set],
     new_fours: &[Set],
 ) -> bool
-    ensures { let lent = tablesIn new.entry
+    ensures { let lent = tables_in new.entry
         old_dist.entry old_hops.entry old_fours.entry
         new_dist.entry new_hops.entry new_fours.entry in
-        result ≡ areTables old.now lent }
+        result ≡ are_tables old.now lent }
 {
     if old.len() != CELLS {
         return false;
@@ -238,7 +238,7 @@ fn fresh(
     requires { (n ≤ width) × (root < width) }
     ensures { result ≡ started n hold_time step_time root rising
         (order_of n root rising old_hops.now new_hops.now)
-        (dueTable n old_fours.now new_fours.now) }
+        (due_table n old_fours.now new_fours.now) }
 {
     let order = order_of(n, root, rising, old_hops, new_hops);
     Record {

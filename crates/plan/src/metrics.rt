@@ -3,7 +3,7 @@ ghost use Rattle.std.specs.Prelude.{◌≡◌, [], ◌≤◌, ◌<◌, ◌*◌, 
 ghost use Rattle.area.specs.Limits.{width};
 ghost use Rattle.area.specs.Tables.{tabulate};
 ghost use Rattle.changes.specs.ChangeLaws.{Sound};
-ghost use Rattle.plan.specs.NewMetrics.{newCell, newMetrics};
+ghost use Rattle.plan.specs.NewMetrics.{new_cell, new_metrics};
 ghost use Rattle.plan.specs.Parts.{RowCopied};
 
 use area::limits::{UNUSED, WIDTH};
@@ -14,7 +14,7 @@ use entries::{count, decode};
 pub(crate) fn apply(n: usize, old: &[u32], list: &[u8], new: &mut [u32])
     requires n_le_width { (n ≤ width) × (length old.now ≡ width * width) × (length new.old ≡ width * width) }
     requires sound { Sound n list.now }
-    ensures { new.new ≡ newMetrics n old.now list.now }
+    ensures { new.new ≡ new_metrics n old.now list.now }
 {
     copy(n, old, new);
     for e in 0..count(list) {
@@ -28,7 +28,7 @@ pub(crate) fn apply(n: usize, old: &[u32], list: &[u8], new: &mut [u32])
 // The old metrics, with `UNUSED` on the diagonal and beyond n.
 fn copy(n: usize, old: &[u32], new: &mut [u32])
     requires { (n ≤ width) × (length old.now ≡ width * width) × (length new.old ≡ width * width) }
-    ensures { new.new ≡ tabulate width (newCell n old.now []) }
+    ensures { new.new ≡ tabulate width (new_cell n old.now []) }
 {
     clear(new);
     for i in 0..n {

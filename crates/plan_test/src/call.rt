@@ -1,6 +1,6 @@
 // Calls of Plan.
 ghost use Rattle.std.specs.Prelude.{◌*◌, ◌+◌, ◌≤◌};
-ghost use Rattle.area.specs.Limits.{mostChanges};
+ghost use Rattle.area.specs.Limits.{most_changes};
 
 use crate::show;
 use area::limits::Set;
@@ -33,7 +33,7 @@ pub fn run(case: &[u8]) {
 }
 
 fn plan(case: &[u8], old: &[u32; LONG_TABLE], list: &[u8; LONG_LIST], bytes: usize)
-    requires { bytes ≤ 5 * (mostChanges + 2) }
+    requires { bytes ≤ 5 * (most_changes + 2) }
 {
     let table = &old[..];
     let changes = &list[..];

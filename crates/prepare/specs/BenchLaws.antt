@@ -1,228 +1,228 @@
 -- Laws of what a bench file gives before its first step.
---     read-passed, file-of, plan-passed                Read, the file and its plan, where nothing is refused
---     record-passed, tables-passed                     what is handed back and left then
---     changes-within                                   the changes lie in the file, also where Read refuses
---     refusal-given, record-given, tables-given        Read, and then Plan on what Read gives
---     first-all, refusal-first                         the first bytes, one more than the largest file has, decide
+--     read_passed, file_of_lem, plan_passed                Read, the file and its plan, where nothing is refused
+--     record_passed, tables_passed                     what is handed back and left then
+--     changes_within                                   the changes lie in the file, also where Read refuses
+--     refusal_given, record_given, tables_given        Read, and then Plan on what Read gives
+--     first_all, refusal_first                         the first bytes, one more than the largest file has, decide
 -- Plan gets what Read hands back, whether that refused or not. Where it did not, these are the file's own n, metrics
--- and changes, and so Plan's answer is the definition's. Where it did, n is 0: Plan refuses too (then-refused), so that
+-- and changes, and so Plan's answer is the definition's. Where it did, n is 0: Plan refuses too (then_refused), so that
 -- its record is blank and its tables are as they were, as the definition says.
 use Rattle.std.specs.Prelude.{ℕ, ◌+◌, ◌*◌, ◌≤◌, ◌<◌, ◌≡◌, true, ◌≢◌, List, length, take}
 use Rattle.std.proofs.Math.Path.{refl, sym, ap}
 use Rattle.std.proofs.Common.{ap₂, ◌∙◌, arith, eq-eqb, ne_eqb, take_all}
 use Rattle.std.proofs.Math.Decide.{ℕ_discrete}
-use Rattle.area.specs.Tests.{orThen}
-use Rattle.area.specs.TestLaws.{then_some, then-none, then-both}
-use Rattle.area.specs.SizeLaws.{router-count-low}
+use Rattle.area.specs.Tests.{or_then}
+use Rattle.area.specs.TestLaws.{then_some, then_none, then_both}
+use Rattle.area.specs.SizeLaws.{router_count_low}
 use Rattle.plan.specs.declared.Record.{Record}
-use Rattle.plan.specs.Plan.{Tables, areTables, planRefusal, isPlanned, blank, recordOf, tables_of as fills}
-use Rattle.plan.specs.PlanLaws.{Plan, plan-of, plan-count, planned-true, planned-false}
-use Rattle.plan.specs.PlanLaws.{record-planned, record-refused, tables-planned, tables-refused}
-use Rattle.bench_file.specs.Sections.{routers, changeCount, changesAt, changes, holdTime, stepTime, largest}
+use Rattle.plan.specs.Plan.{Tables, are_tables, plan_refusal, is_planned, blank, record_of, tables_of as fills}
+use Rattle.plan.specs.PlanLaws.{Plan, plan_of, plan_count, planned_true, planned_false}
+use Rattle.plan.specs.PlanLaws.{record_planned, record_refused, tables_planned, tables_refused}
+use Rattle.bench_file.specs.Sections.{routers, change_count, changes_at, changes, hold_time, step_time, largest}
 use Rattle.bench_file.specs.declared.Format.TheVariants.{New}
 use Rattle.bench_file.specs.FaultLaws.{Accepted}
 use Rattle.bench_file.specs.declared.Contents.{Contents}
-use Rattle.bench_file.specs.Read.{readRefusal, contents, contentsOf, metricsOf}
-use Rattle.bench_file.specs.ReadLaws.{contents-accepted, contents-refused, metrics-accepted}
-use Rattle.bench_file.specs.FileLaws.{table-sized, file-passed, file-accepted}
-use Rattle.bench_file.specs.FileLaws.{contents-n, contents-changes, contents-times, no-contents-n, no-contents-changes}
-use Rattle.bench_file.specs.FileLaws.{file-largest, first-bytes}
-use Rattle.prepare.specs.Bench.{metrics, refusal, planned, filledTables, recordAt, tablesAt, listed}
+use Rattle.bench_file.specs.Read.{read_refusal, contents, contents_of, metrics_of}
+use Rattle.bench_file.specs.ReadLaws.{contents_accepted, contents_refused, metrics_accepted}
+use Rattle.bench_file.specs.FileLaws.{table_sized, file_passed, file_accepted}
+use Rattle.bench_file.specs.FileLaws.{contents_n, contents_changes, contents_times, no_contents_n, no_contents_changes}
+use Rattle.bench_file.specs.FileLaws.{file_largest, first_bytes}
+use Rattle.prepare.specs.Bench.{metrics, refusal, planned, filled_tables, record_at, tables_at, listed}
 
 module _ (f m : List ℕ) where
   -- ---- where Read refuses nothing, and where it refuses
-  module _ (z : readRefusal f m ≡ 0) where
-    of-file : contentsOf f m ≡ contents New f
-    of-file = contents-accepted f m z
+  module _ (z : read_refusal f m ≡ 0) where
+    of_file : contents_of f m ≡ contents New f
+    of_file = contents_accepted f m z
 
-    n-is : (contentsOf f m).n ≡ routers f
-    n-is = ap (λ (x : Contents). x.n) of-file ∙ contents-n New f
+    n_is : (contents_of f m).n ≡ routers f
+    n_is = ap (λ (x : Contents). x.n) of_file ∙ contents_n New f
 
-    starts : (contentsOf f m).changes.at ≡ changesAt f
-    starts = ap (λ (x : Contents). x.changes.at) of-file ∙ (contents-changes New f).0
+    starts : (contents_of f m).changes.at ≡ changes_at f
+    starts = ap (λ (x : Contents). x.changes.at) of_file ∙ (contents_changes New f).0
 
-    counted : (contentsOf f m).changes.count ≡ changeCount f
-    counted = ap (λ (x : Contents). x.changes.count) of-file ∙ (contents-changes New f).1
+    counted : (contents_of f m).changes.count ≡ change_count f
+    counted = ap (λ (x : Contents). x.changes.count) of_file ∙ (contents_changes New f).1
 
-    hold-is : (contentsOf f m).hold_time ≡ holdTime New f
-    hold-is = ap (λ (x : Contents). x.hold_time) of-file ∙ (contents-times New f).0
+    hold_is : (contents_of f m).hold_time ≡ hold_time New f
+    hold_is = ap (λ (x : Contents). x.hold_time) of_file ∙ (contents_times New f).0
 
-    step_is : (contentsOf f m).step_time ≡ stepTime New f
-    step_is = ap (λ (x : Contents). x.step_time) of-file ∙ (contents-times New f).1
+    step_is : (contents_of f m).step_time ≡ step_time New f
+    step_is = ap (λ (x : Contents). x.step_time) of_file ∙ (contents_times New f).1
 
-    list-is : listed f (contentsOf f m) ≡ changes f
-    list-is = rw (starts, counted) refl
+    list_is : listed f (contents_of f m) ≡ changes f
+    list_is = rw (starts, counted) refl
 
-    old-is : metricsOf f m ≡ metrics f
-    old-is = metrics-accepted New f m (table-sized f m z) (file-passed f m z)
+    old_is : metrics_of f m ≡ metrics f
+    old_is = metrics_accepted New f m (table_sized f m z) (file_passed f m z)
 
-  refused-n : readRefusal f m ≢ 0 → (contentsOf f m).n ≡ 0
-  refused-n g = ap (λ (x : Contents). x.n) (contents-refused f m g) ∙ no-contents-n
+  refused_n : read_refusal f m ≢ 0 → (contents_of f m).n ≡ 0
+  refused_n g = ap (λ (x : Contents). x.n) (contents_refused f m g) ∙ no_contents_n
 
   abbrev Within : (c : Contents) → Type 0
   Within c = c.changes.at + 5 * c.changes.count ≤ length f
 
-  pub changes-within : (c : Contents) → c ≡ contentsOf f m → Within c
-  changes-within c is = rw is (go (ℕ_discrete (readRefusal f m) 0))
+  pub changes_within : (c : Contents) → c ≡ contents_of f m → Within c
+  changes_within c is = rw is (go (ℕ_discrete (read_refusal f m) 0))
     where
-      go : Dec (readRefusal f m ≡ 0) → Within (contentsOf f m)
-      go (yes z) = omega (arith, starts z, counted z, (file-accepted f m z).size)
+      go : Dec (read_refusal f m ≡ 0) → Within (contents_of f m)
+      go (yes z) = omega (arith, starts z, counted z, (file_accepted f m z).size)
       go (no g) =
-          let at = ap (λ (x : Contents). x.changes.at) (contents-refused f m g) in
-          let count = ap (λ (x : Contents). x.changes.count) (contents-refused f m g) in
-          omega (arith, at, count, no-contents-changes.0, no-contents-changes.1)
+          let at = ap (λ (x : Contents). x.changes.at) (contents_refused f m g) in
+          let count = ap (λ (x : Contents). x.changes.count) (contents_refused f m g) in
+          omega (arith, at, count, no_contents_changes.0, no_contents_changes.1)
 
   module _ (t : Tables) where
     -- ---- where nothing is refused
     module _ (z : refusal f m t ≡ 0) where
       both :
-          (readRefusal f m ≡ 0)
-          × (planRefusal (routers f) (stepTime New f) (metrics f) (changes f) (areTables (metrics f) t) ≡ 0)
+          (read_refusal f m ≡ 0)
+          × (plan_refusal (routers f) (step_time New f) (metrics f) (changes f) (are_tables (metrics f) t) ≡ 0)
       unfolding refusal
-      both = then-both (readRefusal f m) _ z
+      both = then_both (read_refusal f m) _ z
 
-      pub read-passed : readRefusal f m ≡ 0
-      read-passed = both.0
+      pub read_passed : read_refusal f m ≡ 0
+      read_passed = both.0
 
-      pub file-of : Accepted New f
-      file-of = file-accepted f m read-passed
+      pub file_of_lem : Accepted New f
+      file_of_lem = file_accepted f m read_passed
 
-      pub plan-passed : Plan (routers f) (metrics f) (changes f)
-      plan-passed = plan-of (routers f) (stepTime New f) (metrics f) (changes f) t both.1
+      pub plan_passed : Plan (routers f) (metrics f) (changes f)
+      plan_passed = plan_of (routers f) (step_time New f) (metrics f) (changes f) t both.1
 
-      pub record-passed : recordAt f m t ≡ planned f
-      unfolding recordAt
-      record-passed = rw (eq-eqb (refusal f m t) 0 z) refl
+      pub record_passed : record_at f m t ≡ planned f
+      unfolding record_at
+      record_passed = rw (eq-eqb (refusal f m t) 0 z) refl
 
-      pub tables-passed : tablesAt f m t ≡ filledTables f
-      unfolding tablesAt
-      tables-passed = rw (eq-eqb (refusal f m t) 0 z) refl
+      pub tables_passed : tables_at f m t ≡ filled_tables f
+      unfolding tables_at
+      tables_passed = rw (eq-eqb (refusal f m t) 0 z) refl
 
     -- ---- where something is refused
     module _ (g : refusal f m t ≢ 0) where
-      record-blank : recordAt f m t ≡ blank
-      unfolding recordAt
-      record-blank = rw (ne_eqb (refusal f m t) 0 g) refl
+      record_blank : record_at f m t ≡ blank
+      unfolding record_at
+      record_blank = rw (ne_eqb (refusal f m t) 0 g) refl
 
-      tables-kept : tablesAt f m t ≡ t
-      unfolding tablesAt
-      tables-kept = rw (ne_eqb (refusal f m t) 0 g) refl
+      tables_kept : tables_at f m t ≡ t
+      unfolding tables_at
+      tables_kept = rw (ne_eqb (refusal f m t) 0 g) refl
 
     -- ---- Read, and then Plan on what Read gives
     -- its n, its times, its list, and Plan's refusal
     abbrev n : ℕ
-    n = (contentsOf f m).n
+    n = (contents_of f m).n
 
     abbrev hold : ℕ
-    hold = (contentsOf f m).hold_time
+    hold = (contents_of f m).hold_time
 
     abbrev step : ℕ
-    step = (contentsOf f m).step_time
+    step = (contents_of f m).step_time
 
     abbrev list : List ℕ
-    list = listed f (contentsOf f m)
+    list = listed f (contents_of f m)
 
     abbrev then : ℕ
-    then = planRefusal n step (metricsOf f m) list (areTables (metricsOf f m) t)
+    then = plan_refusal n step (metrics_of f m) list (are_tables (metrics_of f m) t)
 
     then_is :
-        readRefusal f m ≡ 0
-        → then ≡ planRefusal (routers f) (stepTime New f) (metrics f) (changes f) (areTables (metrics f) t)
-    then_is z = rw (n-is z, step_is z, old-is z, list-is z) refl
+        read_refusal f m ≡ 0
+        → then ≡ plan_refusal (routers f) (step_time New f) (metrics f) (changes f) (are_tables (metrics f) t)
+    then_is z = rw (n_is z, step_is z, old_is z, list_is z) refl
 
-    then-refused : readRefusal f m ≢ 0 → then ≢ 0
-    then-refused g e =
-        let none = router-count-low n (omega (arith, refused-n g)) in
-        let three = plan-count n step (metricsOf f m) list (areTables (metricsOf f m) t) none in
+    then_refused : read_refusal f m ≢ 0 → then ≢ 0
+    then_refused g e =
+        let none = router_count_low n (omega (arith, refused_n g)) in
+        let three = plan_count n step (metrics_of f m) list (are_tables (metrics_of f m) t) none in
         omega (arith, three, e)
 
-    refusal-both : orThen (readRefusal f m) then ≡ refusal f m t
+    refusal_both : or_then (read_refusal f m) then ≡ refusal f m t
     unfolding refusal
-    refusal-both = go (ℕ_discrete (readRefusal f m) 0)
+    refusal_both = go (ℕ_discrete (read_refusal f m) 0)
       where
-        go : Dec (readRefusal f m ≡ 0) → orThen (readRefusal f m) then ≡ refusal f m t
-        go (yes z) = ap (orThen (readRefusal f m)) (then_is z)
-        go (no g) = then_some (readRefusal f m) then g ∙ sym (then_some (readRefusal f m) _ g)
+        go : Dec (read_refusal f m ≡ 0) → or_then (read_refusal f m) then ≡ refusal f m t
+        go (yes z) = ap (or_then (read_refusal f m)) (then_is z)
+        go (no g) = then_some (read_refusal f m) then g ∙ sym (then_some (read_refusal f m) _ g)
 
     -- where the file is refused, Plan refuses what it is given
-    plan-refused : refusal f m t ≢ 0 → then ≢ 0
-    plan-refused g e = go (ℕ_discrete (readRefusal f m) 0)
+    plan_refused : refusal f m t ≢ 0 → then ≢ 0
+    plan_refused g e = go (ℕ_discrete (read_refusal f m) 0)
       where
-        go : Dec (readRefusal f m ≡ 0) → ⊥
-        go (yes z) = g (sym refusal-both ∙ then-none (readRefusal f m) then z ∙ e)
-        go (no h) = then-refused h e
+        go : Dec (read_refusal f m ≡ 0) → ⊥
+        go (yes z) = g (sym refusal_both ∙ then_none (read_refusal f m) then z ∙ e)
+        go (no h) = then_refused h e
 
-    planned-is : refusal f m t ≡ 0 → isPlanned (routers f) (stepTime New f) (metrics f) (changes f) t ≡ true
-    planned-is z = planned-true (routers f) (stepTime New f) (metrics f) (changes f) t (both z).1
+    planned_is : refusal f m t ≡ 0 → is_planned (routers f) (step_time New f) (metrics f) (changes f) t ≡ true
+    planned_is z = planned_true (routers f) (step_time New f) (metrics f) (changes f) t (both z).1
 
-    record-both : recordOf n hold step (metricsOf f m) list t ≡ recordAt f m t
-    record-both = go (ℕ_discrete (refusal f m t) 0)
+    record_both : record_of n hold step (metrics_of f m) list t ≡ record_at f m t
+    record_both = go (ℕ_discrete (refusal f m t) 0)
       where
-        go : Dec (refusal f m t ≡ 0) → recordOf n hold step (metricsOf f m) list t ≡ recordAt f m t
+        go : Dec (refusal f m t ≡ 0) → record_of n hold step (metrics_of f m) list t ≡ record_at f m t
         go (yes z) =
-            let read = read-passed z in
+            let read = read_passed z in
             let fresh =
-            record-planned (routers f) (holdTime New f) (stepTime New f) (metrics f) (changes f) t (planned-is z) in
-            rw (n-is read, hold-is read, step_is read, old-is read, list-is read) (fresh ∙ sym (record-passed z))
-        go (no g) = record-refused _ _ _ _ _ t (planned-false _ _ _ _ t (plan-refused g)) ∙ sym (record-blank g)
+            record_planned (routers f) (hold_time New f) (step_time New f) (metrics f) (changes f) t (planned_is z) in
+            rw (n_is read, hold_is read, step_is read, old_is read, list_is read) (fresh ∙ sym (record_passed z))
+        go (no g) = record_refused _ _ _ _ _ t (planned_false _ _ _ _ t (plan_refused g)) ∙ sym (record_blank g)
 
-    tables-both : fills n step (metricsOf f m) list t ≡ tablesAt f m t
-    tables-both = go (ℕ_discrete (refusal f m t) 0)
+    tables_both : fills n step (metrics_of f m) list t ≡ tables_at f m t
+    tables_both = go (ℕ_discrete (refusal f m t) 0)
       where
-        go : Dec (refusal f m t ≡ 0) → fills n step (metricsOf f m) list t ≡ tablesAt f m t
+        go : Dec (refusal f m t ≡ 0) → fills n step (metrics_of f m) list t ≡ tables_at f m t
         go (yes z) =
-            let read = read-passed z in
-            let new = tables-planned (routers f) (stepTime New f) (metrics f) (changes f) t (planned-is z) in
-            rw (n-is read, step_is read, old-is read, list-is read) (new ∙ sym (tables-passed z))
-        go (no g) = tables-refused _ _ _ _ t (planned-false _ _ _ _ t (plan-refused g)) ∙ sym (tables-kept g)
+            let read = read_passed z in
+            let new = tables_planned (routers f) (step_time New f) (metrics f) (changes f) t (planned_is z) in
+            rw (n_is read, step_is read, old_is read, list_is read) (new ∙ sym (tables_passed z))
+        go (no g) = tables_refused _ _ _ _ t (planned_false _ _ _ _ t (plan_refused g)) ∙ sym (tables_kept g)
 
     -- c is what Read says of the file, old the table that it leaves, and l the list that Plan gets
     module _
-        (c : Contents) (is : c ≡ contentsOf f m)
-        (old : List ℕ) (filled : old ≡ metricsOf f m)
+        (c : Contents) (is : c ≡ contents_of f m)
+        (old : List ℕ) (filled : old ≡ metrics_of f m)
         (l : List ℕ) (part : l ≡ listed f c)
       where
-        pub refusal-given :
+        pub refusal_given :
             {a b k : ℕ}
-            → a ≡ readRefusal f m
-            → b ≡ planRefusal c.n c.step_time old l (areTables old t)
-            → k ≡ orThen a b
+            → a ≡ read_refusal f m
+            → b ≡ plan_refusal c.n c.step_time old l (are_tables old t)
+            → k ≡ or_then a b
             → k ≡ refusal f m t
-        refusal-given u v w = w ∙ ap₂ orThen u (rw (part, filled, is) at v) ∙ refusal-both
+        refusal_given u v w = w ∙ ap₂ or_then u (rw (part, filled, is) at v) ∙ refusal_both
 
-        pub record-given :
+        pub record_given :
             {r : Record}
-            → r ≡ recordOf c.n c.hold_time c.step_time old l t
-            → r ≡ recordAt f m t
-        record-given u = (rw (part, filled, is) at u) ∙ record-both
+            → r ≡ record_of c.n c.hold_time c.step_time old l t
+            → r ≡ record_at f m t
+        record_given u = (rw (part, filled, is) at u) ∙ record_both
 
-        pub tables-given : {u : Tables} → u ≡ fills c.n c.step_time old l t → u ≡ tablesAt f m t
-        tables-given u = (rw (part, filled, is) at u) ∙ tables-both
+        pub tables_given : {u : Tables} → u ≡ fills c.n c.step_time old l t → u ≡ tables_at f m t
+        tables_given u = (rw (part, filled, is) at u) ∙ tables_both
 
 -- ---- the first bytes of an input, more than the largest file has
 -- where Read refuses, its number is the refusal
-refusal-read : (f m : List ℕ) (t : Tables) → readRefusal f m ≢ 0 → refusal f m t ≡ readRefusal f m
+refusal_read : (f m : List ℕ) (t : Tables) → read_refusal f m ≢ 0 → refusal f m t ≡ read_refusal f m
 unfolding refusal
-refusal-read f m t g = then_some (readRefusal f m) _ g
+refusal_read f m t g = then_some (read_refusal f m) _ g
 
 module _ (f m : List ℕ) (t : Tables) where
-  whole : readRefusal f m ≡ 0 → (k : ℕ) → largest < k → take k f ≡ f
-  whole z k more = take_all k f (omega (arith, file-largest f m z))
+  whole : read_refusal f m ≡ 0 → (k : ℕ) → largest < k → take k f ≡ f
+  whole z k more = take_all k f (omega (arith, file_largest f m z))
 
   -- a file that is not refused has no byte beyond them
-  pub first-all : refusal f m t ≡ 0 → (k : ℕ) → largest < k → take k f ≡ f
-  first-all z = whole (read-passed f m t z)
+  pub first_all : refusal f m t ≡ 0 → (k : ℕ) → largest < k → take k f ≡ f
+  first_all z = whole (read_passed f m t z)
 
   -- and they are refused as all of it is
-  pub refusal-first : (k : ℕ) → largest < k → refusal (take k f) m t ≡ refusal f m t
-  refusal-first k more = by_read (ℕ_discrete (readRefusal f m) 0)
+  pub refusal_first : (k : ℕ) → largest < k → refusal (take k f) m t ≡ refusal f m t
+  refusal_first k more = by_read (ℕ_discrete (read_refusal f m) 0)
     where
-      same : readRefusal (take k f) m ≡ readRefusal f m
-      same = (first-bytes f m k more).0
+      same : read_refusal (take k f) m ≡ read_refusal f m
+      same = (first_bytes f m k more).0
 
-      by_read : Dec (readRefusal f m ≡ 0) → refusal (take k f) m t ≡ refusal f m t
+      by_read : Dec (read_refusal f m ≡ 0) → refusal (take k f) m t ≡ refusal f m t
       by_read (yes z) = ap (λ (l : List ℕ). refusal l m t) (whole z k more)
       by_read (no g) =
-          refusal-read (take k f) m t (λ z. g (sym same ∙ z))
+          refusal_read (take k f) m t (λ z. g (sym same ∙ z))
           ∙ same
-          ∙ sym (refusal-read f m t g)
+          ∙ sym (refusal_read f m t g)

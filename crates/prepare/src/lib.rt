@@ -4,11 +4,11 @@
 //     started      both answers put together; `first` takes the first refusal of the two
 // What it promises is specs/Bench.antt; that Plan gets what the file says is specs/BenchLaws.antt.
 ghost use Rattle.std.specs.Prelude.{◌≡◌, ◌+◌, ◌*◌, ◌≤◌, length};
-ghost use Rattle.area.specs.Refusals.{verdictNumber};
-ghost use Rattle.area.specs.Tests.{orThen};
-ghost use Rattle.plan.specs.Plan.{tablesIn};
-ghost use Rattle.bench_file.specs.Read.{contentsOf, metricsOf};
-ghost use Rattle.prepare.specs.Bench.{refusal, recordAt, tablesAt, listed};
+ghost use Rattle.area.specs.Refusals.{verdict_number};
+ghost use Rattle.area.specs.Tests.{or_then};
+ghost use Rattle.plan.specs.Plan.{tables_in};
+ghost use Rattle.bench_file.specs.Read.{contents_of, metrics_of};
+ghost use Rattle.prepare.specs.Bench.{refusal, record_at, tables_at, listed};
 
 use area::limits::{ENTRY, Set};
 use bench_file::{BenchFile, Contents, Section, read};
@@ -35,23 +35,23 @@ pub fn prepare(
     new_hops: &mut [Set],
     new_fours: &mut [Set],
 ) -> Start
-    ensures refusal { let lent = tablesIn new.entry
+    ensures refusal { let lent = tables_in new.entry
         old_dist.entry old_hops.entry old_fours.entry
         new_dist.entry new_hops.entry new_fours.entry in
         result.refusal ≡ refusal file.now old.old lent }
-    ensures record { let lent = tablesIn new.entry
+    ensures record { let lent = tables_in new.entry
         old_dist.entry old_hops.entry old_fours.entry
         new_dist.entry new_hops.entry new_fours.entry in
-        result.record ≡ recordAt file.now old.old lent }
-    ensures steps { result.steps ≡ (contentsOf file.now old.old).steps }
-    ensures metrics { old.new ≡ metricsOf file.now old.old }
-    ensures tables { let lent = tablesIn new.entry
+        result.record ≡ record_at file.now old.old lent }
+    ensures steps { result.steps ≡ (contents_of file.now old.old).steps }
+    ensures metrics { old.new ≡ metrics_of file.now old.old }
+    ensures tables { let lent = tables_in new.entry
         old_dist.entry old_hops.entry old_fours.entry
         new_dist.entry new_hops.entry new_fours.entry in
-        let left = tablesIn new.exit
+        let left = tables_in new.exit
         old_dist.exit old_hops.exit old_fours.exit
         new_dist.exit new_hops.exit new_fours.exit in
-        left ≡ tablesAt file.now old.old lent }
+        left ≡ tables_at file.now old.old lent }
 {
     let found = read(file, old);
     let contents = found.contents;
@@ -87,7 +87,7 @@ fn changes(file: &[u8], contents: Contents) -> &[u8]
 
 // What Read and Plan gave, put together.
 fn started(found: BenchFile, planned: Planned) -> Start
-    ensures refusal_value { result.refusal ≡ orThen (verdictNumber found.answer) (verdictNumber planned.answer) }
+    ensures refusal_value { result.refusal ≡ or_then (verdict_number found.answer) (verdict_number planned.answer) }
     ensures record_value { result.record ≡ planned.record }
     ensures steps_value { result.steps ≡ found.contents.steps }
 {
@@ -105,7 +105,7 @@ fn started(found: BenchFile, planned: Planned) -> Start
 
 // The first of two refusals, by their numbers; 0 stands for none.
 fn first(a: u8, b: u8) -> u8
-    ensures { result ≡ orThen a b }
+    ensures { result ≡ or_then a b }
 {
     if a == 0 { b } else { a }
 }

@@ -2,12 +2,12 @@
 --     Chain, IsRank        what a rank is, over chains of any length
 --     IsLongest            the same over chains of at most h links among n routers
 --     longest, rank        what computes it. RankLaws.antt: `rank` is over chains of at most n - 1 links for every w
---                          (`rank-longest`), and it is the rank where no chain meets a router twice (`rank-distinct`)
---     ranksOf              the table of ranks
+--                          (`rank_longest`), and it is the rank where no chain meets a router twice (`rank_distinct`)
+--     ranks_of              the table of ranks
 use Rattle.std.specs.Prelude.{ℕ, zero, suc, ◌-◌, ◌≤◌, ◌<◌, max, ◌≡◌, true, List, [], ◌∷◌, leb, get_or, replicate}
 use Rattle.area.specs.Limits.{width}
 use Rattle.area.specs.Tests.{pick}
-use Rattle.area.specs.Tables.{perRouter}
+use Rattle.area.specs.Tables.{per_router}
 use Rattle.sets.specs.Sets.{bit}
 
 -- ---- what a rank is
@@ -67,5 +67,5 @@ unfoldable pub rank : (n : ℕ) (w : ℕ → ℕ) (r : ℕ) → ℕ
 rank n w r = longest n w (n - 1) r
 
 -- The table of ranks by a table t of the sets that routers wait for; zeros where n is above the width.
-unfoldable pub ranksOf : (n : ℕ) (t : List ℕ) → List ℕ
-ranksOf n t = pick (leb n width) (perRouter width n (rank n (λ r. get_or t r 0))) (replicate width 0)
+unfoldable pub ranks_of : (n : ℕ) (t : List ℕ) → List ℕ
+ranks_of n t = pick (leb n width) (per_router width n (rank n (λ r. get_or t r 0))) (replicate width 0)

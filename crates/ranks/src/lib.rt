@@ -9,8 +9,8 @@
 ghost use Rattle.std.specs.Prelude.{◌≡◌, ℕ, ◌≤◌, ◌<◌, eqb, get_or};
 ghost use Rattle.area.specs.Limits.{width};
 ghost use Rattle.area.specs.Tests.{all};
-ghost use Rattle.area.specs.Tables.{perRouter};
-ghost use Rattle.ranks.specs.Rank.{above, rank, ranksOf};
+ghost use Rattle.area.specs.Tables.{per_router};
+ghost use Rattle.ranks.specs.Rank.{above, rank, ranks_of};
 
 use area::limits::{Set, WIDTH};
 use sets::{lowest, rest};
@@ -18,7 +18,7 @@ use sets::{lowest, rest};
 // For each of n routers the links of a longest chain of at most n - 1 links; members of a waiting set from n on are not
 // read. This is its rank where no chain meets a router twice. All is 0 where n is above WIDTH.
 pub fn ranks(n: usize, waiting: [Set; WIDTH]) -> [u8; WIDTH]
-    ensures ranks { result ≡ ranksOf n waiting }
+    ensures ranks { result ≡ ranks_of n waiting }
 {
     if WIDTH < n {
         return [0; WIDTH];
@@ -29,7 +29,7 @@ pub fn ranks(n: usize, waiting: [Set; WIDTH]) -> [u8; WIDTH]
 // Each round allows chains of one link more, up to n - 1. After a round that changes nothing no round changes anything.
 fn by_rounds(n: usize, waiting: &[Set; WIDTH]) -> [u8; WIDTH]
     requires { n ≤ width }
-    ensures { result ≡ perRouter width n (rank n (λ r. get_or waiting.now r 0)) }
+    ensures { result ≡ per_router width n (rank n (λ r. get_or waiting.now r 0)) }
 {
     let mut ranks = [0u8; WIDTH];
     for h in 1..n {
@@ -58,7 +58,7 @@ fn agree(n: usize, a: &[u8; WIDTH], b: &[u8; WIDTH]) -> bool
 // One round: for each router one more than the largest rank of those below n that it waits for, 0 where there is none.
 fn longer(n: usize, waiting: &[Set; WIDTH], ranks: &[u8; WIDTH]) -> [u8; WIDTH]
     requires { (n ≤ width) × ((s : ℕ) → s < n → get_or ranks.now s 0 < 255) }
-    ensures { result ≡ perRouter width n (λ r. above n (get_or waiting.now r 0) (λ s. get_or ranks.now s 0)) }
+    ensures { result ≡ per_router width n (λ r. above n (get_or waiting.now r 0) (λ s. get_or ranks.now s 0)) }
 {
     let mut out = [0u8; WIDTH];
     for r in 0..n {

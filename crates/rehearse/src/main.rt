@@ -3,7 +3,7 @@
 // whole input; this program lends the tables, and buffers that have room for both.
 ghost use Rattle.std.specs.Prelude.{◌≡◌, List, ℕ, ◌<◌, length, take};
 ghost use Rattle.io.specs.Counts.{IsPrefixLen};
-ghost use Rattle.plan.specs.Plan.{tablesIn};
+ghost use Rattle.plan.specs.Plan.{tables_in};
 ghost use Rattle.bench_file.specs.Sections.{largest};
 ghost use Rattle.report.specs.Report.{rehearsal};
 ghost use Rattle.streams.specs.Streams.{ReadOf};
@@ -61,7 +61,7 @@ fn whole(
     requires largest_in_bounds { largest < length file.now }
     requires prefix_len { IsPrefixLen count file.now }
     ensures counted { IsPrefixLen result out.new }
-    ensures text { let lent = tablesIn new.entry
+    ensures text { let lent = tables_in new.entry
         old_dist.entry old_hops.entry old_fours.entry
         new_dist.entry new_hops.entry new_fours.entry in
         ((input : List ℕ)

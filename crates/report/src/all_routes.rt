@@ -3,7 +3,7 @@
 ghost use Rattle.std.specs.Prelude.{◌≡◌, ◌≤◌, ◌<◌, length};
 ghost use Rattle.area.specs.Limits.{width};
 ghost use Rattle.text.specs.Text.{Appended};
-ghost use Rattle.report.specs.Lines.{isPrinted, pairText, row_lines, routeLines, routesLines};
+ghost use Rattle.report.specs.Lines.{is_printed, pair_text, row_lines, route_lines, routes_lines};
 ghost use Rattle.report.specs.ReportLaws.{Full};
 
 use crate::lines::{Path, route_line};
@@ -21,7 +21,7 @@ pub(crate) fn printed(
 ) -> usize
     requires n_le_width { n ≤ width }
     requires full { Full old_dist.now old_hops.now new_dist.now new_hops.now }
-    ensures lines { let lines = routesLines
+    ensures lines { let lines = routes_lines
         old_dist.now old_hops.now
         new_dist.now new_hops.now n in
         Appended out.old 0 lines out.new result }
@@ -42,7 +42,7 @@ fn route_lines(
 ) -> usize
     requires n_le_width { (n ≤ width) × (start ≤ length out.old) }
     requires full { Full old_dist.now old_hops.now new_dist.now new_hops.now }
-    ensures lines { let lines = routeLines
+    ensures lines { let lines = route_lines
         old_dist.now old_hops.now
         new_dist.now new_hops.now n n in
         Appended out.old start lines out.new result }
@@ -91,7 +91,7 @@ fn row_lines(
 // The line of a pair, where it has one.
 fn pair_text(i: usize, j: usize, before: Path, after: Path, out: &mut [u8], at: usize) -> usize
     requires { (i < width) × (j < width) × (at ≤ length out.old) }
-    ensures text { Appended out.old at (pairText i j before after) out.new result }
+    ensures text { Appended out.old at (pair_text i j before after) out.new result }
 {
     if is_printed(i, j, before, after) {
         return route_line(i as u64, j as u64, before, after, out, at);
@@ -101,7 +101,7 @@ fn pair_text(i: usize, j: usize, before: Path, after: Path, out: &mut [u8], at: 
 
 // Has the pair a line?
 fn is_printed(i: usize, j: usize, before: Path, after: Path) -> bool
-    ensures answer { result ≡ isPrinted i j before after }
+    ensures answer { result ≡ is_printed i j before after }
 {
     if i == j {
         return false;

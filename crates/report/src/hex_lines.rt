@@ -2,15 +2,15 @@
 ghost use Rattle.std.specs.Prelude.{◌++◌};
 ghost use Rattle.machine.specs.Run.{call};
 ghost use Rattle.text.specs.Text.{Appended};
-ghost use Rattle.hex.specs.Digits.{hexByte};
-ghost use Rattle.report.specs.Lines.{countLine, callLine};
+ghost use Rattle.hex.specs.Digits.{hex_byte};
+ghost use Rattle.report.specs.Lines.{count_line, call_line};
 
 use hex::hex_byte;
 use text::append;
 
 // The count of steps.
 pub(crate) fn count_line(count: u16, out: &mut [u8], at: usize) -> usize
-    ensures line { Appended out.old at (countLine count) out.new result }
+    ensures line { Appended out.old at (count_line count) out.new result }
 {
     let at = hex_byte((count / 256) as u8, out, at);
     byte_then((count % 256) as u8, b"\n", out, at)
@@ -18,7 +18,7 @@ pub(crate) fn count_line(count: u16, out: &mut [u8], at: usize) -> usize
 
 // A call of this kind.
 pub(crate) fn call_line(kind: u8, a: u8, b: u8, out: &mut [u8], at: usize) -> usize
-    ensures line { Appended out.old at (callLine (call kind a b)) out.new result }
+    ensures line { Appended out.old at (call_line (call kind a b)) out.new result }
 {
     let at = byte_then(kind, b" ", out, at);
     let at = byte_then(a, b" ", out, at);
@@ -27,7 +27,7 @@ pub(crate) fn call_line(kind: u8, a: u8, b: u8, out: &mut [u8], at: usize) -> us
 
 // The digits of a byte, and what stands after them.
 fn byte_then(x: u8, after: &[u8], out: &mut [u8], at: usize) -> usize
-    ensures text { Appended out.old at (hexByte x ++ after.now) out.new result }
+    ensures text { Appended out.old at (hex_byte x ++ after.now) out.new result }
 {
     let at = hex_byte(x, out, at);
     append(out, at, after)

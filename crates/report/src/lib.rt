@@ -25,12 +25,12 @@ mod turns;
 mod unfinished_routers;
 
 ghost use Rattle.std.specs.Prelude.{◌≡◌};
-ghost use Rattle.plan.specs.Plan.{tablesIn};
-ghost use Rattle.bench_file.specs.Read.{metricsOf};
+ghost use Rattle.plan.specs.Plan.{tables_in};
+ghost use Rattle.bench_file.specs.Read.{metrics_of};
 ghost use Rattle.text.specs.Text.{Appended};
-ghost use Rattle.prepare.specs.Bench.{tablesAt};
-ghost use Rattle.report.specs.Report.{unlessRefused, text_of};
-ghost use Rattle.report.specs.ReportLaws.{Within, Ready, linesBy, stepBytes};
+ghost use Rattle.prepare.specs.Bench.{tables_at};
+ghost use Rattle.report.specs.Report.{unless_refused, text_of};
+ghost use Rattle.report.specs.ReportLaws.{Within, Ready, lines_by, step_bytes};
 
 use area::limits::{CELLS, MOST_STEPS, STEP, Set, WIDTH};
 use bench_file::Section;
@@ -74,19 +74,19 @@ pub fn print(
     new_fours: &mut [Set],
     out: &mut [u8],
 ) -> usize
-    ensures text { let lent = tablesIn new.entry
+    ensures text { let lent = tables_in new.entry
         old_dist.entry old_hops.entry old_fours.entry
         new_dist.entry new_hops.entry new_fours.entry in
         Appended out.old 0
         (text_of text file.now old.old lent) out.new result }
-    ensures metrics { old.new ≡ metricsOf file.now old.old }
-    ensures tables { let lent = tablesIn new.entry
+    ensures metrics { old.new ≡ metrics_of file.now old.old }
+    ensures tables { let lent = tables_in new.entry
         old_dist.entry old_hops.entry old_fours.entry
         new_dist.entry new_hops.entry new_fours.entry in
-        let left = tablesIn new.exit
+        let left = tables_in new.exit
         old_dist.exit old_hops.exit old_fours.exit
         new_dist.exit new_hops.exit new_fours.exit in
-        left ≡ tablesAt file.now old.old lent }
+        left ≡ tables_at file.now old.old lent }
 {
     let start = prepare(
         file, old, new, old_dist, old_hops, old_fours, new_dist, new_hops, new_fours,
@@ -109,12 +109,12 @@ fn printed(
 ) -> usize
     requires { start.refusal ≡ 0
         → Within file.now start.steps
-        × Ready start.record (stepBytes file.now start.steps)
+        × Ready start.record (step_bytes file.now start.steps)
         old_dist.now old_hops.now new_dist.now new_hops.now }
-    ensures text { let lines = linesBy text start.record (stepBytes file.now start.steps)
+    ensures text { let lines = lines_by text start.record (step_bytes file.now start.steps)
         old_dist.now old_hops.now
         new_dist.now new_hops.now in
-        Appended out.old 0 (unlessRefused start.refusal lines) out.new result }
+        Appended out.old 0 (unless_refused start.refusal lines) out.new result }
 {
     if start.refusal != 0 {
         return refused_line(out, 0, start.refusal);
@@ -130,7 +130,7 @@ fn printed(
 // The bytes of a file's steps, by where they are.
 fn step_bytes(file: &[u8], section: Section) -> &[u8]
     requires { Within file.now section }
-    ensures bytes { result.now ≡ stepBytes file.now section }
+    ensures bytes { result.now ≡ step_bytes file.now section }
 {
     let from = section.at;
     let to = from + STEP * section.count;
@@ -149,7 +149,7 @@ fn text_lines(
     out: &mut [u8],
 ) -> usize
     requires { Ready fresh bytes.now old_dist.now old_hops.now new_dist.now new_hops.now }
-    ensures lines { let lines = linesBy text fresh bytes.now
+    ensures lines { let lines = lines_by text fresh bytes.now
         old_dist.now old_hops.now
         new_dist.now new_hops.now in
         Appended out.old 0 lines out.new result }

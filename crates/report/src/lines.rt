@@ -2,12 +2,12 @@
 // is returned is where it ends then.
 ghost use Rattle.std.specs.Prelude.{◌++◌, ◌≤◌, ◌<◌, length};
 ghost use Rattle.area.specs.Limits.{width};
-ghost use Rattle.machine.specs.Answers.{replyOf};
+ghost use Rattle.machine.specs.Answers.{reply_of};
 ghost use Rattle.text.specs.Text.{Appended, word, field};
-ghost use Rattle.report.specs.Lines.{routerLine, answerText, stepLine, path_text, routeLine};
-ghost use Rattle.report.specs.Lines.{memberWord, memberText, setText, turnLine};
-ghost use Rattle.report.specs.Lines.{stateWord, holdText, lastWait, waitText, unfinishedLine};
-ghost use Rattle.report.specs.UnfinishedLaws.{timesEnd};
+ghost use Rattle.report.specs.Lines.{router_line, answer_text, step_line, path_text, route_line};
+ghost use Rattle.report.specs.Lines.{member_word, member_text, set_text, turn_line};
+ghost use Rattle.report.specs.Lines.{state_word, hold_text, last_wait, wait_text, unfinished_line};
+ghost use Rattle.report.specs.UnfinishedLaws.{times_end};
 
 use area::limits::{Set, UNREACHED, WIDTH};
 use machine::Answer;
@@ -32,7 +32,7 @@ pub(crate) fn router_line(
     out: &mut [u8],
     at: usize,
 ) -> usize
-    ensures line { Appended out.old at (routerLine i rank waits tells due) out.new result }
+    ensures line { Appended out.old at (router_line i rank waits tells due) out.new result }
 {
     let at = field(out, at, b"router ", i);
     let at = field(out, at, b" rank ", rank as u64);
@@ -43,7 +43,7 @@ pub(crate) fn router_line(
 
 // The line of step k.
 pub(crate) fn step_line(k: u64, answer: Answer, out: &mut [u8], at: usize) -> usize
-    ensures line { Appended out.old at (stepLine k (replyOf answer)) out.new result }
+    ensures line { Appended out.old at (step_line k (reply_of answer)) out.new result }
 {
     let at = field(out, at, b"step ", k);
     answer_text(answer, out, at)
@@ -51,7 +51,7 @@ pub(crate) fn step_line(k: u64, answer: Answer, out: &mut [u8], at: usize) -> us
 
 // An answer, up to the end of its line.
 fn answer_text(answer: Answer, out: &mut [u8], at: usize) -> usize
-    ensures text { Appended out.old at (answerText (replyOf answer)) out.new result }
+    ensures text { Appended out.old at (answer_text (reply_of answer)) out.new result }
 {
     match answer {
         Answer::Ok => append(out, at, b" ok\n"),
@@ -69,7 +69,7 @@ pub(crate) fn route_line(
     out: &mut [u8],
     at: usize,
 ) -> usize
-    ensures line { Appended out.old at (routeLine i j before after) out.new result }
+    ensures line { Appended out.old at (route_line i j before after) out.new result }
 {
     let at = ends(i, j, out, at);
     let at = side(b" old", before, out, at);
@@ -113,7 +113,7 @@ pub(crate) fn turn_line(
     out: &mut [u8],
     at: usize,
 ) -> usize
-    ensures line { Appended out.old at (turnLine k router writes tells) out.new result }
+    ensures line { Appended out.old at (turn_line k router writes tells) out.new result }
 {
     let at = field(out, at, b"turn ", k);
     let at = field(out, at, b" router ", router as u64);
@@ -134,7 +134,7 @@ pub(crate) fn unfinished_line(
     at: usize,
 ) -> usize
     ensures line { Appended out.old at
-        (unfinishedLine i state waits unwritten until due) out.new result }
+        (unfinished_line i state waits unwritten until due) out.new result }
 {
     let at = field(out, at, b"router ", i);
     let at = state_word(state, out, at);
@@ -145,7 +145,7 @@ pub(crate) fn unfinished_line(
 
 // The times of a router, and the end of its line.
 fn times_end(state: State, waits: Set, until: u64, due: u64, out: &mut [u8], at: usize) -> usize
-    ensures text { Appended out.old at (timesEnd state waits until due) out.new result }
+    ensures text { Appended out.old at (times_end state waits until due) out.new result }
 {
     let at = hold_text(state, until, out, at);
     let at = wait_text(state, waits, due, out, at);
@@ -154,7 +154,7 @@ fn times_end(state: State, waits: Set, until: u64, due: u64, out: &mut [u8], at:
 
 // Until when a router holds, where it does.
 fn hold_text(state: State, until: u64, out: &mut [u8], at: usize) -> usize
-    ensures text { Appended out.old at (holdText state until) out.new result }
+    ensures text { Appended out.old at (hold_text state until) out.new result }
 {
     match state {
         State::Idle => append(out, at, b""),
@@ -166,7 +166,7 @@ fn hold_text(state: State, until: u64, out: &mut [u8], at: usize) -> usize
 
 // When the timer lets a router go, where it waits for others.
 fn wait_text(state: State, waits: Set, due: u64, out: &mut [u8], at: usize) -> usize
-    ensures text { Appended out.old at (waitText state waits due) out.new result }
+    ensures text { Appended out.old at (wait_text state waits due) out.new result }
 {
     if waits == 0 {
         return append(out, at, b"");
@@ -176,7 +176,7 @@ fn wait_text(state: State, waits: Set, due: u64, out: &mut [u8], at: usize) -> u
 
 // The same of a router that waits for others.
 fn last_wait(state: State, due: u64, out: &mut [u8], at: usize) -> usize
-    ensures text { Appended out.old at (lastWait state due) out.new result }
+    ensures text { Appended out.old at (last_wait state due) out.new result }
 {
     match state {
         State::Idle => append(out, at, b""),
@@ -188,7 +188,7 @@ fn last_wait(state: State, due: u64, out: &mut [u8], at: usize) -> usize
 
 // The name of a state.
 fn state_word(state: State, out: &mut [u8], at: usize) -> usize
-    ensures text { Appended out.old at (stateWord state) out.new result }
+    ensures text { Appended out.old at (state_word state) out.new result }
 {
     match state {
         State::Idle => append(out, at, b" idle"),
@@ -200,7 +200,7 @@ fn state_word(state: State, out: &mut [u8], at: usize) -> usize
 
 // A set after its name.
 fn named_set(name: &[u8], set: Set, out: &mut [u8], at: usize) -> usize
-    ensures text { Appended out.old at (name.now ++ setText set) out.new result }
+    ensures text { Appended out.old at (name.now ++ set_text set) out.new result }
 {
     let at = append(out, at, name);
     set_text(set, out, at)
@@ -209,7 +209,7 @@ fn named_set(name: &[u8], set: Set, out: &mut [u8], at: usize) -> usize
 // The members of a set, or that it has none.
 fn set_text(set: Set, out: &mut [u8], at: usize) -> usize
     requires { at ≤ length out.old }
-    ensures text { Appended out.old at (setText set) out.new result }
+    ensures text { Appended out.old at (set_text set) out.new result }
 {
     if set == 0 {
         return append(out, at, b" none");
@@ -220,7 +220,7 @@ fn set_text(set: Set, out: &mut [u8], at: usize) -> usize
 // The members of a set, each after a space.
 fn member_text(set: Set, out: &mut [u8], start: usize) -> usize
     requires { start ≤ length out.old }
-    ensures text { Appended out.old start (memberText set width) out.new result }
+    ensures text { Appended out.old start (member_text set width) out.new result }
 {
     let mut at = start;
     for k in 0..WIDTH {
@@ -232,7 +232,7 @@ fn member_text(set: Set, out: &mut [u8], start: usize) -> usize
 // Router k after a space, where it is a member.
 fn one_member(set: Set, k: usize, out: &mut [u8], at: usize) -> usize
     requires { (k < width) × (at ≤ length out.old) }
-    ensures text { Appended out.old at (memberWord set k) out.new result }
+    ensures text { Appended out.old at (member_word set k) out.new result }
 {
     if member(set, k) {
         return field(out, at, b" ", k as u64);

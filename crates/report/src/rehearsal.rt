@@ -1,9 +1,9 @@
 // The rehearsal: a line for each router, one for what the change needs, one for each step, and an end.
 ghost use Rattle.std.specs.Prelude.{◌*◌, ◌≤◌, length};
-ghost use Rattle.area.specs.Limits.{width, mostSteps};
+ghost use Rattle.area.specs.Limits.{width, most_steps};
 ghost use Rattle.machine.specs.Run.{replies, calls_of};
 ghost use Rattle.text.specs.Text.{Appended};
-ghost use Rattle.report.specs.Lines.{routerLines, stepLines, rehearsalLines};
+ghost use Rattle.report.specs.Lines.{router_lines, step_lines, rehearsal_lines};
 
 use crate::lines::{router_line, step_line};
 use in_place::applied;
@@ -13,8 +13,8 @@ use text::{append, line};
 
 // The lines of the routers, of what the change needs, of the steps that the bytes stand for, and the end.
 pub(crate) fn printed(fresh: Record, bytes: &[u8], out: &mut [u8]) -> usize
-    requires { (fresh.n ≤ width) × (length bytes.now ≤ 3 * mostSteps) }
-    ensures lines { Appended out.old 0 (rehearsalLines fresh bytes.now) out.new result }
+    requires { (fresh.n ≤ width) × (length bytes.now ≤ 3 * most_steps) }
+    ensures lines { Appended out.old 0 (rehearsal_lines fresh bytes.now) out.new result }
 {
     let at = router_lines(fresh, out);
     let at = line(out, at, b"needs ", needs(fresh) as u64);
@@ -25,7 +25,7 @@ pub(crate) fn printed(fresh: Record, bytes: &[u8], out: &mut [u8]) -> usize
 // A line for each router, at the start of `out`.
 fn router_lines(fresh: Record, out: &mut [u8]) -> usize
     requires { fresh.n ≤ width }
-    ensures lines { Appended out.old 0 (routerLines fresh fresh.n) out.new result }
+    ensures lines { Appended out.old 0 (router_lines fresh fresh.n) out.new result }
 {
     let n = fresh.n as usize;
     let mut at = 0;
@@ -45,9 +45,9 @@ fn router_lines(fresh: Record, out: &mut [u8]) -> usize
 
 // A line for each step that the bytes stand for, three bytes each.
 fn step_lines(first: Record, bytes: &[u8], out: &mut [u8], at: usize) -> usize
-    requires { (length bytes.now ≤ 3 * mostSteps) × (at ≤ length out.old) }
+    requires { (length bytes.now ≤ 3 * most_steps) × (at ≤ length out.old) }
     ensures lines { let answers = replies first (calls_of bytes.now) in
-        Appended out.old at (stepLines 1 answers) out.new result }
+        Appended out.old at (step_lines 1 answers) out.new result }
 {
     let mut current = first;
     let mut end = at;

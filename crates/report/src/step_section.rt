@@ -5,9 +5,9 @@ ghost use Rattle.area.specs.Tests.{pick};
 ghost use Rattle.sets.specs.Sets.{bit};
 ghost use Rattle.machine.specs.Run.{call, ticks};
 ghost use Rattle.needs.specs.Needs.{needs};
-ghost use Rattle.sheet.specs.Follow.{each, callEach, callMembers, turn, following, sheetCalls};
+ghost use Rattle.sheet.specs.Follow.{each, call_each, call_members, turn, following, sheet_calls};
 ghost use Rattle.text.specs.Text.{Appended};
-ghost use Rattle.report.specs.Lines.{callLines, stepSection};
+ghost use Rattle.report.specs.Lines.{call_lines, step_section};
 ghost use Rattle.report.specs.CallLineLaws.{opening};
 ghost use Rattle.report.specs.ReportLaws.{Counted};
 
@@ -23,7 +23,7 @@ use text::line;
 // The section of a record's sheet, or that it has too many steps for a file.
 pub(crate) fn printed(fresh: Record, out: &mut [u8]) -> usize
     requires { (fresh.n ≤ width) × Counted fresh }
-    ensures section { Appended out.old 0 (stepSection (sheetCalls fresh)) out.new result }
+    ensures section { Appended out.old 0 (step_section (sheet_calls fresh)) out.new result }
 {
     let count = count_calls(fresh);
     if MOST_STEPS < count {
@@ -37,7 +37,7 @@ pub(crate) fn printed(fresh: Record, out: &mut [u8]) -> usize
 // A line for each call by which the routers at these places are upgraded, one after another.
 fn sheet_lines(fresh: Record, places: [u8; WIDTH], out: &mut [u8], at: usize) -> usize
     requires { (fresh.n ≤ width) × (at ≤ length out.old) }
-    ensures lines { let lines = callLines (following fresh (λ k. get_or places k 0)) in
+    ensures lines { let lines = call_lines (following fresh (λ k. get_or places k 0)) in
         Appended out.old at lines out.new result }
 {
     let n = fresh.n as usize;
@@ -57,7 +57,7 @@ fn count_calls(fresh: Record) -> usize
 // All routers learn, the hold time goes by, and all are released.
 fn opening_calls(n: usize, hold: usize, out: &mut [u8], at: usize) -> usize
     requires { (n ≤ width) × (at ≤ length out.old) }
-    ensures lines { Appended out.old at (callLines (opening n hold)) out.new result }
+    ensures lines { Appended out.old at (call_lines (opening n hold)) out.new result }
 {
     let at = router_calls(LEARN, n, out, at);
     let at = tick_calls(hold, out, at);
@@ -67,7 +67,7 @@ fn opening_calls(n: usize, hold: usize, out: &mut [u8], at: usize) -> usize
 // A call for each router.
 fn router_calls(kind: u8, n: usize, out: &mut [u8], start: usize) -> usize
     requires { (n ≤ width) × (start ≤ length out.old) }
-    ensures lines { let lines = callLines (callEach n (λ x. call kind x 0)) in
+    ensures lines { let lines = call_lines (call_each n (λ x. call kind x 0)) in
         Appended out.old start lines out.new result }
 {
     let mut at = start;
@@ -80,7 +80,7 @@ fn router_calls(kind: u8, n: usize, out: &mut [u8], start: usize) -> usize
 // So many ticks.
 fn tick_calls(count: usize, out: &mut [u8], start: usize) -> usize
     requires { start ≤ length out.old }
-    ensures lines { Appended out.old start (callLines (ticks count)) out.new result }
+    ensures lines { Appended out.old start (call_lines (ticks count)) out.new result }
 {
     let mut at = start;
     for _ in 0..count {
@@ -92,7 +92,7 @@ fn tick_calls(count: usize, out: &mut [u8], start: usize) -> usize
 // The calls of all turns.
 fn turns_calls(fresh: Record, places: [u8; WIDTH], out: &mut [u8], start: usize) -> usize
     requires { (fresh.n ≤ width) × (start ≤ length out.old) }
-    ensures lines { let lines = callLines (each fresh.n (λ k. turn fresh (get_or places k 0))) in
+    ensures lines { let lines = call_lines (each fresh.n (λ k. turn fresh (get_or places k 0))) in
         Appended out.old start lines out.new result }
 {
     let n = fresh.n as usize;
@@ -107,7 +107,7 @@ fn turns_calls(fresh: Record, places: [u8; WIDTH], out: &mut [u8], start: usize)
 // The calls of one turn: the writes, the finish and the messages.
 fn turn_calls(fresh: Record, router: u8, out: &mut [u8], at: usize) -> usize
     requires { (fresh.n ≤ width) × (at ≤ length out.old) }
-    ensures lines { Appended out.old at (callLines (turn fresh router)) out.new result }
+    ensures lines { Appended out.old at (call_lines (turn fresh router)) out.new result }
 {
     let n = fresh.n as usize;
     let due = fresh.due;
@@ -122,7 +122,7 @@ fn turn_calls(fresh: Record, router: u8, out: &mut [u8], at: usize) -> usize
 // A call of router a for each member of a set.
 fn member_calls(kind: u8, a: u8, set: Set, n: usize, out: &mut [u8], start: usize) -> usize
     requires { (n ≤ width) × (start ≤ length out.old) }
-    ensures lines { let lines = callLines (callMembers n set (λ x. call kind a x)) in
+    ensures lines { let lines = call_lines (call_members n set (λ x. call kind a x)) in
         Appended out.old start lines out.new result }
 {
     let mut at = start;
@@ -135,7 +135,7 @@ fn member_calls(kind: u8, a: u8, set: Set, n: usize, out: &mut [u8], start: usiz
 // A call of router a for x, where x is a member of the set.
 fn member_call(kind: u8, a: u8, set: Set, x: usize, out: &mut [u8], at: usize) -> usize
     requires { (x < width) × (at ≤ length out.old) }
-    ensures lines { let lines = callLines (pick (bit set x) (call kind a x ∷ []) []) in
+    ensures lines { let lines = call_lines (pick (bit set x) (call kind a x ∷ []) []) in
         Appended out.old at lines out.new result }
 {
     if member(set, x) {

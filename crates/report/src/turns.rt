@@ -2,7 +2,7 @@
 ghost use Rattle.std.specs.Prelude.{◌≤◌};
 ghost use Rattle.area.specs.Limits.{width};
 ghost use Rattle.text.specs.Text.{Appended};
-ghost use Rattle.report.specs.Lines.{turnLineOf, turn_lines, sheetLines};
+ghost use Rattle.report.specs.Lines.{turn_line_of, turn_lines, sheet_lines};
 
 use crate::lines::turn_line;
 use area::limits::WIDTH;
@@ -14,7 +14,7 @@ use text::append;
 // All lines of a record's sheet.
 pub(crate) fn printed(fresh: Record, out: &mut [u8]) -> usize
     requires { fresh.n ≤ width }
-    ensures lines { Appended out.old 0 (sheetLines fresh) out.new result }
+    ensures lines { Appended out.old 0 (sheet_lines fresh) out.new result }
 {
     let places = in_turn(fresh);
     let at = turn_lines(fresh, places, out);
@@ -37,7 +37,7 @@ fn turn_lines(fresh: Record, places: [u8; WIDTH], out: &mut [u8]) -> usize
 
 // The line of a router's turn.
 fn turn_of(fresh: Record, k: u64, router: u8, out: &mut [u8], at: usize) -> usize
-    ensures line { Appended out.old at (turnLineOf fresh k router) out.new result }
+    ensures line { Appended out.old at (turn_line_of fresh k router) out.new result }
 {
     let due = fresh.due;
     let writes = entry(&due, router as usize);

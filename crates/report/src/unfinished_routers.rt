@@ -3,7 +3,7 @@
 ghost use Rattle.std.specs.Prelude.{◌≤◌, ◌<◌, length};
 ghost use Rattle.area.specs.Limits.{width};
 ghost use Rattle.text.specs.Text.{Appended};
-ghost use Rattle.report.specs.Lines.{unfinishedText, unfinishedLines, unfinishedAfter};
+ghost use Rattle.report.specs.Lines.{unfinished_text, unfinished_lines, unfinished_after};
 
 use crate::lines::unfinished_line;
 use machine::DONE;
@@ -18,7 +18,7 @@ use text::line;
 // The lines of the routers that are not done after the steps that the bytes stand for, and what is missing there.
 pub(crate) fn printed(fresh: Record, bytes: &[u8], out: &mut [u8]) -> usize
     requires { fresh.n ≤ width }
-    ensures lines { Appended out.old 0 (unfinishedAfter fresh bytes.now) out.new result }
+    ensures lines { Appended out.old 0 (unfinished_after fresh bytes.now) out.new result }
 {
     let n = fresh.n as usize;
     let last = run(fresh, bytes);
@@ -29,7 +29,7 @@ pub(crate) fn printed(fresh: Record, bytes: &[u8], out: &mut [u8]) -> usize
 // A line for each router below n that is not done, at the start of `out`.
 fn unfinished_lines(n: usize, last: Record, out: &mut [u8]) -> usize
     requires { n ≤ width }
-    ensures lines { Appended out.old 0 (unfinishedLines last n) out.new result }
+    ensures lines { Appended out.old 0 (unfinished_lines last n) out.new result }
 {
     let mut at = 0;
     for i in 0..n {
@@ -41,7 +41,7 @@ fn unfinished_lines(n: usize, last: Record, out: &mut [u8]) -> usize
 // The line of router i, where it is not done.
 fn unfinished_text(last: Record, i: usize, out: &mut [u8], at: usize) -> usize
     requires { (i < width) × (at ≤ length out.old) }
-    ensures text { Appended out.old at (unfinishedText last i) out.new result }
+    ensures text { Appended out.old at (unfinished_text last i) out.new result }
 {
     let state = last.states[i];
     if state == DONE {

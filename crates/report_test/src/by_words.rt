@@ -1,7 +1,7 @@
 // The file of an area and a change that words say: n64 S0=1 H0=16777215. Its hold time is 0 and its step time 1, and it
 // has no step.
 ghost use Rattle.std.specs.Prelude.{◌*◌, ◌+◌, ◌≤◌, ◌<◌};
-ghost use Rattle.area.specs.Limits.{width, mostChanges};
+ghost use Rattle.area.specs.Limits.{width, most_changes};
 
 use crate::largest::LINKS_AT;
 use area::limits::{CELLS, ENTRY, LARGEST, UNUSED, WIDTH};
@@ -54,7 +54,7 @@ fn link(file: &mut [u8; LARGEST + 1], e: usize, n: usize, k: usize, metric: u32)
 
 // The changes with their count at this place, and after them the times and no step. Gives where the file ends.
 fn changes(file: &mut [u8; LARGEST + 1], at: usize, list: &[u8; LONG_LIST], bytes: usize) -> usize
-    requires { (at ≤ 3 + 5 * (width * width)) × (bytes ≤ 5 * (mostChanges + 2)) }
+    requires { (at ≤ 3 + 5 * (width * width)) × (bytes ≤ 5 * (most_changes + 2)) }
 {
     file[at] = (bytes / ENTRY) as u8;
     for k in 0..bytes {

@@ -1,7 +1,7 @@
 // The largest file: WIDTH routers, a link from each to each other, and as many changes and steps as may be, each by a
 // rule. Its hold time is 0; its step time is so large that no due time but those of rank 0 comes.
 ghost use Rattle.std.specs.Prelude.{◌*◌, ◌-◌, ◌<◌};
-ghost use Rattle.area.specs.Limits.{width, mostChanges, mostSteps};
+ghost use Rattle.area.specs.Limits.{width, most_changes, most_steps};
 ghost use Rattle.bench_file.specs.Sections.{largest};
 
 use area::limits::{ENTRY, LARGEST, MOST_CHANGES, MOST_STEPS, STEP, WIDTH};
@@ -84,7 +84,7 @@ fn other(i: usize, k: usize) -> usize
 
 // Every link of router 0 becomes worse, or goes down, in both directions.
 fn change(e: usize, place: usize) -> usize
-    requires { e < mostChanges }
+    requires { e < most_changes }
 {
     let j = e / 2 + 1;
     if e % 2 == 0 {
@@ -126,7 +126,7 @@ fn entry(place: usize, from: usize, to: usize, m: usize) -> usize {
 
 // First every router learns and is released. Here and there a step is of any kind and any routers.
 fn step(k: usize, place: usize) -> usize
-    requires { k < mostSteps }
+    requires { k < most_steps }
 {
     if k % 100 == 99 {
         return call(place, k % 8, k % (WIDTH + 3), k % (WIDTH + 2));

@@ -3,14 +3,14 @@ use Rattle.std.specs.Prelude.{ℕ, ◌*◌, ◌/◌, ◌%◌, ◌≤◌, ◌≡�
 use Rattle.area.specs.Limits.{width}
 use Rattle.area.specs.Tests.{pick}
 use Rattle.bench_file.specs.declared.Format.TheVariants.{Old}
-use Rattle.bench_file.specs.Sections.{routers, linkCount, links, changeCount, changes, timesAt, end}
-use Rattle.bench_file.specs.Faults.{fileRefusal}
-use Rattle.text.specs.Text.{refusedLine}
-use Rattle.rewriting.specs.Live.{live, liveCount}
+use Rattle.bench_file.specs.Sections.{routers, link_count, links, change_count, changes, times_at, end}
+use Rattle.bench_file.specs.Faults.{file_refusal}
+use Rattle.text.specs.Text.{refused_line}
+use Rattle.rewriting.specs.Live.{live, live_count}
 
 -- how many links are kept
-abbrev pub keptCount : (f : List ℕ) → ℕ
-keptCount f = liveCount (links f) (linkCount f)
+abbrev pub kept_count : (f : List ℕ) → ℕ
+kept_count f = live_count (links f) (link_count f)
 
 -- n, and the count of the links in two bytes, high byte first
 abbrev pub head : (n count : ℕ) → List ℕ
@@ -22,22 +22,22 @@ times = 0 ∷ (0 ∷ (0 ∷ (1 ∷ [])))
 
 -- what follows the links: the changes with their count as they are in f, the times, and all that follows the changes
 -- in f
-abbrev pub timedRest : (f : List ℕ) → List ℕ
-timedRest f = (changeCount f ∷ changes f) ++ (times ++ drop (timesAt f) f)
+abbrev pub timed_rest : (f : List ℕ) → List ℕ
+timed_rest f = (change_count f ∷ changes f) ++ (times ++ drop (times_at f) f)
 
 -- f without its dead links, and with the times: n and the count of the links that are kept, these, and the rest
 unfoldable pub rewritten : (f : List ℕ) → List ℕ
-rewritten f = head (routers f) (keptCount f) ++ (live (links f) (linkCount f) ++ timedRest f)
+rewritten f = head (routers f) (kept_count f) ++ (live (links f) (link_count f) ++ timed_rest f)
 
 -- what the program writes: where the old reader refuses f, its refusal alone
 unfoldable pub written : (f : List ℕ) → List ℕ
-written f = pick (eqb (fileRefusal Old f) 0) (rewritten f) (refusedLine (fileRefusal Old f))
+written f = pick (eqb (file_refusal Old f) 0) (rewritten f) (refused_line (file_refusal Old f))
 
 -- ---- what the code has read of an accepted file: n, the link count, and where the changes end
 pub record Counted (f : List ℕ) (n count at : ℕ) : Type 0 where
   pub size : length f ≡ end Old f
-  pub routers-is : n ≡ routers f
-  pub routers-most : n ≤ width
-  pub count-is : count ≡ linkCount f
+  pub routers_is : n ≡ routers f
+  pub routers_most : n ≤ width
+  pub count_is : count ≡ link_count f
   pub count_most : count ≤ width * width
-  pub at-is : at ≡ timesAt f
+  pub at_is : at ≡ times_at f

@@ -7,10 +7,10 @@
 // What is written is specs/Rewriting.antt, the links that are kept are specs/Live.antt. That Read accepts the rewritten
 // file and gives the old metric table, and what else is the same, is specs/RewritingLaws.antt.
 ghost use Rattle.std.specs.Prelude.{◌≡◌, ◌≤◌, ◌<◌, ◌*◌, ◌+◌, length};
-ghost use Rattle.bench_file.specs.Sections.{changeCountAt, timesAt};
+ghost use Rattle.bench_file.specs.Sections.{change_count_at, times_at};
 ghost use Rattle.text.specs.Text.{Appended};
-ghost use Rattle.rewriting.specs.Live.{keptOf, live, liveCount};
-ghost use Rattle.rewriting.specs.Rewriting.{head, timedRest, rewritten, written, Counted};
+ghost use Rattle.rewriting.specs.Live.{kept_of, live, live_count};
+ghost use Rattle.rewriting.specs.Rewriting.{head, timed_rest, rewritten, written, Counted};
 
 use area::limits::{ENTRY, UNUSED};
 use bench_file::{Format, examine};
@@ -48,9 +48,9 @@ fn whole(file: &[u8], n: usize, announced: usize, times_at: usize, out: &mut [u8
 
 // What follows the links, with the times put in between the changes, which begin with their count, and the steps.
 fn timed_rest(file: &[u8], from: usize, times_at: usize, out: &mut [u8], at: usize) -> usize
-    requires from_value { (from ≡ changeCountAt file.now) × (times_at ≡ timesAt file.now) }
-    requires file_in_bounds { (timesAt file.now ≤ length file.now) × (at ≤ length out.old) }
-    ensures { Appended out.old at (timedRest file.now) out.new result }
+    requires from_value { (from ≡ change_count_at file.now) × (times_at ≡ times_at file.now) }
+    requires file_in_bounds { (times_at file.now ≤ length file.now) × (at ≤ length out.old) }
+    ensures { Appended out.old at (timed_rest file.now) out.new result }
 {
     let at = append(out, at, &file[from..times_at]);
     let at = append(out, at, &TIMES);
@@ -83,7 +83,7 @@ fn links(list: &[u8], k: usize, out: &mut [u8], start: usize) -> usize
 fn link(list: &[u8], e: usize, out: &mut [u8], at: usize) -> usize
     requires e_in_bounds { 5 * e + 5 ≤ length list.now }
     requires at_in_bounds { at ≤ length out.old }
-    ensures { Appended out.old at (keptOf list.now e) out.new result }
+    ensures { Appended out.old at (kept_of list.now e) out.new result }
 {
     if decode(list, e).metric == UNUSED {
         return at;
@@ -93,7 +93,7 @@ fn link(list: &[u8], e: usize, out: &mut [u8], at: usize) -> usize
 
 // How many of the first k links are live.
 fn count_live(list: &[u8], k: usize) -> usize
-    ensures { (result ≡ liveCount list.now k) × (result ≤ k) }
+    ensures { (result ≡ live_count list.now k) × (result ≤ k) }
 {
     let mut kept = 0;
     for e in 0..k {

@@ -3,7 +3,7 @@
 //     half    every other link is dead, the first, the third and so on; there is no change and no step
 //     full    no link is dead, and there are as many changes and steps as may be: the largest file
 ghost use Rattle.std.specs.Prelude.{◌*◌, ◌+◌, ◌-◌, ◌≤◌, ◌<◌};
-ghost use Rattle.area.specs.Limits.{width, mostChanges, mostSteps};
+ghost use Rattle.area.specs.Limits.{width, most_changes, most_steps};
 
 use crate::output;
 use area::limits::{ENTRY, MOST_CHANGES, MOST_STEPS, STEP, WIDTH};
@@ -71,10 +71,10 @@ pub fn full() {
 }
 
 fn compare(stored: Shape, expected: Shape)
-    requires links_bound { (stored.links ≤ width * (width - 1)) × (stored.changes ≤ mostChanges) }
-    requires steps_le_most_steps { (stored.steps ≤ mostSteps) × (stored.times ≤ 4) }
-    requires links_bound_2 { (expected.links ≤ width * (width - 1)) × (expected.changes ≤ mostChanges) }
-    requires steps_le_most_steps_2 { (expected.steps ≤ mostSteps) × (expected.times ≤ 4) }
+    requires links_bound { (stored.links ≤ width * (width - 1)) × (stored.changes ≤ most_changes) }
+    requires steps_le_most_steps { (stored.steps ≤ most_steps) × (stored.times ≤ 4) }
+    requires links_bound_2 { (expected.links ≤ width * (width - 1)) × (expected.changes ≤ most_changes) }
+    requires steps_le_most_steps_2 { (expected.steps ≤ most_steps) × (expected.times ≤ 4) }
 {
     let mut file = [0u8; ROOM];
     let mut wanted = [0u8; ROOM];
@@ -106,15 +106,15 @@ fn rewrite(stored: &[u8], expected: &[u8]) {
 }
 
 fn length(s: Shape) -> usize
-    requires links_bound { (s.links ≤ width * (width - 1)) × (s.changes ≤ mostChanges) }
-    requires steps_le_most_steps { (s.steps ≤ mostSteps) × (s.times ≤ 4) }
+    requires links_bound { (s.links ≤ width * (width - 1)) × (s.changes ≤ most_changes) }
+    requires steps_le_most_steps { (s.steps ≤ most_steps) × (s.times ≤ 4) }
     ensures { result ≤ 33088 }
 {
     6 + ENTRY * s.links + ENTRY * s.changes + s.times + STEP * s.steps
 }
 
 fn fill(file: &mut [u8; ROOM], s: Shape)
-    requires { (s.links ≤ width * (width - 1)) × (s.changes ≤ mostChanges) }
+    requires { (s.links ≤ width * (width - 1)) × (s.changes ≤ most_changes) }
 {
     for at in 0..ROOM {
         file[at] = (part(at, s) % 256) as u8;
@@ -123,7 +123,7 @@ fn fill(file: &mut [u8; ROOM], s: Shape)
 
 // The byte at a place of the file, or a number of which it is the lowest byte.
 fn part(at: usize, s: Shape) -> usize
-    requires { (at < 33089) × (s.links ≤ width * (width - 1)) × (s.changes ≤ mostChanges) }
+    requires { (at < 33089) × (s.links ≤ width * (width - 1)) × (s.changes ≤ most_changes) }
 {
     let links_end = 3 + ENTRY * s.links;
     if links_end <= at {
@@ -171,7 +171,7 @@ fn metric(place: usize, byte: usize, dead: bool) -> usize {
 // The count of the changes, the changes, the times, and what follows them. A byte of a change is its place: the changes
 // are judged by no reader.
 fn after_links(k: usize, s: Shape) -> usize
-    requires { (k < 33089) × (s.changes ≤ mostChanges) }
+    requires { (k < 33089) × (s.changes ≤ most_changes) }
 {
     if k == 0 {
         return s.changes;

@@ -1,7 +1,7 @@
 -- The main loop over its two rows: the argument of Dijkstra.antt, with D and H read off the rows.
 --     start                      the blank rows with the source at 0 hold a front
 --     room, fewer, more          a turn: its sums fit, one router more is settled, and the rows hold a front again
---     distance-row, hop-row      when no reached router is left, the rows are those of the definition
+--     distance_row_lem, hop_row_lem      when no reached router is left, the rows are those of the definition
 use mathlib.Core.Path.{◌≡◌, sym, ◌∙◌}
 use mathlib.Core.Bool.{false}
 use mathlib.Core.Logic.{inr}
@@ -13,21 +13,21 @@ use lib.ListN.{length, get_or, set, length-set}
 use lib.Seq.{get_or-set_same, get_or-set_other}
 use Rattle.area.specs.Limits.{width, unused, unreached}
 use Rattle.area.specs.Tables.{build}
-use Rattle.area.specs.TableLaws.{is-build}
+use Rattle.area.specs.TableLaws.{is_build}
 use Rattle.sets.specs.Sets.{bit, added}
 use Rattle.topology.specs.Topology.{topology}
-use Rattle.topology.specs.Cells.{distanceCell, hopCell}
-use Rattle.topology.specs.TopologyLaws.{topology-graph}
-use Rattle.topology.specs.CellLaws.{distance-in, distance-out, hops-in, hops-out}
+use Rattle.topology.specs.Cells.{distance_cell, hop_cell}
+use Rattle.topology.specs.TopologyLaws.{topology_graph}
+use Rattle.topology.specs.CellLaws.{distance_in, distance_out, hops_in, hops_out}
 use Rattle.search.specs.Nearest.{Nearest}
 use Rattle.search.specs.Search.{entry, RowsRelaxed}
-use Rattle.search.proofs.Dijkstra.{count, count-le, count-more}
-use Rattle.search.proofs.Dijkstra.{Front, begin, small-bound, step, distances, nexts}
+use Rattle.search.proofs.Dijkstra.{count, count_le, count_more}
+use Rattle.search.proofs.Dijkstra.{Front, begin, small_bound, step, distances, nexts}
 
 -- d and h are the source's rows, and what they hold is a front
 pub record Settling (n : ℕ) (m : List ℕ) (s : ℕ) (d h : List ℕ) (σ : ℕ) : Type 0 where
   pub len : length d ≡ width
-  pub len-h : length h ≡ width
+  pub len_h : length h ≡ width
   pub fits : (j : ℕ) → get_or h j 0 < 2 ^ width
   pub front : Front n (topology n m) s (entry d) (entry h) σ
 
@@ -43,7 +43,7 @@ module _ {n : ℕ} {m : List ℕ} (most : n ≤ width) {s : ℕ} (source : s < n
   start d h ld lh far none fits =
       record {
         len = length-set d s 0 ∙ ld;
-        len-h = lh;
+        len_h = lh;
         fits = fits;
         front =
             begin (entry (set d s 0)) (entry h) source most
@@ -56,13 +56,13 @@ module _ {n : ℕ} {m : List ℕ} (most : n ≤ width) {s : ℕ} (source : s < n
     module _ (within : q < n) where
       -- the distance of the router that is taken leaves room for a metric more
       pub room : get_or d q 0 + unused ≤ unreached
-      room = omega (arith, small-bound f.front q within (near.found within).1, most)
+      room = omega (arith, small_bound f.front q within (near.found within).1, most)
 
       -- one router more is settled
       pub fewer : width - count (added width σ q) n < width - count σ n
       fewer =
           let new = added width σ q in
-          omega (arith, count-more σ q (omega arith) n within most (near.found within).0, count-le new n)
+          omega (arith, count_more σ q (omega arith) n within most (near.found within).0, count_le new n)
 
       pub more :
           {d' h' : List ℕ}
@@ -75,9 +75,9 @@ module _ {n : ℕ} {m : List ℕ} (most : n ≤ width) {s : ℕ} (source : s < n
           let found = near.found within in
           record {
             len = ld;
-            len-h = lh;
+            len_h = lh;
             fits = fits;
-            front = step (topology-graph n m most) most f.front within found.0 found.1 nearest turn source;
+            front = step (topology_graph n m most) most f.front within found.0 found.1 nearest turn source;
           }
         where
           nearest : (j : ℕ) → j < n → bit σ j ≡ false → get_or d q 0 ≤ get_or d j 0
@@ -91,18 +91,18 @@ module _ {n : ℕ} {m : List ℕ} (most : n ≤ width) {s : ℕ} (source : s < n
       left j l b r = let x = (near.first j l b r).0 in omega arith
 
       -- the rows are the definition's
-      pub distance-row : d ≡ build width (distanceCell n m s)
-      distance-row = is-build width (distanceCell n m s) d f.len (λ j l. elim (dec_lt j n) [
+      pub distance_row_lem : d ≡ build width (distance_cell n m s)
+      distance_row_lem = is_build width (distance_cell n m s) d f.len (λ j l. elim (dec_lt j n) [
         | yes b ↦
-            distances (topology-graph n m most) most source f.front left j b
-            ∙ sym (distance-in n m s j source b)
-        | no g ↦ (f.front.rest j (omega arith) l).0 ∙ sym (distance-out n m s j (inr (omega arith)))
+            distances (topology_graph n m most) most source f.front left j b
+            ∙ sym (distance_in n m s j source b)
+        | no g ↦ (f.front.rest j (omega arith) l).0 ∙ sym (distance_out n m s j (inr (omega arith)))
       ])
 
-      pub hop-row : h ≡ build width (hopCell n m s)
-      hop-row = is-build width (hopCell n m s) h f.len-h (λ j l. elim (dec_lt j n) [
+      pub hop_row_lem : h ≡ build width (hop_cell n m s)
+      hop_row_lem = is_build width (hop_cell n m s) h f.len_h (λ j l. elim (dec_lt j n) [
         | yes b ↦
-            nexts (topology-graph n m most) most source f.front left j b (f.fits j)
-            ∙ sym (hops-in n m s j source b)
-        | no g ↦ (f.front.rest j (omega arith) l).1 ∙ sym (hops-out n m s j (inr (omega arith)))
+            nexts (topology_graph n m most) most source f.front left j b (f.fits j)
+            ∙ sym (hops_in n m s j source b)
+        | no g ↦ (f.front.rest j (omega arith) l).1 ∙ sym (hops_out n m s j (inr (omega arith)))
       ])

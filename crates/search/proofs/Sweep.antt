@@ -17,11 +17,11 @@ pub record Blanked (v : ℕ) (d : List ℕ) (j : ℕ) : Type 0 where
   pub size : length d ≡ width
   pub done : (k : ℕ) → k < j → get_or d k 0 ≡ v
 
-pub blanked-none : (v : ℕ) (d : List ℕ) → length d ≡ width → Blanked v d 0
-blanked-none v d e = record { size = e; done = below_none _ }
+pub blanked_none : (v : ℕ) (d : List ℕ) → length d ≡ width → Blanked v d 0
+blanked_none v d e = record { size = e; done = below_none _ }
 
-pub blanked-more : (v : ℕ) (d : List ℕ) (j : ℕ) → Blanked v d j → j < width → Blanked v (set d j v) (j + 1)
-blanked-more v d j b l = record {
+pub blanked_more : (v : ℕ) (d : List ℕ) (j : ℕ) → Blanked v d j → j < width → Blanked v (set d j v) (j + 1)
+blanked_more v d j b l = record {
   size = length-set d j v ∙ b.size;
   done =
       below_more (λ k. get_or (set d j v) k 0 ≡ v) j
@@ -32,15 +32,15 @@ blanked-more v d j b l = record {
 module _ (R : ℕ → ℕ → ℕ → ℕ → ℕ → Type 0) (d₀ h₀ : List ℕ) where
   pub record Swept (d h : List ℕ) (j : ℕ) : Type 0 where
     pub len : length d ≡ length d₀
-    pub len-h : length h ≡ length h₀
+    pub len_h : length h ≡ length h₀
     pub done : (k : ℕ) → k < j → R k (get_or d₀ k 0) (get_or h₀ k 0) (get_or d k 0) (get_or h k 0)
     pub rest : (k : ℕ) → j ≤ k → (get_or d k 0 ≡ get_or d₀ k 0) × (get_or h k 0 ≡ get_or h₀ k 0)
 
   pub swept_none : Swept d₀ h₀ 0
-  swept_none = record { len = refl; len-h = refl; done = below_none _; rest = λ k l. (refl, refl) }
+  swept_none = record { len = refl; len_h = refl; done = below_none _; rest = λ k l. (refl, refl) }
 
   -- the rows d' and h' that a turn leaves: only the cells of j may have changed, and those as R allows
-  pub swept-more :
+  pub swept_more :
       (d h d' h' : List ℕ) (j : ℕ)
       → Swept d h j
       → length d' ≡ length d
@@ -48,9 +48,9 @@ module _ (R : ℕ → ℕ → ℕ → ℕ → ℕ → Type 0) (d₀ h₀ : List 
       → R j (get_or d j 0) (get_or h j 0) (get_or d' j 0) (get_or h' j 0)
       → ((k : ℕ) → k ≢ j → (get_or d' k 0 ≡ get_or d k 0) × (get_or h' k 0 ≡ get_or h k 0))
       → Swept d' h' (j + 1)
-  swept-more d h d' h' j s ld lh new same = record {
+  swept_more d h d' h' j s ld lh new same = record {
     len = ld ∙ s.len;
-    len-h = lh ∙ s.len-h;
+    len_h = lh ∙ s.len_h;
     done =
         below_more (λ k. R k (get_or d₀ k 0) (get_or h₀ k 0) (get_or d' k 0) (get_or h' k 0)) j
         (λ k b. let e = same k (λ q. let x : ⊥ = omega arith in x) in rw (e.0, e.1) (s.done k b))
@@ -67,4 +67,4 @@ module _ (R : ℕ → ℕ → ℕ → ℕ → ℕ → Type 0) (d₀ h₀ : List 
       → Swept d h j
       → R j (get_or d j 0) (get_or h j 0) (get_or d j 0) (get_or h j 0)
       → Swept d h (j + 1)
-  swept_same d h j s new = swept-more d h d h j s refl refl new (λ k f. (refl, refl))
+  swept_same d h j s new = swept_more d h d h j s refl refl new (λ k f. (refl, refl))

@@ -1,6 +1,6 @@
 -- An offer to a router: it can be had at the distance `sum` by the next hops `by`. The contracts of src/offers.rt cite
 -- this; nothing here is part of what the search promises.
---     firstHop       the next hops that a settled router hands on
+--     first_hop       the next hops that a settled router hands on
 --     Offered        what an offer makes of one router's distance and next hops
 --     RowsOffered    what it makes of the rows of a source
 use Rattle.std.specs.Prelude.{ℕ, ◌<◌, ◌≡◌, ◌≢◌, List, eqb, get_or}
@@ -9,8 +9,8 @@ use Rattle.area.specs.Tests.{pick}
 use Rattle.sets.specs.Sets.{added, union}
 
 -- the next hops from s to j by way of q: j itself where q is s, and else q's own
-abbrev pub firstHop : (s q own j : ℕ) → ℕ
-firstHop s q own j = pick (eqb q s) (added width 0 j) own
+abbrev pub first_hop : (s q own j : ℕ) → ℕ
+first_hop s q own j = pick (eqb q s) (added width 0 j) own
 
 -- A router at distance d with the next hops h is offered `sum` and `by`. It takes what is nearer and joins what is as
 -- near: then it has d' and h'.

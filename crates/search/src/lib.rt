@@ -12,8 +12,8 @@ mod offers;
 ghost use Rattle.std.specs.Prelude.{◌≡◌, ℕ, ◌+◌, ◌*◌, ◌<◌, ◌≤◌, length, get_or};
 ghost use Rattle.area.specs.Limits.{width, unused, unreached};
 ghost use Rattle.area.specs.Tables.{build};
-ghost use Rattle.topology.specs.Cells.{distanceCell, hopCell};
-ghost use Rattle.search.specs.Rows.{areSizes, distanceRow, hopRow};
+ghost use Rattle.topology.specs.Cells.{distance_cell, hop_cell};
+ghost use Rattle.search.specs.Rows.{are_sizes, distance_row, hop_row};
 ghost use Rattle.search.specs.Search.{RowsRelaxed};
 
 use area::limits::{CELLS, Set, UNREACHED, UNUSED, WIDTH};
@@ -24,9 +24,9 @@ use topology::usable;
 // The source's rows of distances and of next hops; where a size is wrong, nothing is written.
 pub fn search(n: usize, metric: &[u32], source: usize, dist: &mut [u32], hops: &mut [Set])
     ensures distances { dist.new
-        ≡ distanceRow n metric.now source dist.old hops.old }
+        ≡ distance_row n metric.now source dist.old hops.old }
     ensures hops { hops.new
-        ≡ hopRow n metric.now source dist.old hops.old }
+        ≡ hop_row n metric.now source dist.old hops.old }
 {
     if are_sizes(n, metric.len(), dist.len(), hops.len()) {
         rows(n, metric, source, dist, hops);
@@ -35,7 +35,7 @@ pub fn search(n: usize, metric: &[u32], source: usize, dist: &mut [u32], hops: &
 
 // Are these the sizes that a search needs?
 fn are_sizes(n: usize, cells: usize, distances: usize, sets: usize) -> bool
-    ensures { result ≡ areSizes n cells distances sets }
+    ensures { result ≡ are_sizes n cells distances sets }
 {
     if WIDTH < n {
         return false;
@@ -53,8 +53,8 @@ fn are_sizes(n: usize, cells: usize, distances: usize, sets: usize) -> bool
 fn rows(n: usize, metric: &[u32], source: usize, dist: &mut [u32], hops: &mut [Set])
     requires n_le_width { (n ≤ width) × (length metric.now ≡ width * width) }
     requires dist_len { (length dist.old ≡ width) × (length hops.old ≡ width) }
-    ensures dist_after { dist.new ≡ build width (distanceCell n metric.now source) }
-    ensures hops_after { hops.new ≡ build width (hopCell n metric.now source) }
+    ensures dist_after { dist.new ≡ build width (distance_cell n metric.now source) }
+    ensures hops_after { hops.new ≡ build width (hop_cell n metric.now source) }
 {
     blank(dist, hops);
     if source < n {
@@ -81,8 +81,8 @@ fn settle(n: usize, metric: &[u32], source: usize, dist: &mut [u32], hops: &mut 
     requires source_lt_n { (source < n) × (length dist.old ≡ width) × (length hops.old ≡ width) }
     requires by_index { (j : ℕ) → j < width → get_or dist.old j 0 ≡ unreached }
     requires by_index_2 { (j : ℕ) → j < width → get_or hops.old j 0 ≡ 0 }
-    ensures dist_after { dist.new ≡ build width (distanceCell n metric.now source) }
-    ensures hops_after { hops.new ≡ build width (hopCell n metric.now source) }
+    ensures dist_after { dist.new ≡ build width (distance_cell n metric.now source) }
+    ensures hops_after { hops.new ≡ build width (hop_cell n metric.now source) }
 {
     let mut settled: Set = 0;
     dist[source] = 0;

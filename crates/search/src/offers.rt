@@ -1,12 +1,12 @@
 // The offer of a way to a router, in the rows of a source.
 ghost use Rattle.std.specs.Prelude.{◌≡◌, ◌<◌, length};
-ghost use Rattle.search.specs.Offers.{firstHop, RowsOffered};
+ghost use Rattle.search.specs.Offers.{first_hop, RowsOffered};
 
 use area::limits::Set;
 
 // The next hops from the source to j by way of q: j itself from the source, and from any other router those to q.
 pub(crate) fn first_hop(source: usize, q: usize, own: Set, j: usize) -> Set
-    ensures { result ≡ firstHop source q own j }
+    ensures { result ≡ first_hop source q own j }
 {
     if q == source { sets::add(0, j) } else { own }
 }

@@ -1,18 +1,18 @@
 -- Laws of router sets, once for every width w. Sets below 2 ^ w with the same bits are equal, since a number is the sum
 -- of its binary digits; so two sets are compared bit by bit, those that code computes with those that are defined.
---     setOf-lt, bit-setOf, bit-beyond          what stands in `setOf w p`
---     setOf-same, is-setOf, same_set, same-members
+--     set_of_lt, bit_set_of, bit_beyond          what stands in `set_of w p`
+--     set_of_same, is_set_of, same_set, same_members
 --                                              when two sets are equal
---     setOf-none, none-setOf, member-some, no-members
+--     set_of_none, none_set_of, member_some, no_members
 --                                              when a set is empty
---     bit_added, bit-removed, bit-union, bit-without, subset-at, at-subset
+--     bit_added, bit_removed, bit_union, bit_without, subset_at, at_subset
 --                                              the members of each
---     added-self, added-other, added-cases, added-still, removed-self, removed-other, removed-still
+--     added_self, added_other, added_cases, added_still, removed_self, removed_other, removed_still
 --                                              the same, of the router that was added or removed and of the others
---     without-none, without-added              s without t: where it is empty, and where t gets a member
---     setOf-start, setOf-skip, setOf-more      a set that is found router by router
---     bit-one, or-added, .. and-subset         what code computes, at a type of w bits
---     added-below                              a set of routers below n and one more of them
+--     without_none, without_added              s without t: where it is empty, and where t gets a member
+--     set_of_start, set_of_skip, set_of_more      a set that is found router by router
+--     bit_one, or_added, .. and_subset         what code computes, at a type of w bits
+--     added_below                              a set of routers below n and one more of them
 use Rattle.std.specs.Prelude.{ℕ, zero, suc, ◌+◌, ◌-◌, ◌*◌, ◌/◌, ◌%◌, ◌^◌, ◌≤◌, ◌<◌, ◌≡◌, Bool, ◌&&◌, ◌||◌, ◌≢◌, ◌⊎◌}
 use Rattle.std.proofs.Math.Path.{refl, ap}
 use Rattle.std.proofs.Common.{sym, ap₂, ◌∙◌, inl, inr, ⊎_elim, not-suc-le-zero, le_of_suc-le-suc, eq-or-lt_of_le, sub-add_cancel, mul_assoc, mod-eq_of_lt, add-one, pow_pos, pow-add, pow_mono, shl_exact}
@@ -27,108 +27,108 @@ use Rattle.std.proofs.Math.Arith.{mod-mul}
 use Rattle.std.specs.Int.Bits.{bit_and, bit_or, bit_xor, and_lt}
 use Rattle.std.proofs.lemmas.Nat.{or_shr, or_mod, or_lt, and_shr, and_mod, xor_shr, xor_mod, xor_lt}
 use Rattle.std.proofs.Math.Pow.{pow-lt}
-use Rattle.area.specs.TestLaws.{both_true, and-false, and_one, or_cases, or_left, or_right, or-none, same_test}
-use Rattle.sets.specs.Sets.{num, bit, setOf, added, removed, union, without, subset}
+use Rattle.area.specs.TestLaws.{both_true, and_false, and_one, or_cases, or_left, or_right, or_none, same_test}
+use Rattle.sets.specs.Sets.{num, bit, set_of, added, removed, union, without, subset}
 
 -- ---- what stands in a set
-num-le : (b : Bool) (c : ℕ) → num b * c ≤ c
-num-le true c = omega arith
-num-le false c = omega arith
+num_le : (b : Bool) (c : ℕ) → num b * c ≤ c
+num_le true c = omega arith
+num_le false c = omega arith
 
-pub setOf-lt : (w : ℕ) (p : ℕ → Bool) → setOf w p < 2 ^ w
-unfolding setOf
-setOf-lt zero p = omega arith
-setOf-lt (suc w) p = omega (arith, setOf-lt w p, num-le (p w) (2 ^ w), pow-succ' 2 w)
+pub set_of_lt : (w : ℕ) (p : ℕ → Bool) → set_of w p < 2 ^ w
+unfolding set_of
+set_of_lt zero p = omega arith
+set_of_lt (suc w) p = omega (arith, set_of_lt w p, num_le (p w) (2 ^ w), pow-succ' 2 w)
 
-pow-split : (k w : ℕ) → k < w → 2 ^ w ≡ 2 ^ (w - suc k) * 2 * 2 ^ k
-pow-split k w h =
+pow_split : (k w : ℕ) → k < w → 2 ^ w ≡ 2 ^ (w - suc k) * 2 * 2 ^ k
+pow_split k w h =
     ap (λ (x : ℕ). 2 ^ x) (sym (sub-add_cancel h))
     ∙ pow-add 2 (w - suc k) (suc k)
     ∙ rw (pow-succ' 2 k, mul_assoc)
 
-bit-low : (s c k w : ℕ) → k < w → bit (s + c * 2 ^ w) k ≡ bit s k
+bit_low : (s c k w : ℕ) → k < w → bit (s + c * 2 ^ w) k ≡ bit s k
 unfolding bit
-bit-low s c k w h =
+bit_low s c k w h =
     let y = c * 2 ^ (w - suc k) in
-    let e : c * 2 ^ w ≡ y * 2 * 2 ^ k = rw (pow-split k w h) (omega arith) in
+    let e : c * 2 ^ w ≡ y * 2 * 2 ^ k = rw (pow_split k w h) (omega arith) in
     ap (λ (x : ℕ). eqb ((s + x) / 2 ^ k % 2) 1) e
     ∙ ap (λ (x : ℕ). eqb (x % 2) 1) (add-mul-div_right s (y * 2) (pow_pos k))
     ∙ ap (λ (x : ℕ). eqb x 1) (add-mul-mod_self_right (s / 2 ^ k) y 2)
 
-bit-top : (s w : ℕ) (b : Bool) → s < 2 ^ w → bit (s + num b * 2 ^ w) w ≡ b
+bit_top : (s w : ℕ) (b : Bool) → s < 2 ^ w → bit (s + num b * 2 ^ w) w ≡ b
 unfolding bit
-bit-top s w b h = rw (add-mul-div_right s (num b) (pow_pos w), div-eq_of_lt h) (test b)
+bit_top s w b h = rw (add-mul-div_right s (num b) (pow_pos w), div-eq_of_lt h) (test b)
   where
     test : (b : Bool) → eqb ((0 + num b) % 2) 1 ≡ b
     test true = refl
     test false = refl
 
 -- a number below 2 ^ k has no bit from k on
-pub bit-above : (s k : ℕ) → s < 2 ^ k → bit s k ≡ false
+pub bit_above : (s k : ℕ) → s < 2 ^ k → bit s k ≡ false
 unfolding bit
-bit-above s k h = rw (div-eq_of_lt h)
+bit_above s k h = rw (div-eq_of_lt h)
 
-pub bit-zero : (k : ℕ) → bit 0 k ≡ false
-bit-zero k = bit-above 0 k (pow_pos k)
+pub bit_zero : (k : ℕ) → bit 0 k ≡ false
+bit_zero k = bit_above 0 k (pow_pos k)
 
 -- a member is below the width
-pub bit-lt : (w s k : ℕ) → s < 2 ^ w → bit s k ≡ true → k < w
-bit-lt w s k h e = elim (dec_lt k w) [
+pub bit_lt : (w s k : ℕ) → s < 2 ^ w → bit s k ≡ true → k < w
+bit_lt w s k h e = elim (dec_lt k w) [
   | yes l ↦ l
   | no f ↦
       let le = pow_mono {i = w} {j = k} (omega arith) in
-      absurd (false≢true (sym (bit-above s k (omega arith)) ∙ e))
+      absurd (false≢true (sym (bit_above s k (omega arith)) ∙ e))
 ]
 
-pub bit-setOf : (w : ℕ) (p : ℕ → Bool) (k : ℕ) → k < w → bit (setOf w p) k ≡ p k
-unfolding setOf
-bit-setOf zero p k h = absurd (not-suc-le-zero h)
-bit-setOf (suc w) p k h =
+pub bit_set_of : (w : ℕ) (p : ℕ → Bool) (k : ℕ) → k < w → bit (set_of w p) k ≡ p k
+unfolding set_of
+bit_set_of zero p k h = absurd (not-suc-le-zero h)
+bit_set_of (suc w) p k h =
     ⊎_elim
-    (λ e. rw e (bit-top (setOf w p) w (p w) (setOf-lt w p)))
-    (λ lt. bit-low (setOf w p) (num (p w)) k w lt ∙ bit-setOf w p k lt)
+    (λ e. rw e (bit_top (set_of w p) w (p w) (set_of_lt w p)))
+    (λ lt. bit_low (set_of w p) (num (p w)) k w lt ∙ bit_set_of w p k lt)
     (eq-or-lt_of_le (le_of_suc-le-suc h))
 
-pub bit-beyond : (w : ℕ) (p : ℕ → Bool) (k : ℕ) → w ≤ k → bit (setOf w p) k ≡ false
-bit-beyond w p k h = bit-above (setOf w p) k (omega (arith, setOf-lt w p, pow_mono h))
+pub bit_beyond : (w : ℕ) (p : ℕ → Bool) (k : ℕ) → w ≤ k → bit (set_of w p) k ≡ false
+bit_beyond w p k h = bit_above (set_of w p) k (omega (arith, set_of_lt w p, pow_mono h))
 
 -- ---- equal sets
-pub setOf-same : (w : ℕ) (p q : ℕ → Bool) → ((k : ℕ) → k < w → p k ≡ q k) → setOf w p ≡ setOf w q
-unfolding setOf
-setOf-same zero p q f = refl
-setOf-same (suc w) p q f =
+pub set_of_same : (w : ℕ) (p q : ℕ → Bool) → ((k : ℕ) → k < w → p k ≡ q k) → set_of w p ≡ set_of w q
+unfolding set_of
+set_of_same zero p q f = refl
+set_of_same (suc w) p q f =
     ap₂ (λ (x : ℕ) (b : Bool). x + num b * 2 ^ w)
-    (setOf-same w p q (λ k h. f k (omega arith)))
+    (set_of_same w p q (λ k h. f k (omega arith)))
     (f w (omega arith))
 
-num-digit : (d : ℕ) → d < 2 → num (eqb d 1) ≡ d
-num-digit zero h = refl
-num-digit (suc zero) h = refl
-num-digit (suc (suc d)) h = absurd (omega arith)
+num_digit : (d : ℕ) → d < 2 → num (eqb d 1) ≡ d
+num_digit zero h = refl
+num_digit (suc zero) h = refl
+num_digit (suc (suc d)) h = absurd (omega arith)
 
-setOf-bits-mod : (w s : ℕ) → setOf w (bit s) ≡ s % 2 ^ w
-unfolding setOf bit
-setOf-bits-mod zero s = sym (mod-one s)
-setOf-bits-mod (suc w) s =
-    ap₂ (λ (x d : ℕ). x + d * 2 ^ w) (setOf-bits-mod w s) (num-digit (s / 2 ^ w % 2) (omega arith))
+set_of_bits_mod : (w s : ℕ) → set_of w (bit s) ≡ s % 2 ^ w
+unfolding set_of bit
+set_of_bits_mod zero s = sym (mod-one s)
+set_of_bits_mod (suc w) s =
+    ap₂ (λ (x d : ℕ). x + d * 2 ^ w) (set_of_bits_mod w s) (num_digit (s / 2 ^ w % 2) (omega arith))
     ∙ (omega arith
     ∙ sym (mod-mul s {m = 2} {c = 2 ^ w} (omega arith) (pow_pos w))
     ∙ ap (λ (x : ℕ). s % x) (sym (pow-succ' 2 w)))
 
 -- a set is the set of its members
-pub setOf-bits : (w s : ℕ) → s < 2 ^ w → setOf w (bit s) ≡ s
-setOf-bits w s h = setOf-bits-mod w s ∙ mod-eq_of_lt h
+pub set_of_bits : (w s : ℕ) → s < 2 ^ w → set_of w (bit s) ≡ s
+set_of_bits w s h = set_of_bits_mod w s ∙ mod-eq_of_lt h
 
 -- what has the members that p tests for is the set of p
-pub is-setOf :
+pub is_set_of :
     (w s : ℕ) (p : ℕ → Bool)
     → s < 2 ^ w
     → ((k : ℕ) → k < w → bit s k ≡ p k)
-    → s ≡ setOf w p
-is-setOf w s p h f = sym (setOf-bits w s h) ∙ setOf-same w (bit s) p f
+    → s ≡ set_of w p
+is_set_of w s p h f = sym (set_of_bits w s h) ∙ set_of_same w (bit s) p f
 
 pub same_set : (w s t : ℕ) → s < 2 ^ w → t < 2 ^ w → ((k : ℕ) → k < w → bit s k ≡ bit t k) → s ≡ t
-same_set w s t hs ht f = is-setOf w s (bit t) hs f ∙ setOf-bits w t ht
+same_set w s t hs ht f = is_set_of w s (bit t) hs f ∙ set_of_bits w t ht
 
 -- a number is below the power of two that it is the exponent of
 below_power : (k : ℕ) → k < 2 ^ k
@@ -136,108 +136,108 @@ below_power zero = omega arith
 below_power (suc k) = omega (arith, below_power k, pow-succ' 2 k)
 
 -- whatever their width, sets with the same members are equal
-pub same-members : (s t : ℕ) → ((k : ℕ) → bit s k ≡ bit t k) → s ≡ t
-same-members s t f =
+pub same_members : (s t : ℕ) → ((k : ℕ) → bit s k ≡ bit t k) → s ≡ t
+same_members s t f =
     same_set (s + t) s t (omega (arith, below_power s, pow_mono {i = s} {j = s + t} (omega arith)))
     (omega (arith, below_power t, pow_mono {i = t} {j = s + t} (omega arith)))
     (λ k h. f k)
 
 -- ---- the empty set
-pub setOf-none : (w : ℕ) (p : ℕ → Bool) → ((k : ℕ) → k < w → p k ≡ false) → setOf w p ≡ 0
-setOf-none w p f = sym (is-setOf w 0 p (pow_pos w) (λ k h. bit-zero k ∙ sym (f k h)))
+pub set_of_none : (w : ℕ) (p : ℕ → Bool) → ((k : ℕ) → k < w → p k ≡ false) → set_of w p ≡ 0
+set_of_none w p f = sym (is_set_of w 0 p (pow_pos w) (λ k h. bit_zero k ∙ sym (f k h)))
 
-pub none-setOf : (w : ℕ) (p : ℕ → Bool) → setOf w p ≡ 0 → (k : ℕ) → k < w → p k ≡ false
-none-setOf w p e k h = sym (bit-setOf w p k h) ∙ ap (λ (s : ℕ). bit s k) e ∙ bit-zero k
+pub none_set_of : (w : ℕ) (p : ℕ → Bool) → set_of w p ≡ 0 → (k : ℕ) → k < w → p k ≡ false
+none_set_of w p e k h = sym (bit_set_of w p k h) ∙ ap (λ (s : ℕ). bit s k) e ∙ bit_zero k
 
-pub member-some : (s k : ℕ) → bit s k ≡ true → s ≢ 0
-member-some s k e z = false≢true (sym (bit-zero k) ∙ ap (λ (t : ℕ). bit t k) (sym z) ∙ e)
+pub member_some : (s k : ℕ) → bit s k ≡ true → s ≢ 0
+member_some s k e z = false≢true (sym (bit_zero k) ∙ ap (λ (t : ℕ). bit t k) (sym z) ∙ e)
 
-pub no-members : (s : ℕ) → ((k : ℕ) → bit s k ≡ true → ⊥) → s ≡ 0
-no-members s none =
-    same-members s 0
-    (λ k. same_test (bit s k) (bit 0 k) (λ t. absurd (none k t)) (λ t. absurd (false≢true (sym (bit-zero k) ∙ t))))
+pub no_members : (s : ℕ) → ((k : ℕ) → bit s k ≡ true → ⊥) → s ≡ 0
+no_members s none =
+    same_members s 0
+    (λ k. same_test (bit s k) (bit 0 k) (λ t. absurd (none k t)) (λ t. absurd (false≢true (sym (bit_zero k) ∙ t))))
 
 -- ---- the members of a set that was added to, removed from, joined
-added-lt : (w s k : ℕ) → added w s k < 2 ^ w
+added_lt : (w s k : ℕ) → added w s k < 2 ^ w
 unfolding added
-added-lt w s k = setOf-lt w (λ i. bit s i || eqb i k)
+added_lt w s k = set_of_lt w (λ i. bit s i || eqb i k)
 
-pub removed-lt : (w s k : ℕ) → removed w s k < 2 ^ w
+pub removed_lt : (w s k : ℕ) → removed w s k < 2 ^ w
 unfolding removed
-removed-lt w s k = setOf-lt w (λ i. bit s i && not (eqb i k))
+removed_lt w s k = set_of_lt w (λ i. bit s i && not (eqb i k))
 
-pub union-lt : (w s t : ℕ) → union w s t < 2 ^ w
+pub union_lt : (w s t : ℕ) → union w s t < 2 ^ w
 unfolding union
-union-lt w s t = setOf-lt w (λ i. bit s i || bit t i)
+union_lt w s t = set_of_lt w (λ i. bit s i || bit t i)
 
-pub without-lt : (w s t : ℕ) → without w s t < 2 ^ w
+pub without_lt : (w s t : ℕ) → without w s t < 2 ^ w
 unfolding without
-without-lt w s t = setOf-lt w (λ i. bit s i && not (bit t i))
+without_lt w s t = set_of_lt w (λ i. bit s i && not (bit t i))
 
 pub bit_added : (w s i k : ℕ) → k < w → bit (added w s i) k ≡ (bit s k || eqb k i)
 unfolding added
-bit_added w s i k h = bit-setOf w (λ j. bit s j || eqb j i) k h
+bit_added w s i k h = bit_set_of w (λ j. bit s j || eqb j i) k h
 
-pub bit-removed : (w s i k : ℕ) → k < w → bit (removed w s i) k ≡ (bit s k && not (eqb k i))
+pub bit_removed : (w s i k : ℕ) → k < w → bit (removed w s i) k ≡ (bit s k && not (eqb k i))
 unfolding removed
-bit-removed w s i k h = bit-setOf w (λ j. bit s j && not (eqb j i)) k h
+bit_removed w s i k h = bit_set_of w (λ j. bit s j && not (eqb j i)) k h
 
-pub bit-union : (w s t k : ℕ) → k < w → bit (union w s t) k ≡ (bit s k || bit t k)
+pub bit_union : (w s t k : ℕ) → k < w → bit (union w s t) k ≡ (bit s k || bit t k)
 unfolding union
-bit-union w s t k h = bit-setOf w (λ j. bit s j || bit t j) k h
+bit_union w s t k h = bit_set_of w (λ j. bit s j || bit t j) k h
 
 -- the router that was added or removed, and the others
-pub bit-without : (w s t k : ℕ) → k < w → bit (without w s t) k ≡ (bit s k && not (bit t k))
+pub bit_without : (w s t k : ℕ) → k < w → bit (without w s t) k ≡ (bit s k && not (bit t k))
 unfolding without
-bit-without w s t k h = bit-setOf w (λ i. bit s i && not (bit t i)) k h
+bit_without w s t k h = bit_set_of w (λ i. bit s i && not (bit t i)) k h
 
-pub added-self : (w s k : ℕ) → k < w → bit (added w s k) k ≡ true
-added-self w s k h = bit_added w s k k h ∙ or_right (bit s k) (eqb k k) (eq-eqb k k refl)
+pub added_self : (w s k : ℕ) → k < w → bit (added w s k) k ≡ true
+added_self w s k h = bit_added w s k k h ∙ or_right (bit s k) (eqb k k) (eq-eqb k k refl)
 
-pub added-other : (w s k i : ℕ) → i < w → i ≢ k → bit (added w s k) i ≡ bit s i
-added-other w s k i l f = bit_added w s k i l ∙ rw (ne_eqb i k f) (or-none (bit s i))
+pub added_other : (w s k i : ℕ) → i < w → i ≢ k → bit (added w s k) i ≡ bit s i
+added_other w s k i l f = bit_added w s k i l ∙ rw (ne_eqb i k f) (or_none (bit s i))
 
-pub added-still : (w s k i : ℕ) → i < w → bit s i ≡ true → bit (added w s k) i ≡ true
-added-still w s k i l e = bit_added w s k i l ∙ or_left (bit s i) (eqb i k) e
+pub added_still : (w s k i : ℕ) → i < w → bit s i ≡ true → bit (added w s k) i ≡ true
+added_still w s k i l e = bit_added w s k i l ∙ or_left (bit s i) (eqb i k) e
 
-pub added-cases : (w s k i : ℕ) → bit (added w s k) i ≡ true → (bit s i ≡ true) ⊎ (i ≡ k)
-added-cases w s k i e =
-    let l = bit-lt w (added w s k) i (added-lt w s k) e in
+pub added_cases : (w s k i : ℕ) → bit (added w s k) i ≡ true → (bit s i ≡ true) ⊎ (i ≡ k)
+added_cases w s k i e =
+    let l = bit_lt w (added w s k) i (added_lt w s k) e in
     ⊎_elim inl (λ t. inr (eqb-true i k t)) (or_cases (bit s i) (eqb i k) (sym (bit_added w s k i l) ∙ e))
 
-pub removed-self : (w s k : ℕ) → k < w → bit (removed w s k) k ≡ false
-removed-self w s k h = bit-removed w s k k h ∙ and-false (bit s k) (not (eqb k k)) (rw (eq-eqb k k refl) refl)
+pub removed_self : (w s k : ℕ) → k < w → bit (removed w s k) k ≡ false
+removed_self w s k h = bit_removed w s k k h ∙ and_false (bit s k) (not (eqb k k)) (rw (eq-eqb k k refl) refl)
 
-pub removed-other : (w s k i : ℕ) → i < w → i ≢ k → bit (removed w s k) i ≡ bit s i
-removed-other w s k i l f = bit-removed w s k i l ∙ rw (ne_eqb i k f) (and_one (bit s i))
+pub removed_other : (w s k i : ℕ) → i < w → i ≢ k → bit (removed w s k) i ≡ bit s i
+removed_other w s k i l f = bit_removed w s k i l ∙ rw (ne_eqb i k f) (and_one (bit s i))
 
-pub removed-still : (w s k i : ℕ) → bit (removed w s k) i ≡ true → bit s i ≡ true
-removed-still w s k i e =
-    let l = bit-lt w (removed w s k) i (removed-lt w s k) e in
-    (both_true (bit s i) (not (eqb i k)) (sym (bit-removed w s k i l) ∙ e)).0
+pub removed_still : (w s k i : ℕ) → bit (removed w s k) i ≡ true → bit s i ≡ true
+removed_still w s k i e =
+    let l = bit_lt w (removed w s k) i (removed_lt w s k) e in
+    (both_true (bit s i) (not (eqb i k)) (sym (bit_removed w s k i l) ∙ e)).0
 
 -- ---- a set that is found router by router: what a loop over the routers below k has
-pub setOf-start : (p : ℕ → Bool) → 0 ≡ setOf 0 p
-unfolding setOf
-setOf-start p = refl
+pub set_of_start : (p : ℕ → Bool) → 0 ≡ set_of 0 p
+unfolding set_of
+set_of_start p = refl
 
-pub setOf-skip : (k : ℕ) (p : ℕ → Bool) → p k ≡ false → setOf k p ≡ setOf (k + 1) p
-unfolding setOf
-setOf-skip k p e = rw (add-one, e) (omega arith)
+pub set_of_skip : (k : ℕ) (p : ℕ → Bool) → p k ≡ false → set_of k p ≡ set_of (k + 1) p
+unfolding set_of
+set_of_skip k p e = rw (add-one, e) (omega arith)
 
-pub setOf-more : (w k : ℕ) (p : ℕ → Bool) → k < w → p k ≡ true → added w (setOf k p) k ≡ setOf (k + 1) p
-setOf-more w k p l e =
-    same_set w (added w (setOf k p) k) (setOf (k + 1) p) (added-lt w (setOf k p) k)
-    (omega (arith, setOf-lt (k + 1) p, pow_mono {i = k + 1} {j = w} (omega arith)))
-    (λ i h. bit_added w (setOf k p) k i h ∙ found i (ℕ_discrete i k) (dec_lt i k))
+pub set_of_more : (w k : ℕ) (p : ℕ → Bool) → k < w → p k ≡ true → added w (set_of k p) k ≡ set_of (k + 1) p
+set_of_more w k p l e =
+    same_set w (added w (set_of k p) k) (set_of (k + 1) p) (added_lt w (set_of k p) k)
+    (omega (arith, set_of_lt (k + 1) p, pow_mono {i = k + 1} {j = w} (omega arith)))
+    (λ i h. bit_added w (set_of k p) k i h ∙ found i (ℕ_discrete i k) (dec_lt i k))
   where
-    found : (i : ℕ) → Dec (i ≡ k) → Dec (i < k) → (bit (setOf k p) i || eqb i k) ≡ bit (setOf (k + 1) p) i
+    found : (i : ℕ) → Dec (i ≡ k) → Dec (i < k) → (bit (set_of k p) i || eqb i k) ≡ bit (set_of (k + 1) p) i
     found i (yes q) d =
-        rw (q, eq-eqb k k refl, bit-setOf (k + 1) p k (omega arith), e) (or_right (bit (setOf k p) k) true refl)
+        rw (q, eq-eqb k k refl, bit_set_of (k + 1) p k (omega arith), e) (or_right (bit (set_of k p) k) true refl)
     found i (no f) (yes h) =
-        rw (ne_eqb i k f, bit-setOf k p i h, bit-setOf (k + 1) p i (omega arith)) (or-none (p i))
+        rw (ne_eqb i k f, bit_set_of k p i h, bit_set_of (k + 1) p i (omega arith)) (or_none (p i))
     found i (no f) (no g) =
-        rw (ne_eqb i k f, bit-beyond k p i (omega arith), bit-beyond (k + 1) p i (omega arith)) refl
+        rw (ne_eqb i k f, bit_beyond k p i (omega arith), bit_beyond (k + 1) p i (omega arith)) refl
 
 -- ---- subsets
 outside : (a b : Bool) → (a ≡ true → b ≡ true) → (a && not b) ≡ false
@@ -250,20 +250,20 @@ inside true true e f = refl
 inside true false e f = sym e
 inside false b e f = absurd (false≢true f)
 
-pub without-none :
+pub without_none :
     (w s t : ℕ)
     → ((k : ℕ) → k < w → bit s k ≡ true → bit t k ≡ true)
     → without w s t ≡ 0
 unfolding without
-without-none w s t f =
-    setOf-none w (λ i. bit s i && not (bit t i)) (λ k h. outside (bit s k) (bit t k) (f k h))
+without_none w s t f =
+    set_of_none w (λ i. bit s i && not (bit t i)) (λ k h. outside (bit s k) (bit t k) (f k h))
 
 -- where t gets a member, s without t loses it
-pub without-added : (w s t k : ℕ) → without w s (added w t k) ≡ removed w (without w s t) k
+pub without_added : (w s t k : ℕ) → without w s (added w t k) ≡ removed w (without w s t) k
 unfolding without removed
-without-added w s t k =
-    setOf-same w (λ i. bit s i && not (bit (added w t k) i))
-    (λ i. bit (setOf w (λ j. bit s j && not (bit t j))) i && not (eqb i k)) one
+without_added w s t k =
+    set_of_same w (λ i. bit s i && not (bit (added w t k) i))
+    (λ i. bit (set_of w (λ j. bit s j && not (bit t j))) i && not (eqb i k)) one
   where
     both : (a b c : Bool) → (a && not (b || c)) ≡ ((a && not b) && not c)
     both true true c = refl
@@ -273,11 +273,11 @@ without-added w s t k =
     one : (i : ℕ)
         → i < w
         → (bit s i && not (bit (added w t k) i))
-        ≡ (bit (setOf w (λ j. bit s j && not (bit t j))) i && not (eqb i k))
+        ≡ (bit (set_of w (λ j. bit s j && not (bit t j))) i && not (eqb i k))
     one i h =
-        rw (bit_added w t k i h, bit-setOf w (λ j. bit s j && not (bit t j)) i h) (both (bit s i) (bit t i) (eqb i k))
+        rw (bit_added w t k i h, bit_set_of w (λ j. bit s j && not (bit t j)) i h) (both (bit s i) (bit t i) (eqb i k))
 
-pub subset-at :
+pub subset_at :
     (w s t : ℕ)
     → subset w s t ≡ true
     → (k : ℕ)
@@ -285,16 +285,16 @@ pub subset-at :
     → bit s k ≡ true
     → bit t k ≡ true
 unfolding subset without
-subset-at w s t e k h =
+subset_at w s t e k h =
     let p : ℕ → Bool = λ i. bit s i && not (bit t i) in
-    inside (bit s k) (bit t k) (none-setOf w p (eqb-true (setOf w p) 0 e) k h)
+    inside (bit s k) (bit t k) (none_set_of w p (eqb-true (set_of w p) 0 e) k h)
 
-pub at-subset :
+pub at_subset :
     (w s t : ℕ)
     → ((k : ℕ) → k < w → bit s k ≡ true → bit t k ≡ true)
     → subset w s t ≡ true
 unfolding subset
-at-subset w s t f = eq-eqb (without w s t) 0 (without-none w s t f)
+at_subset w s t f = eq-eqb (without w s t) 0 (without_none w s t f)
 
 -- ---- what code computes: a bit of an operation that goes digit by digit
 module _
@@ -306,45 +306,45 @@ module _
     (io : eqb (op 1 0) 1 ≡ f true false)
     (ii : eqb (op 1 1) 1 ≡ f true true)
   where
-    op-digit : (d e : ℕ) → d < 2 → e < 2 → eqb (op d e) 1 ≡ f (eqb d 1) (eqb e 1)
-    op-digit zero zero h l = oo
-    op-digit zero (suc zero) h l = oi
-    op-digit zero (suc (suc e)) h l = absurd (omega arith)
-    op-digit (suc zero) zero h l = io
-    op-digit (suc zero) (suc zero) h l = ii
-    op-digit (suc zero) (suc (suc e)) h l = absurd (omega arith)
-    op-digit (suc (suc d)) e h l = absurd (omega arith)
+    op_digit : (d e : ℕ) → d < 2 → e < 2 → eqb (op d e) 1 ≡ f (eqb d 1) (eqb e 1)
+    op_digit zero zero h l = oo
+    op_digit zero (suc zero) h l = oi
+    op_digit zero (suc (suc e)) h l = absurd (omega arith)
+    op_digit (suc zero) zero h l = io
+    op_digit (suc zero) (suc zero) h l = ii
+    op_digit (suc zero) (suc (suc e)) h l = absurd (omega arith)
+    op_digit (suc (suc d)) e h l = absurd (omega arith)
 
-    bit-op : (s t k : ℕ) → bit (op s t) k ≡ f (bit s k) (bit t k)
+    bit_op : (s t k : ℕ) → bit (op s t) k ≡ f (bit s k) (bit t k)
     unfolding bit
-    bit-op s t k =
+    bit_op s t k =
         ap (λ (x : ℕ). eqb (x % 2) 1) (shr s t k)
         ∙ ap (λ (x : ℕ). eqb x 1) (low (s / 2 ^ k) (t / 2 ^ k) 1)
-        ∙ op-digit (s / 2 ^ k % 2) (t / 2 ^ k % 2) (omega arith) (omega arith)
+        ∙ op_digit (s / 2 ^ k % 2) (t / 2 ^ k % 2) (omega arith) (omega arith)
 
-pub bit-or : (s t k : ℕ) → bit (bit_or s t) k ≡ (bit s k || bit t k)
-bit-or = bit-op bit_or ◌||◌ or_shr or_mod refl refl refl refl
+pub bit_or_lem : (s t k : ℕ) → bit (bit_or s t) k ≡ (bit s k || bit t k)
+bit_or_lem = bit_op bit_or ◌||◌ or_shr or_mod refl refl refl refl
 
-pub bit-and : (s t k : ℕ) → bit (bit_and s t) k ≡ (bit s k && bit t k)
-bit-and = bit-op bit_and ◌&&◌ and_shr and_mod refl refl refl refl
+pub bit_and_lem : (s t k : ℕ) → bit (bit_and s t) k ≡ (bit s k && bit t k)
+bit_and_lem = bit_op bit_and ◌&&◌ and_shr and_mod refl refl refl refl
 
 abbrev differs : Bool → Bool → Bool
 differs a true = not a
 differs a false = a
 
-bit-xor : (s t k : ℕ) → bit (bit_xor s t) k ≡ differs (bit s k) (bit t k)
-bit-xor = bit-op bit_xor differs xor_shr xor_mod refl refl refl refl
+bit_xor_lem : (s t k : ℕ) → bit (bit_xor s t) k ≡ differs (bit s k) (bit t k)
+bit_xor_lem = bit_op bit_xor differs xor_shr xor_mod refl refl refl refl
 
 -- `1 << k` at a type of w bits, and its one member
 one_shifted : (w k : ℕ) → k < w → (1 * 2 ^ k) % 2 ^ w ≡ 2 ^ k
 one_shifted w k h = shl_exact 1 k w (omega arith) (omega arith) ∙ omega arith
 
-pub bit-one : (i k : ℕ) → bit (2 ^ k) i ≡ eqb i k
-bit-one i k = elim (ℕ_discrete i k) [
-  | yes e ↦ rw e (ap (λ (x : ℕ). bit x k) one ∙ bit-top 0 k true (pow_pos k) ∙ sym (eq-eqb k k refl))
+pub bit_one : (i k : ℕ) → bit (2 ^ k) i ≡ eqb i k
+bit_one i k = elim (ℕ_discrete i k) [
+  | yes e ↦ rw e (ap (λ (x : ℕ). bit x k) one ∙ bit_top 0 k true (pow_pos k) ∙ sym (eq-eqb k k refl))
   | no f ↦ elim (dec_lt i k) [
-    | yes l ↦ ap (λ (x : ℕ). bit x i) one ∙ bit-low 0 1 i k l ∙ bit-zero i
-    | no m ↦ bit-above (2 ^ k) i (pow-lt {i = k} {j = i} (omega arith))
+    | yes l ↦ ap (λ (x : ℕ). bit x i) one ∙ bit_low 0 1 i k l ∙ bit_zero i
+    | no m ↦ bit_above (2 ^ k) i (pow-lt {i = k} {j = i} (omega arith))
   ] ∙ sym (ne_eqb i k f)
 ]
   where
@@ -353,36 +353,36 @@ bit-one i k = elim (ℕ_discrete i k) [
 
 module _ (w s : ℕ) (fits : s < 2 ^ w) where
   -- s | (1 << k)
-  pub or-added : (k : ℕ) → k < w → bit_or s ((1 * 2 ^ k) % 2 ^ w) ≡ added w s k
+  pub or_added : (k : ℕ) → k < w → bit_or s ((1 * 2 ^ k) % 2 ^ w) ≡ added w s k
   unfolding added
-  or-added k h =
+  or_added k h =
       rw (one_shifted w k h)
-      (is-setOf w (bit_or s (2 ^ k)) (λ i. bit s i || eqb i k) (or_lt w s (2 ^ k) fits (pow-lt h))
-      (λ i l. bit-or s (2 ^ k) i ∙ ap (λ (b : Bool). bit s i || b) (bit-one i k)))
+      (is_set_of w (bit_or s (2 ^ k)) (λ i. bit s i || eqb i k) (or_lt w s (2 ^ k) fits (pow-lt h))
+      (λ i l. bit_or_lem s (2 ^ k) i ∙ ap (λ (b : Bool). bit s i || b) (bit_one i k)))
 
   -- no router from w on can be added
-  pub same-added : (k : ℕ) → w ≤ k → s ≡ added w s k
+  pub same_added : (k : ℕ) → w ≤ k → s ≡ added w s k
   unfolding added
-  same-added k h =
-      is-setOf w s (λ i. bit s i || eqb i k) fits
-      (λ i l. rw (ne_eqb i k (λ e. let x : ⊥ = omega arith in x)) (sym (or-none (bit s i))))
+  same_added k h =
+      is_set_of w s (λ i. bit s i || eqb i k) fits
+      (λ i l. rw (ne_eqb i k (λ e. let x : ⊥ = omega arith in x)) (sym (or_none (bit s i))))
 
   -- s ^ (1 << k), where k is a member
-  pub xor-removed : (k : ℕ) → k < w → bit s k ≡ true → bit_xor s ((1 * 2 ^ k) % 2 ^ w) ≡ removed w s k
+  pub xor_removed : (k : ℕ) → k < w → bit s k ≡ true → bit_xor s ((1 * 2 ^ k) % 2 ^ w) ≡ removed w s k
   unfolding removed
-  xor-removed k h e =
+  xor_removed k h e =
       rw (one_shifted w k h)
-      (is-setOf w (bit_xor s (2 ^ k)) (λ i. bit s i && not (eqb i k)) (xor_lt w s (2 ^ k) fits (pow-lt h))
-      (λ i l. bit-xor s (2 ^ k) i ∙ ap (differs (bit s i)) (bit-one i k) ∙ struck i (ℕ_discrete i k)))
+      (is_set_of w (bit_xor s (2 ^ k)) (λ i. bit s i && not (eqb i k)) (xor_lt w s (2 ^ k) fits (pow-lt h))
+      (λ i l. bit_xor_lem s (2 ^ k) i ∙ ap (differs (bit s i)) (bit_one i k) ∙ struck i (ℕ_discrete i k)))
     where
       struck : (i : ℕ) → Dec (i ≡ k) → differs (bit s i) (eqb i k) ≡ (bit s i && not (eqb i k))
       struck i (yes q) = rw (q, eq-eqb k k refl, e) refl
       struck i (no f) = rw (ne_eqb i k f) (sym (and_one (bit s i)))
 
   -- a router that is no member need not be removed
-  pub same-removed : (k : ℕ) → bit s k ≡ false → s ≡ removed w s k
+  pub same_removed : (k : ℕ) → bit s k ≡ false → s ≡ removed w s k
   unfolding removed
-  same-removed k e = is-setOf w s (λ i. bit s i && not (eqb i k)) fits (λ i l. kept i (ℕ_discrete i k))
+  same_removed k e = is_set_of w s (λ i. bit s i && not (eqb i k)) fits (λ i l. kept i (ℕ_discrete i k))
     where
       kept : (i : ℕ) → Dec (i ≡ k) → bit s i ≡ (bit s i && not (eqb i k))
       kept i (yes q) = rw (q, eq-eqb k k refl, e) refl
@@ -390,17 +390,17 @@ module _ (w s : ℕ) (fits : s < 2 ^ w) where
 
   module _ (t : ℕ) (room : t < 2 ^ w) where
     -- s | t
-    pub or-union : bit_or s t ≡ union w s t
+    pub or_union : bit_or s t ≡ union w s t
     unfolding union
-    or-union = is-setOf w (bit_or s t) (λ i. bit s i || bit t i) (or_lt w s t fits room) (λ i l. bit-or s t i)
+    or_union = is_set_of w (bit_or s t) (λ i. bit s i || bit t i) (or_lt w s t fits room) (λ i l. bit_or_lem s t i)
 
     -- s ^ (s & t)
-    pub xor-without : bit_xor s (bit_and s t) ≡ without w s t
+    pub xor_without : bit_xor s (bit_and s t) ≡ without w s t
     unfolding without
-    xor-without =
-        is-setOf w (bit_xor s (bit_and s t)) (λ i. bit s i && not (bit t i))
+    xor_without =
+        is_set_of w (bit_xor s (bit_and s t)) (λ i. bit s i && not (bit t i))
         (xor_lt w s (bit_and s t) fits (and_lt w s t fits room))
-        (λ i l. bit-xor s (bit_and s t) i ∙ ap (differs (bit s i)) (bit-and s t i) ∙ struck (bit s i) (bit t i))
+        (λ i l. bit_xor_lem s (bit_and s t) i ∙ ap (differs (bit s i)) (bit_and_lem s t i) ∙ struck (bit s i) (bit t i))
       where
         struck : (a b : Bool) → differs a (a && b) ≡ (a && not b)
         struck true true = refl
@@ -408,8 +408,8 @@ module _ (w s : ℕ) (fits : s < 2 ^ w) where
         struck false b = refl
 
     -- s & t == s
-    pub and-subset : eqb (bit_and s t) s ≡ subset w s t
-    and-subset = same_test (eqb (bit_and s t) s) (subset w s t) down up
+    pub and_subset : eqb (bit_and s t) s ≡ subset w s t
+    and_subset = same_test (eqb (bit_and s t) s) (subset w s t) down up
       where
         part : (a b : Bool) → (a && b) ≡ a → a ≡ true → b ≡ true
         part true b e f = e
@@ -422,16 +422,16 @@ module _ (w s : ℕ) (fits : s < 2 ^ w) where
         down : eqb (bit_and s t) s ≡ true → subset w s t ≡ true
         down e =
             let same = eqb-true (bit_and s t) s e in
-            at-subset w s t
-            (λ k h. part (bit s k) (bit t k) (sym (bit-and s t k) ∙ ap (λ (x : ℕ). bit x k) same))
+            at_subset w s t
+            (λ k h. part (bit s k) (bit t k) (sym (bit_and_lem s t k) ∙ ap (λ (x : ℕ). bit x k) same))
 
         up : subset w s t ≡ true → eqb (bit_and s t) s ≡ true
         up e =
             eq-eqb (bit_and s t) s
             (same_set w (bit_and s t) s (and_lt w s t fits room) fits
-            (λ k h. bit-and s t k ∙ whole (bit s k) (bit t k) (subset-at w s t e k h)))
+            (λ k h. bit_and_lem s t k ∙ whole (bit s k) (bit t k) (subset_at w s t e k h)))
 
-pub added-below : (w n s k : ℕ) → n ≤ w → s < 2 ^ n → k < n → added w s k < 2 ^ n
-added-below w n s k b h l =
-    rw (← or-added w s (omega (arith, pow_mono b)) k (omega arith), one_shifted w k (omega arith))
+pub added_below : (w n s k : ℕ) → n ≤ w → s < 2 ^ n → k < n → added w s k < 2 ^ n
+added_below w n s k b h l =
+    rw (← or_added w s (omega (arith, pow_mono b)) k (omega arith), one_shifted w k (omega arith))
     (or_lt n s (2 ^ k) h (pow-lt l))

@@ -9,11 +9,11 @@
 // are specs/Follow.antt; that they finish every router is specs/FollowLaws.antt, and how many they are LengthLaws.antt.
 ghost use Rattle.std.specs.Prelude.{◌≡◌, not, ◌&&◌, ◌≤◌, get_or};
 ghost use Rattle.area.specs.Limits.{width};
-ghost use Rattle.area.specs.Refusals.{verdictNumber};
-ghost use Rattle.area.specs.Tables.{perRouter};
+ghost use Rattle.area.specs.Refusals.{verdict_number};
+ghost use Rattle.area.specs.Tables.{per_router};
 ghost use Rattle.sets.specs.Sets.{bit, subset};
-ghost use Rattle.plan.specs.Plan.{tablesIn, areTables, planRefusal, recordOf, tables_of};
-ghost use Rattle.sheet.specs.Sheet.{nextAfter, placeAt, sheetOf};
+ghost use Rattle.plan.specs.Plan.{tables_in, are_tables, plan_refusal, record_of, tables_of};
+ghost use Rattle.sheet.specs.Sheet.{next_after, place_at, sheet_of};
 
 use area::limits::{Set, WIDTH};
 use area::refusal::Verdict;
@@ -43,20 +43,20 @@ pub fn sheet(
     new_hops: &mut [Set],
     new_fours: &mut [Set],
 ) -> RunningSheet
-    ensures answer { let lent = tablesIn new.entry
+    ensures answer { let lent = tables_in new.entry
         old_dist.entry old_hops.entry old_fours.entry
         new_dist.entry new_hops.entry new_fours.entry in
-        verdictNumber result.answer
-        ≡ planRefusal n step_time old.now list.now (areTables old.now lent) }
-    ensures routers { let lent = tablesIn new.entry
+        verdict_number result.answer
+        ≡ plan_refusal n step_time old.now list.now (are_tables old.now lent) }
+    ensures routers { let lent = tables_in new.entry
         old_dist.entry old_hops.entry old_fours.entry
         new_dist.entry new_hops.entry new_fours.entry in
         result.routers
-        ≡ sheetOf (recordOf n hold_time step_time old.now list.now lent) }
-    ensures tables { let lent = tablesIn new.entry
+        ≡ sheet_of (record_of n hold_time step_time old.now list.now lent) }
+    ensures tables { let lent = tables_in new.entry
         old_dist.entry old_hops.entry old_fours.entry
         new_dist.entry new_hops.entry new_fours.entry in
-        let left = tablesIn new.exit
+        let left = tables_in new.exit
         old_dist.exit old_hops.exit old_fours.exit
         new_dist.exit new_hops.exit new_fours.exit in
         left ≡ tables_of n step_time old.now list.now lent }
@@ -76,7 +76,7 @@ pub fn sheet(
 // The sheet of a record. Where no router could come, as where two wait for each other, a place holds n. All is 0 where
 // n is above WIDTH.
 pub fn in_turn(first: Record) -> [u8; WIDTH]
-    ensures sheet { result ≡ sheetOf first }
+    ensures sheet { result ≡ sheet_of first }
 {
     let n = first.n as usize;
     if WIDTH < n {
@@ -89,7 +89,7 @@ pub fn in_turn(first: Record) -> [u8; WIDTH]
 // The router at each of n places.
 fn by_turns(n: usize, waiting: [Set; WIDTH]) -> [u8; WIDTH]
     requires { n ≤ width }
-    ensures { result ≡ perRouter width n (placeAt n (λ r. get_or waiting r 0)) }
+    ensures { result ≡ per_router width n (place_at n (λ r. get_or waiting r 0)) }
 {
     let mut routers = [0u8; WIDTH];
     let mut placed: Set = 0;
@@ -104,7 +104,7 @@ fn by_turns(n: usize, waiting: [Set; WIDTH]) -> [u8; WIDTH]
 // The lowest router that could come after those that are placed; n where none could.
 fn next_after(n: usize, waiting: [Set; WIDTH], placed: Set) -> usize
     requires { n ≤ width }
-    ensures { (result ≤ n) × (result ≡ nextAfter n (λ k. get_or waiting k 0) placed) }
+    ensures { (result ≤ n) × (result ≡ next_after n (λ k. get_or waiting k 0) placed) }
 {
     for r in 0..n {
         if could_come(waiting[r], placed, r) {

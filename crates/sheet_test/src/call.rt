@@ -1,6 +1,6 @@
 // Calls of the running sheet.
 ghost use Rattle.std.specs.Prelude.{◌*◌, ◌+◌, ◌≤◌};
-ghost use Rattle.area.specs.Limits.{mostChanges};
+ghost use Rattle.area.specs.Limits.{most_changes};
 
 use crate::{by_hand, show};
 use area::limits::Set;
@@ -43,7 +43,7 @@ fn of_change(words: &[u8]) {
 }
 
 fn parts(words: &[u8], old: &[u32; LONG_TABLE], list: &[u8; LONG_LIST], bytes: usize)
-    requires { bytes ≤ 5 * (mostChanges + 2) }
+    requires { bytes ≤ 5 * (most_changes + 2) }
 {
     let table = &old[..];
     let changes = &list[..];

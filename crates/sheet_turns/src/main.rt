@@ -1,12 +1,12 @@
 // Reads a bench file from standard input, and prints the running sheet of its change: a line for each turn, with the
 // destinations that the router writes and the routers that it tells, and an end; or the refusal alone. What is printed
-// is `sheetTurns` of crates/report/specs/Report.antt, the whole of it, of the whole input; this program lends the
+// is `sheet_turns` of crates/report/specs/Report.antt, the whole of it, of the whole input; this program lends the
 // tables, and buffers that have room for both.
 ghost use Rattle.std.specs.Prelude.{◌≡◌, List, ℕ, ◌<◌, length, take};
 ghost use Rattle.io.specs.Counts.{IsPrefixLen};
-ghost use Rattle.plan.specs.Plan.{tablesIn};
+ghost use Rattle.plan.specs.Plan.{tables_in};
 ghost use Rattle.bench_file.specs.Sections.{largest};
-ghost use Rattle.report.specs.Report.{sheetTurns};
+ghost use Rattle.report.specs.Report.{sheet_turns};
 ghost use Rattle.streams.specs.Streams.{ReadOf};
 
 use area::limits::{CELLS, LARGEST, Set, UNUSED};
@@ -62,12 +62,12 @@ fn whole(
     requires largest_in_bounds { largest < length file.now }
     requires prefix_len { IsPrefixLen count file.now }
     ensures counted { IsPrefixLen result out.new }
-    ensures text { let lent = tablesIn new.entry
+    ensures text { let lent = tables_in new.entry
         old_dist.entry old_hops.entry old_fours.entry
         new_dist.entry new_hops.entry new_fours.entry in
         ((input : List ℕ)
         → ReadOf input file.now count
-        → take result out.new ≡ sheetTurns input old.old lent) }
+        → take result out.new ≡ sheet_turns input old.old lent) }
 {
     report::print(
         Text::SheetTurns,

@@ -3,13 +3,13 @@
 --     C1 .. C13        the rows of 01's table, each drawn above it
 --     sheets           after them, running sheets (02, No. 1)
 --     orders           lists of changes in several orders (02, No. 2)
---     halfLinks        links that are up at one end only (02, No. 4)
---     deadLinks        files that list dead links (02, No. 5)
---     isisAreas        lists of IS-IS entries (02, No. 6), and
---     isisFaults       those that are refused
+--     half_links        links that are up at one end only (02, No. 4)
+--     dead_links        files that list dead links (02, No. 5)
+--     isis_areas        lists of IS-IS entries (02, No. 6), and
+--     isis_faults       those that are refused
 --     largest          the largest areas, and those that are too large (02, No. 7)
 --     counted          how many calls a change needs, and how many are missing (02, No. 8)
---     fiveNextHops     more next hops than a set of four holds (02, No. 9)
+--     five_next_hops     more next hops than a set of four holds (02, No. 9)
 --     timers           clock, hold-down and due times; files with times and without (02, No. 10)
 --     rehearsed        and all that the rehearsal replies and prints
 --     agreed           the theorem
@@ -17,10 +17,10 @@ use Rattle.std.specs.Prelude.{ℕ, zero, suc, ◌/◌, ◌%◌, ◌≡◌, refl,
 use Rattle.machine.specs.Answers.{ok, ignored, refused}
 use Rattle.text.specs.Text.{word}
 use Rattle.small_areas.specs.Questions.{Question, refusal, root, ranks, waits, due, distance, set, four}
-use Rattle.small_areas.specs.Questions.{oldSet, newSet, oldFour, newFour, distanceBy, setBy, sheet, step}
-use Rattle.small_areas.specs.Questions.{times, timesAfter, dueTime}
-use Rattle.small_areas.specs.Questions.{allSteps, needs, missing, printed, oldRefusal, rewrites, isis}
-use Rattle.small_areas.specs.Questions.{isisMetric, Value, answer}
+use Rattle.small_areas.specs.Questions.{old_set, new_set, old_four, new_four, distance_by, set_by, sheet, step}
+use Rattle.small_areas.specs.Questions.{times, times_after, due_time}
+use Rattle.small_areas.specs.Questions.{all_steps, needs, missing, printed, old_refusal, rewrites, isis}
+use Rattle.small_areas.specs.Questions.{isis_metric, Value, answer}
 
 -- ---- bench files as bytes (01, "The bench file"; 02, No. 10)
 -- a number in two bytes
@@ -113,15 +113,15 @@ rehearsal =
     ∷ []
 
 -- the same bytes from `bench`: of C1's links 1–2 goes down, and ten steps follow
-tenSteps : List ℕ
-tenSteps =
+ten_steps : List ℕ
+ten_steps =
     learn 1 ++ release 1 ++ write 1 2
     ++ learn 0 ++ release 0 ++ write 0 2 ++ finish 0
     ++ deliver 0 1 ++ deliver 0 1 ++ write 1 2
 
-rehearsal-is : rehearsal ≡ bench 3 (triangle 3) (both 1 2 down) tenSteps
-unfolding tenSteps
-rehearsal-is = refl
+rehearsal_is : rehearsal ≡ bench 3 (triangle 3) (both 1 2 down) ten_steps
+unfolding ten_steps
+rehearsal_is = refl
 
 -- ---- the list
 -- a question and its answer
@@ -176,7 +176,7 @@ C2 =
 abbrev C3 : Case
 C3 =
     case (bench 3 (triangle 2) (both 1 2 down) [])
-    (oldSet 0 2 is 6 ∷ newSet 0 2 is 4 ∷ [])
+    (old_set 0 2 is 6 ∷ new_set 0 2 is 4 ∷ [])
 
 -- C4: C1 with its changes in the other order, 2→1 before 1→2, and the same plan (02, No. 2).
 abbrev C4 : Case
@@ -191,7 +191,7 @@ C4 =
 abbrev C5 : Case
 C5 =
     case []
-    (distanceBy 2 (replicate 4_096 down) 0 1 is 4_294_967_295 ∷ setBy 2 (replicate 4_096 down) 0 1 is 0 ∷ [])
+    (distance_by 2 (replicate 4_096 down) 0 1 is 4_294_967_295 ∷ set_by 2 (replicate 4_096 down) 0 1 is 0 ∷ [])
 
 -- C6: the largest metric of a used link.
 --
@@ -251,32 +251,32 @@ abbrev places : (routers : List ℕ) → List ℕ
 places routers = take 64 (routers ++ replicate 64 0)
 
 -- In C1 and in C4 router 1 waits for 0 and 2.
-abbrev sheetC1 : Case
-sheetC1 = case C1.file (sheet is places (0 ∷ 2 ∷ 1 ∷ []) ∷ [])
+abbrev sheet_c1 : Case
+sheet_c1 = case C1.file (sheet is places (0 ∷ 2 ∷ 1 ∷ []) ∷ [])
 
 -- In C2 routers 0 and 2 wait for 1.
-abbrev sheetC2 : Case
-sheetC2 = case C2.file (sheet is places (1 ∷ 0 ∷ 2 ∷ []) ∷ [])
+abbrev sheet_c2 : Case
+sheet_c2 = case C2.file (sheet is places (1 ∷ 0 ∷ 2 ∷ []) ∷ [])
 
-abbrev sheetC4 : Case
-sheetC4 = case C4.file (sheet is places (0 ∷ 2 ∷ 1 ∷ []) ∷ [])
+abbrev sheet_c4 : Case
+sheet_c4 = case C4.file (sheet is places (0 ∷ 2 ∷ 1 ∷ []) ∷ [])
 
 -- C9 is refused.
-abbrev sheetC9 : Case
-sheetC9 = case C9.file (sheet is places [] ∷ [])
+abbrev sheet_c9 : Case
+sheet_c9 = case C9.file (sheet is places [] ∷ [])
 
 -- The lowest number that could come, and no order by rank, which would be 0 2 1 3: once 0 stands there, 1 waits for no
 -- other, and neither does 2.
 --
 --        0 --1-- 1 --1-- 3 --1-- 2          0 --1-- 1 --2-> 3 <-2-- 2
 --                                           0 --1-- 1 <-1-- 3 --1-> 2
-abbrev lowestFirst : Case
-lowestFirst =
+abbrev lowest_first : Case
+lowest_first =
     case (bench 4 (both 0 1 1 ++ both 1 3 1 ++ both 2 3 1) (link 2 3 2 ++ link 1 3 2) [])
     (ranks is (0 ∷ 1 ∷ 0 ∷ 2 ∷ []) ∷ sheet is places (0 ∷ 1 ∷ 2 ∷ 3 ∷ []) ∷ [])
 
 abbrev sheets : List Case
-sheets = sheetC1 ∷ sheetC2 ∷ sheetC4 ∷ sheetC9 ∷ lowestFirst ∷ []
+sheets = sheet_c1 ∷ sheet_c2 ∷ sheet_c4 ∷ sheet_c9 ∷ lowest_first ∷ []
 
 -- ---- the order of the changes (02, No. 2)
 -- A fall of three changes that have router 1 in common. In either order the root is 1, and 0 and 2 wait for it; in the
@@ -284,130 +284,130 @@ sheets = sheetC1 ∷ sheetC2 ∷ sheetC4 ∷ sheetC9 ∷ lowestFirst ∷ []
 --
 --        0 --2-- 1 --2-- 2          0 --1-- 1 --1-> 2
 --                                           1 <-2-- 2
-abbrev threeChanges : (changes : List ℕ) → Case
-threeChanges changes =
+abbrev three_changes : (changes : List ℕ) → Case
+three_changes changes =
     case (bench 3 (both 0 1 2 ++ both 1 2 2) changes [])
     (root is 1 ∷ ranks is (1 ∷ 0 ∷ 1 ∷ []) ∷ waits is (2 ∷ 0 ∷ 2 ∷ []) ∷ [])
 
 -- The number of a refusal is that of the first faulty change, so it does depend on the order: there is no link from 1
 -- to itself, and there is no router 3.
-abbrev twoFaults : (changes : List ℕ) (number : ℕ) → Case
-twoFaults changes number = case (bench 3 (triangle 3) changes []) (refusal is number ∷ [])
+abbrev two_faults : (changes : List ℕ) (number : ℕ) → Case
+two_faults changes number = case (bench 3 (triangle 3) changes []) (refusal is number ∷ [])
 
 abbrev orders : List Case
 orders =
-    threeChanges (link 1 2 1 ++ link 1 0 1 ++ link 0 1 1)
-    ∷ threeChanges (link 0 1 1 ++ link 1 2 1 ++ link 1 0 1)
-    ∷ twoFaults (link 1 1 2 ++ link 3 0 2) 5
-    ∷ twoFaults (link 3 0 2 ++ link 1 1 2) 4
+    three_changes (link 1 2 1 ++ link 1 0 1 ++ link 0 1 1)
+    ∷ three_changes (link 0 1 1 ++ link 1 2 1 ++ link 1 0 1)
+    ∷ two_faults (link 1 1 2 ++ link 3 0 2) 5
+    ∷ two_faults (link 3 0 2 ++ link 1 1 2) 4
     ∷ []
 
 -- ---- links that are up at one end only (02, No. 4)
 -- One direction has a metric and the other has none: the link carries nothing, either way.
 --
 --        0 --5-> 1
-abbrev halfLink : Case
-halfLink =
+abbrev half_link : Case
+half_link =
     case (bench 2 (link 0 1 5) [] [])
     (distance 0 1 is 4_294_967_295 ∷ set 0 1 is 0 ∷ distance 1 0 is 4_294_967_295 ∷ set 1 0 is 0 ∷ [])
 
 -- One direction comes up alone: nothing is usable that was not.
-abbrev halfComesUp : Case
-halfComesUp = case (bench 2 [] (link 0 1 5) []) (refusal is 11 ∷ [])
+abbrev half_comes_up : Case
+half_comes_up = case (bench 2 [] (link 0 1 5) []) (refusal is 11 ∷ [])
 
 -- The other one comes up too, and it alone is listed: a fall, and both directions are usable.
-abbrev otherComesUp : Case
-otherComesUp =
+abbrev other_comes_up : Case
+other_comes_up =
     case (bench 2 (link 0 1 5) (link 1 0 7) [])
-    (refusal is 0 ∷ oldSet 0 1 is 0 ∷ newSet 0 1 is 2 ∷ newSet 1 0 is 1 ∷ [])
+    (refusal is 0 ∷ old_set 0 1 is 0 ∷ new_set 0 1 is 2 ∷ new_set 1 0 is 1 ∷ [])
 
 -- One direction goes down, and with it the other, which is not listed.
-abbrev halfGoesDown : Case
-halfGoesDown =
+abbrev half_goes_down : Case
+half_goes_down =
     case (bench 2 (both 0 1 5) (link 0 1 down) [])
-    (refusal is 0 ∷ oldSet 1 0 is 1 ∷ newSet 1 0 is 0 ∷ [])
+    (refusal is 0 ∷ old_set 1 0 is 1 ∷ new_set 1 0 is 0 ∷ [])
 
 -- One direction gets a smaller metric and the other goes down: neither is usable any longer, so it is a rise, and 1
 -- waits for 0 in it.
-abbrev smallerAndDown : Case
-smallerAndDown =
+abbrev smaller_and_down : Case
+smaller_and_down =
     case (bench 3 (both 0 1 5 ++ both 1 2 1) (link 1 2 3 ++ link 2 1 down) [])
     (refusal is 0 ∷ root is 1 ∷ waits is (0 ∷ 5 ∷ 0 ∷ []) ∷ [])
 
 -- 2→0 has no link back, so it has no effect; beside 1→0, which has one, it is allowed, and is listed: the root is
 -- 0, the only router in common. With 2→3 there is none.
-abbrev withoutEffect : Case
-withoutEffect = case (bench 3 (both 0 1 5) (link 1 0 7 ++ link 2 0 4) []) (refusal is 0 ∷ root is 0 ∷ [])
+abbrev without_effect : Case
+without_effect = case (bench 3 (both 0 1 5) (link 1 0 7 ++ link 2 0 4) []) (refusal is 0 ∷ root is 0 ∷ [])
 
-abbrev withoutCommon : Case
-withoutCommon = case (bench 4 (both 0 1 5) (link 0 1 7 ++ link 2 3 4) []) (refusal is 13 ∷ [])
+abbrev without_common : Case
+without_common = case (bench 4 (both 0 1 5) (link 0 1 7 ++ link 2 3 4) []) (refusal is 13 ∷ [])
 
 -- Where no usable metric differs it is 11, after the faults of all entries, and before 13: C9 without its links back.
-abbrev afterEntries : Case
-afterEntries = case (bench 2 [] (link 0 1 5 ++ link 0 9 5) []) (refusal is 4 ∷ [])
+abbrev after_entries : Case
+after_entries = case (bench 2 [] (link 0 1 5 ++ link 0 9 5) []) (refusal is 4 ∷ [])
 
-abbrev beforeCommon : Case
-beforeCommon = case (bench 4 (link 0 1 1 ++ link 2 3 1) (link 0 1 2 ++ link 2 3 2) []) (refusal is 11 ∷ [])
+abbrev before_common : Case
+before_common = case (bench 4 (link 0 1 1 ++ link 2 3 1) (link 0 1 2 ++ link 2 3 2) []) (refusal is 11 ∷ [])
 
 -- A usable metric rises and another falls; one that falls in the table alone does not count.
 abbrev mixed : Case
 mixed = case (bench 3 (both 0 1 5 ++ both 0 2 5) (link 0 1 7 ++ link 0 2 3) []) (refusal is 12 ∷ [])
 
-abbrev notMixed : Case
-notMixed = case (bench 3 (both 0 1 5 ++ link 0 2 5) (link 0 1 7 ++ link 0 2 3) []) (refusal is 0 ∷ [])
+abbrev not_mixed : Case
+not_mixed = case (bench 3 (both 0 1 5 ++ link 0 2 5) (link 0 1 7 ++ link 0 2 3) []) (refusal is 0 ∷ [])
 
-abbrev halfLinks : List Case
-halfLinks =
-    halfLink ∷ halfComesUp ∷ otherComesUp ∷ halfGoesDown ∷ smallerAndDown ∷ withoutEffect ∷ withoutCommon
-    ∷ afterEntries ∷ beforeCommon ∷ mixed ∷ notMixed ∷ []
+abbrev half_links : List Case
+half_links =
+    half_link ∷ half_comes_up ∷ other_comes_up ∷ half_goes_down ∷ smaller_and_down ∷ without_effect ∷ without_common
+    ∷ after_entries ∷ before_common ∷ mixed ∷ not_mixed ∷ []
 
 -- ---- dead links (02, No. 5)
 -- Read refuses a file that lists one, and the old reader accepts it; it is rewritten without it, and with times.
-abbrev deadLink : Case
-deadLink =
+abbrev dead_link : Case
+dead_link =
     case (0x02 ∷ 0x00 ∷ 0x01 ∷ 0x00 ∷ 0x01 ∷ 0xFF ∷ 0xFF ∷ 0xFF ∷ 0x00 ∷ 0x00 ∷ 0x00 ∷ [])
-    (refusal is 30 ∷ oldRefusal is 0
+    (refusal is 30 ∷ old_refusal is 0
     ∷ rewrites is (0x02 ∷ 0x00 ∷ 0x00 ∷ 0x00 ∷ 0x00 ∷ 0x00 ∷ 0x00 ∷ 0x01 ∷ 0x00 ∷ 0x00 ∷ [])
     ∷ [])
 
 -- The others keep their order, and changes and steps stay as they are.
-abbrev deadAmongLive : Case
-deadAmongLive =
+abbrev dead_among_live : Case
+dead_among_live =
     case
     (stored 3 (link 2 0 down ++ link 0 1 1 ++ link 1 2 down ++ link 1 0 1 ++ link 2 1 down) (both 1 2 down) (learn 1))
     (refusal is 30 ∷ rewrites is bench 3 (both 0 1 1) (both 1 2 down) (learn 1) ∷ [])
 
 -- The same dead link twice: 30 comes before 7, and for the old reader the pair is in the list already.
-abbrev deadTwice : Case
-deadTwice =
+abbrev dead_twice : Case
+dead_twice =
     case (stored 2 (link 0 1 down ++ link 0 1 down) [] [])
-    (refusal is 30 ∷ oldRefusal is 7 ∷ rewrites is word "refused 7\n" ∷ [])
+    (refusal is 30 ∷ old_refusal is 7 ∷ rewrites is word "refused 7\n" ∷ [])
 
 -- 4, 5 and 6 come before 30, and the first link with a fault decides.
-abbrev deadElsewhere : (links : List ℕ) (number old : ℕ) → Case
-deadElsewhere links number old =
-    case (stored 2 links [] []) (refusal is number ∷ oldRefusal is old ∷ [])
+abbrev dead_elsewhere : (links : List ℕ) (number old : ℕ) → Case
+dead_elsewhere links number old =
+    case (stored 2 links [] []) (refusal is number ∷ old_refusal is old ∷ [])
 
 -- A change may take a link down: C1. The old reader takes the hold time for the count of no step, and all behind it is
 -- too much, so that a file is rewritten once.
-abbrev deadChange : Case
-deadChange = case rehearsal (refusal is 0 ∷ oldRefusal is 2 ∷ rewrites is word "refused 2\n" ∷ [])
+abbrev dead_change : Case
+dead_change = case rehearsal (refusal is 0 ∷ old_refusal is 2 ∷ rewrites is word "refused 2\n" ∷ [])
 
 -- C1 as a stored file. Read takes the count of the steps, 10, for the hold time, and the first four bytes of the steps
 -- for the step time and the count of two steps: there is too much behind these.
-abbrev storedChange : Case
-storedChange =
-    case (stored 3 (triangle 3) (both 1 2 down) tenSteps)
-    (refusal is 2 ∷ oldRefusal is 0 ∷ rewrites is rehearsal ∷ [])
+abbrev stored_change : Case
+stored_change =
+    case (stored 3 (triangle 3) (both 1 2 down) ten_steps)
+    (refusal is 2 ∷ old_refusal is 0 ∷ rewrites is rehearsal ∷ [])
 
-abbrev deadLinks : List Case
-deadLinks =
-    deadLink ∷ deadAmongLive ∷ deadTwice
-    ∷ deadElsewhere (link 0 2 down) 4 4
-    ∷ deadElsewhere (link 1 1 down) 5 5
-    ∷ deadElsewhere (link 0 1 0 ++ link 1 0 down) 6 6
-    ∷ deadElsewhere (link 0 1 down ++ link 1 0 0) 30 6
-    ∷ deadChange ∷ storedChange ∷ []
+abbrev dead_links : List Case
+dead_links =
+    dead_link ∷ dead_among_live ∷ dead_twice
+    ∷ dead_elsewhere (link 0 2 down) 4 4
+    ∷ dead_elsewhere (link 1 1 down) 5 5
+    ∷ dead_elsewhere (link 0 1 0 ++ link 1 0 down) 6 6
+    ∷ dead_elsewhere (link 0 1 down ++ link 1 0 0) 30 6
+    ∷ dead_change ∷ stored_change ∷ []
 
 -- ---- areas from IS-IS (02, No. 6)
 -- an identity, all of whose seven bytes are x; a row of the table of identities; an entry at the metric m
@@ -417,8 +417,8 @@ identity x = replicate 7 x
 abbrev row : (x router : ℕ) → List ℕ
 row x router = identity x ++ (router ∷ [])
 
-abbrev entry : (x m : ℕ) (subTlvs : List ℕ) → List ℕ
-entry x m subTlvs = identity x ++ (m / 65_536 ∷ m / 256 % 256 ∷ m % 256 ∷ length subTlvs ∷ subTlvs)
+abbrev entry : (x m : ℕ) (sub_tlvs : List ℕ) → List ℕ
+entry x m sub_tlvs = identity x ++ (m / 65_536 ∷ m / 256 % 256 ∷ m % 256 ∷ length sub_tlvs ∷ sub_tlvs)
 
 -- a list behind its length
 abbrev list : (entries : List ℕ) → List ℕ
@@ -428,57 +428,57 @@ list entries = two (length entries) ++ entries
 abbrev identities : List ℕ
 identities = row 0xA 0 ++ row 0xB 1 ++ row 0xA 1 ++ row 0xC 1
 
-abbrev isisLink : (i j m : ℕ) → Result
-isisLink i j m = isisMetric 2 identities i j is m
+abbrev isis_link : (i j m : ℕ) → Result
+isis_link i j m = isis_metric 2 identities i j is m
 
 -- A link in both directions, each from its own end.
-abbrev bothEnds : Case
-bothEnds =
+abbrev both_ends : Case
+both_ends =
     case (list (entry 0xB 5 []) ++ list (entry 0xA 7 []))
     (isis 2 identities 4_096 is 0
-    ∷ isisLink 0 1 5 ∷ isisLink 1 0 7 ∷ isisLink 0 0 down ∷ isisLink 2 0 down ∷ [])
+    ∷ isis_link 0 1 5 ∷ isis_link 1 0 7 ∷ isis_link 0 0 down ∷ isis_link 2 0 down ∷ [])
 
 -- Of two entries for one router the lower counts, whichever identity it has. Sub-TLVs are skipped.
-abbrev lowestEntry : Case
-lowestEntry =
+abbrev lowest_entry : Case
+lowest_entry =
     case (list (entry 0xB 5 [] ++ entry 0xC 3 (1 ∷ 2 ∷ 3 ∷ [])) ++ list [])
-    (isis 2 identities 4_096 is 0 ∷ isisLink 0 1 3 ∷ isisLink 1 0 down ∷ [])
+    (isis 2 identities 4_096 is 0 ∷ isis_link 0 1 3 ∷ isis_link 1 0 down ∷ [])
 
 -- An entry may have the metric of a link that is not used, and gives no link.
-abbrev deadEntry : Case
-deadEntry = case (list (entry 0xB down []) ++ list []) (isis 2 identities 4_096 is 0 ∷ isisLink 0 1 down ∷ [])
+abbrev dead_entry : Case
+dead_entry = case (list (entry 0xB down []) ++ list []) (isis 2 identities 4_096 is 0 ∷ isis_link 0 1 down ∷ [])
 
 -- After a refusal the metric table has no link, not even one of a list before the fault.
-abbrev afterRefusal : Case
-afterRefusal =
+abbrev after_refusal : Case
+after_refusal =
     case (list (entry 0xB 5 []) ++ list (entry 0xC 7 []))
-    (isis 2 identities 4_096 is 5 ∷ isisLink 0 1 down ∷ [])
+    (isis 2 identities 4_096 is 5 ∷ isis_link 0 1 down ∷ [])
 
-abbrev isisAreas : List Case
-isisAreas = bothEnds ∷ lowestEntry ∷ deadEntry ∷ afterRefusal ∷ []
+abbrev isis_areas : List Case
+isis_areas = both_ends ∷ lowest_entry ∷ dead_entry ∷ after_refusal ∷ []
 
 -- lists of two routers, and the number with which they are refused: 0 where they are not, as for 244 bytes of sub-TLVs
-abbrev isisRow : (lists : List ℕ) (number : ℕ) → Case
-isisRow lists number = case lists (isis 2 identities 4_096 is number ∷ [])
+abbrev isis_row : (lists : List ℕ) (number : ℕ) → Case
+isis_row lists number = case lists (isis 2 identities 4_096 is number ∷ [])
 
 -- The size of the metric table, then n, then the rows of the table of identities, then the lists.
-abbrev tableOrder : (n : ℕ) (table : List ℕ) (cells number : ℕ) → Case
-tableOrder n table cells number = case [] (isis n table cells is number ∷ [])
+abbrev table_order : (n : ℕ) (table : List ℕ) (cells number : ℕ) → Case
+table_order n table cells number = case [] (isis n table cells is number ∷ [])
 
-abbrev isisFaults : List Case
-isisFaults =
-    isisRow (0x00 ∷ 0x05 ∷ word "abcd") 1
-    ∷ isisRow (list (word "ab") ++ list []) 31
-    ∷ isisRow (list (entry 0xB 5 (replicate 245 0)) ++ list []) 32
-    ∷ isisRow (list (entry 0xB 5 (replicate 244 0)) ++ list []) 0
-    ∷ isisRow (list (entry 0xF 0 []) ++ list []) 33
-    ∷ isisRow (list (entry 0xA 0 []) ++ list []) 5
-    ∷ isisRow (list (entry 0xB 0 []) ++ list (word "a")) 6
-    ∷ isisRow (list [] ++ list [] ++ word "a") 2
-    ∷ tableOrder 2 (row 0xA 2 ++ (0x00 ∷ [])) 4_096 4
-    ∷ tableOrder 2 (identities ++ (0x00 ∷ [])) 4_096 1
-    ∷ tableOrder 65 (0x00 ∷ []) 4_096 3
-    ∷ tableOrder 65 (0x00 ∷ []) 4_095 8 ∷ []
+abbrev isis_faults : List Case
+isis_faults =
+    isis_row (0x00 ∷ 0x05 ∷ word "abcd") 1
+    ∷ isis_row (list (word "ab") ++ list []) 31
+    ∷ isis_row (list (entry 0xB 5 (replicate 245 0)) ++ list []) 32
+    ∷ isis_row (list (entry 0xB 5 (replicate 244 0)) ++ list []) 0
+    ∷ isis_row (list (entry 0xF 0 []) ++ list []) 33
+    ∷ isis_row (list (entry 0xA 0 []) ++ list []) 5
+    ∷ isis_row (list (entry 0xB 0 []) ++ list (word "a")) 6
+    ∷ isis_row (list [] ++ list [] ++ word "a") 2
+    ∷ table_order 2 (row 0xA 2 ++ (0x00 ∷ [])) 4_096 4
+    ∷ table_order 2 (identities ++ (0x00 ∷ [])) 4_096 1
+    ∷ table_order 65 (0x00 ∷ []) 4_096 3
+    ∷ table_order 65 (0x00 ∷ []) 4_095 8 ∷ []
 
 -- ---- the largest areas (02, No. 7)
 -- the links between router 0 and each of the next k, all of them down
@@ -487,84 +487,84 @@ hub zero = []
 hub (suc k) = hub k ++ both 0 (suc k) down
 
 -- A file has up to 64 routers.
-abbrev sixtyFour : Case
-sixtyFour = case (stored 64 (both 62 63 1) [] []) (oldRefusal is 0 ∷ [])
+abbrev sixty_four : Case
+sixty_four = case (stored 64 (both 62 63 1) [] []) (old_refusal is 0 ∷ [])
 
-abbrev sixtyFive : Case
-sixtyFive = case (bench 65 (both 62 63 1) [] []) (refusal is 3 ∷ oldRefusal is 3 ∷ [])
+abbrev sixty_five : Case
+sixty_five = case (bench 65 (both 62 63 1) [] []) (refusal is 3 ∷ old_refusal is 3 ∷ [])
 
 -- A list has up to 126 changes, and then each of them is judged: router 2 is none of two.
-abbrev mostChanges : Case
-mostChanges = case (bench 2 [] (hub 63) []) (refusal is 4 ∷ [])
+abbrev most_changes : Case
+most_changes = case (bench 2 [] (hub 63) []) (refusal is 4 ∷ [])
 
-abbrev moreChanges : Case
-moreChanges = case (bench 2 [] (hub 63 ++ link 1 2 down) []) (refusal is 9 ∷ [])
+abbrev more_changes : Case
+more_changes = case (bench 2 [] (hub 63 ++ link 1 2 down) []) (refusal is 9 ∷ [])
 
 -- the last two routers list each other
-abbrev lastTwo : Case
-lastTwo =
+abbrev last_two : Case
+last_two =
     case (replicate 124 0 ++ list (entry 0xB 5 []) ++ list (entry 0xA 7 []))
     (isis 64 (row 0xA 62 ++ row 0xB 63) 4_096 is 0
-    ∷ isisMetric 64 (row 0xA 62 ++ row 0xB 63) 62 63 is 5
-    ∷ isisMetric 64 (row 0xA 62 ++ row 0xB 63) 63 62 is 7 ∷ [])
+    ∷ isis_metric 64 (row 0xA 62 ++ row 0xB 63) 62 63 is 5
+    ∷ isis_metric 64 (row 0xA 62 ++ row 0xB 63) 63 62 is 7 ∷ [])
 
 abbrev largest : List Case
-largest = sixtyFour ∷ sixtyFive ∷ mostChanges ∷ moreChanges ∷ lastTwo ∷ []
+largest = sixty_four ∷ sixty_five ∷ most_changes ∷ more_changes ∷ last_two ∷ []
 
 -- ---- how many calls (02, No. 8)
 -- In C1 and in C4 three routers learn, are released and finish: 9 calls. Due are {2}, {2} and {0, 1}: 4 writes. Router
 -- 1 waits for 0 and 2: 2 messages. Together 15. Seven of C1's ten steps are answered ok, and 8 are missing: router 1
 -- hears from 2, writes 2 and finishes; router 2 learns, is released, writes 0 and 1 and finishes.
-abbrev countedC1 : Case
-countedC1 = case C1.file (needs is 15 ∷ missing is 8 ∷ [])
+abbrev counted_c1 : Case
+counted_c1 = case C1.file (needs is 15 ∷ missing is 8 ∷ [])
 
 -- C4 has no steps, so nothing has been done.
-abbrev countedC4 : Case
-countedC4 = case C4.file (needs is 15 ∷ missing is 15 ∷ [])
+abbrev counted_c4 : Case
+counted_c4 = case C4.file (needs is 15 ∷ missing is 15 ∷ [])
 
 -- In C2 due are {2}, {2} and {0, 1}, and 0 and 2 wait for 1: 9 + 4 + 2.
-abbrev countedC2 : Case
-countedC2 = case C2.file (needs is 15 ∷ [])
+abbrev counted_c2 : Case
+counted_c2 = case C2.file (needs is 15 ∷ [])
 
 -- In C3 too, 9 + 4 + 2: 0 and 2 are as far from each other as before, and by other next hops, so both are due.
-abbrev countedC3 : Case
-countedC3 = case C3.file (needs is 15 ∷ [])
+abbrev counted_c3 : Case
+counted_c3 = case C3.file (needs is 15 ∷ [])
 
 -- C1 and C2 with the other end as the root: 2→0 is listed too, at the metric that it has, so 2 is the only router in
 -- common. Others are waited for, and as many.
-abbrev otherRoot : (links changes waitingSets : List ℕ) → Case
-otherRoot links changes waitingSets =
+abbrev other_root : (links changes waitingSets : List ℕ) → Case
+other_root links changes waitingSets =
     case (bench 3 links (changes ++ link 2 0 3) []) (root is 2 ∷ waits is waitingSets ∷ needs is 15 ∷ [])
 
 -- C9 is refused: its record has no router.
-abbrev countedC9 : Case
-countedC9 = case C9.file (needs is 0 ∷ missing is 0 ∷ [])
+abbrev counted_c9 : Case
+counted_c9 = case C9.file (needs is 0 ∷ missing is 0 ∷ [])
 
 -- The only link of two routers goes down. Due are 1 at router 0 and 0 at router 1, and 0, the root, waits for 1, which
 -- reaches it by this link: 3 * 2 + (1 + 1) + (1 + 0) = 9.
 --
 --        0 --1-- 1          0       1
-abbrev onlyLink : (steps : List ℕ) → List ℕ
-onlyLink steps = bench 2 (both 0 1 1) (both 0 1 down) steps
+abbrev only_link : (steps : List ℕ) → List ℕ
+only_link steps = bench 2 (both 0 1 1) (both 0 1 down) steps
 
-abbrev countedLink : Case
-countedLink = case (onlyLink []) (waits is (2 ∷ 0 ∷ []) ∷ needs is 9 ∷ missing is 9 ∷ [])
+abbrev counted_link : Case
+counted_link = case (only_link []) (waits is (2 ∷ 0 ∷ []) ∷ needs is 9 ∷ missing is 9 ∷ [])
 
 -- A list that ends with both routers done: nine steps are answered ok, and a repeated message is not counted.
-abbrev allDone : Case
-allDone =
+abbrev all_done : Case
+all_done =
     case
-    (onlyLink
+    (only_link
     (learn 0 ++ learn 1 ++ release 1 ++ write 1 0 ++ finish 1 ++ deliver 1 0 ++ deliver 1 0
     ++ release 0 ++ write 0 1 ++ finish 0))
-    (allSteps is (ok ∷ ok ∷ ok ∷ ok ∷ ok ∷ ok ∷ ignored ∷ ok ∷ ok ∷ ok ∷ []) ∷ needs is 9 ∷ missing is 0 ∷ [])
+    (all_steps is (ok ∷ ok ∷ ok ∷ ok ∷ ok ∷ ok ∷ ignored ∷ ok ∷ ok ∷ ok ∷ []) ∷ needs is 9 ∷ missing is 0 ∷ [])
 
 abbrev counted : List Case
 counted =
-    countedC1 ∷ countedC4 ∷ countedC2 ∷ countedC3
-    ∷ otherRoot (triangle 3) (both 1 2 down) (0 ∷ 1 ∷ 2 ∷ [])
-    ∷ otherRoot (both 0 1 1 ++ both 0 2 3) (both 1 2 1) (2 ∷ 4 ∷ 0 ∷ [])
-    ∷ countedC9 ∷ countedLink ∷ allDone ∷ []
+    counted_c1 ∷ counted_c4 ∷ counted_c2 ∷ counted_c3
+    ∷ other_root (triangle 3) (both 1 2 down) (0 ∷ 1 ∷ 2 ∷ [])
+    ∷ other_root (both 0 1 1 ++ both 0 2 3) (both 1 2 1) (2 ∷ 4 ∷ 0 ∷ [])
+    ∷ counted_c9 ∷ counted_link ∷ all_done ∷ []
 
 -- ---- four next hops in hardware (02, No. 9)
 -- Five ways from 0 to 6 cost the same: the full set is {1, 2, 3, 4, 5}, and the set of four {1, 2, 3, 4}. Every link is
@@ -575,28 +575,28 @@ counted =
 --        0 --- 3 --- 6
 --            \ 4 /
 --              5
-abbrev fiveWays : List ℕ
-fiveWays =
+abbrev five_ways : List ℕ
+five_ways =
     both 0 1 1 ++ both 0 2 1 ++ both 0 3 1 ++ both 0 4 1 ++ both 0 5 1
     ++ both 1 6 1 ++ both 2 6 1 ++ both 3 6 1 ++ both 4 6 1 ++ both 5 6 1
 
 -- A set of two is its own set of four, and a cell with a row or a column beyond n is 0.
-abbrev fiveEqual : Case
-fiveEqual =
-    case (bench 7 fiveWays [] [])
+abbrev five_equal : Case
+five_equal =
+    case (bench 7 five_ways [] [])
     (set 0 6 is 62 ∷ four 0 6 is 30 ∷ set 1 5 is 65 ∷ four 1 5 is 65 ∷ four 0 7 is 0 ∷ four 7 0 is 0 ∷ [])
 
 -- Link 5–6 goes down, and the full set from 0 to 6 loses its highest member. The set of four stays: 6 is not due at 0.
-abbrev highestGoes : Case
-highestGoes =
-    case (bench 7 fiveWays (both 5 6 down) [])
-    (oldSet 0 6 is 62 ∷ newSet 0 6 is 30 ∷ oldFour 0 6 is 30 ∷ newFour 0 6 is 30 ∷ due 0 is 0 ∷ [])
+abbrev highest_goes : Case
+highest_goes =
+    case (bench 7 five_ways (both 5 6 down) [])
+    (old_set 0 6 is 62 ∷ new_set 0 6 is 30 ∷ old_four 0 6 is 30 ∷ new_four 0 6 is 30 ∷ due 0 is 0 ∷ [])
 
 -- Link 1–6 goes down, and the full set loses its lowest member. Router 5 comes into the set of four: 6 is due at 0.
-abbrev lowestGoes : Case
-lowestGoes =
-    case (bench 7 fiveWays (both 1 6 down) [])
-    (oldSet 0 6 is 62 ∷ newSet 0 6 is 60 ∷ oldFour 0 6 is 30 ∷ newFour 0 6 is 60 ∷ due 0 is 64 ∷ [])
+abbrev lowest_goes : Case
+lowest_goes =
+    case (bench 7 five_ways (both 1 6 down) [])
+    (old_set 0 6 is 62 ∷ new_set 0 6 is 60 ∷ old_four 0 6 is 30 ∷ new_four 0 6 is 60 ∷ due 0 is 64 ∷ [])
 
 -- Link 4–5, at 2, goes down; all other links are at 1. From 5 to 4 the full set is {0, 1, 2, 3, 4}, and the set of four
 -- does not have 4. No set of four changes, so nothing is due; and yet 4, the root, waits for 5 too, whose full set has
@@ -607,127 +607,127 @@ lowestGoes =
 --        4 --- 2 --- 5        4 --- 2 --- 5
 --        |   \ 3 /   |            \ 3 /
 --        +-----------+
-abbrev fourWays : List ℕ
-fourWays =
+abbrev four_ways : List ℕ
+four_ways =
     both 0 4 1 ++ both 1 4 1 ++ both 2 4 1 ++ both 3 4 1
     ++ both 0 5 1 ++ both 1 5 1 ++ both 2 5 1 ++ both 3 5 1
 
-abbrev notDueWaitedFor : Case
-notDueWaitedFor =
+abbrev not_due_waited_for : Case
+not_due_waited_for =
     case
-    (bench 6 (fourWays ++ both 4 5 2) (both 4 5 down)
+    (bench 6 (four_ways ++ both 4 5 2) (both 4 5 down)
     (learn 4 ++ learn 5 ++ release 5 ++ write 5 4 ++ finish 5 ++ deliver 5 4))
-    (root is 4 ∷ oldSet 5 4 is 31 ∷ newSet 5 4 is 15 ∷ oldFour 5 4 is 15 ∷ newFour 5 4 is 15 ∷ due 5 is 0
-    ∷ waits is (32 ∷ 32 ∷ 32 ∷ 32 ∷ 47 ∷ 0 ∷ []) ∷ allSteps is (ok ∷ ok ∷ ok ∷ refused 25 ∷ ok ∷ ok ∷ []) ∷ needs is 27
+    (root is 4 ∷ old_set 5 4 is 31 ∷ new_set 5 4 is 15 ∷ old_four 5 4 is 15 ∷ new_four 5 4 is 15 ∷ due 5 is 0
+    ∷ waits is (32 ∷ 32 ∷ 32 ∷ 32 ∷ 47 ∷ 0 ∷ []) ∷ all_steps is (ok ∷ ok ∷ ok ∷ refused 25 ∷ ok ∷ ok ∷ []) ∷ needs is 27
     ∷ [])
 
 -- Link 4–5 comes up again: 5 waits for all of its new full set to the root, 4 among it, and nothing is due at 5.
-abbrev notDueWaits : Case
-notDueWaits =
-    case (bench 6 fourWays (both 4 5 2) [])
-    (root is 4 ∷ oldFour 5 4 is 15 ∷ newSet 5 4 is 31 ∷ newFour 5 4 is 15 ∷ due 5 is 0
+abbrev not_due_waits : Case
+not_due_waits =
+    case (bench 6 four_ways (both 4 5 2) [])
+    (root is 4 ∷ old_four 5 4 is 15 ∷ new_set 5 4 is 31 ∷ new_four 5 4 is 15 ∷ due 5 is 0
     ∷ waits is (16 ∷ 16 ∷ 16 ∷ 16 ∷ 0 ∷ 31 ∷ []) ∷ [])
 
-abbrev fiveNextHops : List Case
-fiveNextHops = fiveEqual ∷ highestGoes ∷ lowestGoes ∷ notDueWaitedFor ∷ notDueWaits ∷ []
+abbrev five_next_hops : List Case
+five_next_hops = five_equal ∷ highest_goes ∷ lowest_goes ∷ not_due_waited_for ∷ not_due_waits ∷ []
 
 -- ---- rank timers (02, No. 10)
 -- C1 with a hold time and a step time
-abbrev timedC1 : (hold pace : ℕ) (steps : List ℕ) → List ℕ
-timedC1 hold pace steps = timed hold pace 3 (triangle 3) (both 1 2 down) steps
+abbrev timed_c1 : (hold pace : ℕ) (steps : List ℕ) → List ℕ
+timed_c1 hold pace steps = timed hold pace 3 (triangle 3) (both 1 2 down) steps
 
 -- The record has the times of the file, high byte first; the clock and the learn times are 0. They change no rank.
-abbrev freshTimes : Case
-freshTimes =
-    case (timedC1 258 772 [])
+abbrev fresh_times : Case
+fresh_times =
+    case (timed_c1 258 772 [])
     (times is (258 ∷ 772 ∷ 0 ∷ 0 ∷ 0 ∷ 0 ∷ []) ∷ ranks is (0 ∷ 1 ∷ 0 ∷ []) ∷ needs is 15 ∷ [])
 
-abbrev longestTimes : Case
-longestTimes =
-    case (timedC1 65_535 65_535 [])
+abbrev longest_times : Case
+longest_times =
+    case (timed_c1 65_535 65_535 [])
     (refusal is 0 ∷ times is (65_535 ∷ 65_535 ∷ 0 ∷ 0 ∷ 0 ∷ 0 ∷ []) ∷ [])
 
 -- Read takes a step time of 0, and Plan refuses it, before all that is wrong with the changes: here there is none. The
 -- record has no time.
-abbrev noStepTime : Case
-noStepTime = case (timedC1 7 0 []) (refusal is 36 ∷ times is (0 ∷ 0 ∷ 0 ∷ 0 ∷ 0 ∷ 0 ∷ []) ∷ [])
+abbrev no_step_time : Case
+no_step_time = case (timed_c1 7 0 []) (refusal is 36 ∷ times is (0 ∷ 0 ∷ 0 ∷ 0 ∷ 0 ∷ 0 ∷ []) ∷ [])
 
-abbrev noStepTimeFirst : Case
-noStepTimeFirst = case (timed 7 0 3 (triangle 3) [] []) (refusal is 36 ∷ [])
+abbrev no_step_time_first : Case
+no_step_time_first = case (timed 7 0 3 (triangle 3) [] []) (refusal is 36 ∷ [])
 
 -- A tick moves the clock, whatever its other bytes are. Learn notes it, and release does not. There is no kind 7.
-abbrev learnTimes : Case
-learnTimes =
+abbrev learn_times : Case
+learn_times =
     case
-    (timedC1 0 1
+    (timed_c1 0 1
     (tick 0 0 ++ learn 0 ++ tick 64 255 ++ learn 2 ++ tick 3 3 ++ release 0 ++ (7 ∷ 0 ∷ 0 ∷ [])))
-    (allSteps is (ok ∷ ok ∷ ok ∷ ok ∷ ok ∷ ok ∷ refused 21 ∷ [])
-    ∷ timesAfter is (0 ∷ 1 ∷ 3 ∷ 1 ∷ 0 ∷ 2 ∷ []) ∷ [])
+    (all_steps is (ok ∷ ok ∷ ok ∷ ok ∷ ok ∷ ok ∷ refused 21 ∷ [])
+    ∷ times_after is (0 ∷ 1 ∷ 3 ∷ 1 ∷ 0 ∷ 2 ∷ []) ∷ [])
 
 -- With hold time 2, router 0 learns at 1 and is held until 3. An idle router is refused for its state.
-abbrev holdDown : Case
-holdDown =
+abbrev hold_down : Case
+hold_down =
     case
-    (timedC1 2 1 (release 0 ++ tick 0 0 ++ learn 0 ++ release 0 ++ tick 0 0 ++ release 0 ++ tick 0 0 ++ release 0))
-    (allSteps is (refused 23 ∷ ok ∷ ok ∷ refused 34 ∷ ok ∷ refused 34 ∷ ok ∷ ok ∷ []) ∷ [])
+    (timed_c1 2 1 (release 0 ++ tick 0 0 ++ learn 0 ++ release 0 ++ tick 0 0 ++ release 0 ++ tick 0 0 ++ release 0))
+    (all_steps is (refused 23 ∷ ok ∷ ok ∷ refused 34 ∷ ok ∷ refused 34 ∷ ok ∷ ok ∷ []) ∷ [])
 
 -- The only link of two routers goes down, as above, with hold time 1 and step time 2. Router 0 waits for 1, and so has
 -- rank 1. It learns at 0: due at 0 + 1 + 1 * 2 = 3, and 24 up to then. No message comes. Of its calls four count, and 5
 -- are missing: router 1 learns, is released, writes and finishes, and its message.
-abbrev timedLink : (steps : List ℕ) → List ℕ
-timedLink steps = timed 1 2 2 (both 0 1 1) (both 0 1 down) steps
+abbrev timed_link : (steps : List ℕ) → List ℕ
+timed_link steps = timed 1 2 2 (both 0 1 1) (both 0 1 down) steps
 
-abbrev byTimer : Case
-byTimer =
+abbrev by_timer : Case
+by_timer =
     case
-    (timedLink
+    (timed_link
     (learn 0 ++ tick 0 0 ++ release 0 ++ tick 0 0 ++ write 0 1 ++ finish 0 ++ tick 0 0
     ++ finish 0 ++ write 0 1 ++ finish 0))
-    (dueTime 0 is 3
-    ∷ allSteps is (ok ∷ ok ∷ ok ∷ ok ∷ refused 24 ∷ refused 24 ∷ ok ∷ refused 26 ∷ ok ∷ ok ∷ [])
+    (due_time 0 is 3
+    ∷ all_steps is (ok ∷ ok ∷ ok ∷ ok ∷ refused 24 ∷ refused 24 ∷ ok ∷ refused 26 ∷ ok ∷ ok ∷ [])
     ∷ needs is 9 ∷ missing is 5 ∷ [])
 
 -- both learn, are released at 1, and 0 writes by its timer at 3; then 1 is done
-abbrev writtenByTimer : List ℕ
-writtenByTimer =
+abbrev written_by_timer : List ℕ
+written_by_timer =
     learn 0 ++ learn 1 ++ tick 0 0 ++ release 0 ++ release 1 ++ tick 0 0 ++ tick 0 0
     ++ write 0 1 ++ write 1 0 ++ finish 1
 
 -- The message still comes while 0 is ongoing, and is taken: nine calls count, and the three ticks do not.
-abbrev lateMessage : Case
-lateMessage =
-    case (timedLink (writtenByTimer ++ deliver 1 0 ++ finish 0))
-    (allSteps is replicate 12 ok ∷ needs is 9 ∷ missing is 0 ∷ [])
+abbrev late_message : Case
+late_message =
+    case (timed_link (written_by_timer ++ deliver 1 0 ++ finish 0))
+    (all_steps is replicate 12 ok ∷ needs is 9 ∷ missing is 0 ∷ [])
 
 -- It comes once 0 is done, and is ignored: all routers are done, and one call is missing.
-abbrev lostMessage : Case
-lostMessage =
-    case (timedLink (writtenByTimer ++ finish 0 ++ deliver 1 0))
-    (allSteps is (replicate 11 ok ++ (ignored ∷ [])) ∷ needs is 9 ∷ missing is 1 ∷ [])
+abbrev lost_message : Case
+lost_message =
+    case (timed_link (written_by_timer ++ finish 0 ++ deliver 1 0))
+    (all_steps is (replicate 11 ok ++ (ignored ∷ [])) ∷ needs is 9 ∷ missing is 1 ∷ [])
 
 -- The same with a longer hold time, of which the due time has all: router 1 learns at 2.
-abbrev dueTimes : Case
-dueTimes =
+abbrev due_times : Case
+due_times =
     case (timed 300 1_000 2 (both 0 1 1) (both 0 1 down) (tick 0 0 ++ learn 0 ++ tick 0 0 ++ learn 1))
-    (dueTime 0 is 1_301 ∷ dueTime 1 is 302 ∷ [])
+    (due_time 0 is 1_301 ∷ due_time 1 is 302 ∷ [])
 
 abbrev timers : List Case
 timers =
-    freshTimes ∷ longestTimes ∷ noStepTime ∷ noStepTimeFirst ∷ learnTimes ∷ holdDown ∷ byTimer
-    ∷ lateMessage ∷ lostMessage ∷ dueTimes ∷ []
+    fresh_times ∷ longest_times ∷ no_step_time ∷ no_step_time_first ∷ learn_times ∷ hold_down ∷ by_timer
+    ∷ late_message ∷ lost_message ∷ due_times ∷ []
 
 -- ---- the rehearsal, with the lines that 01 has below its file, as they are since 02, No. 2, and the one of No. 8
-abbrev routerLines : List ℕ
-routerLines =
+abbrev router_lines : List ℕ
+router_lines =
     word "router 0 rank 0 waits 0 tells 2 due 4\n"
     ++ word "router 1 rank 1 waits 5 tells 0 due 4\n"
     ++ word "router 2 rank 0 waits 0 tells 2 due 3\n"
 
-abbrev needsLine : List ℕ
-needsLine = word "needs 15\n"
+abbrev needs_line : List ℕ
+needs_line = word "needs 15\n"
 
-abbrev stepLines : List ℕ
-stepLines =
+abbrev step_lines : List ℕ
+step_lines =
     word "step 1 ok\nstep 2 ok\nstep 3 refused 24\nstep 4 ok\nstep 5 ok\n"
     ++ word "step 6 ok\nstep 7 ok\nstep 8 ok\nstep 9 ignored\nstep 10 refused 24\nend\n"
 
@@ -735,19 +735,19 @@ stepLines =
 abbrev replied : Case
 replied =
     case rehearsal
-    (allSteps is (ok ∷ ok ∷ refused 24 ∷ ok ∷ ok ∷ ok ∷ ok ∷ ok ∷ ignored ∷ refused 24 ∷ []) ∷ [])
+    (all_steps is (ok ∷ ok ∷ refused 24 ∷ ok ∷ ok ∷ ok ∷ ok ∷ ok ∷ ignored ∷ refused 24 ∷ []) ∷ [])
 
-abbrev wholeText : Case
-wholeText = case rehearsal (printed is (routerLines ++ needsLine ++ stepLines) ∷ [])
+abbrev whole_text : Case
+whole_text = case rehearsal (printed is (router_lines ++ needs_line ++ step_lines) ∷ [])
 
 abbrev rehearsed : List Case
-rehearsed = replied ∷ wholeText ∷ []
+rehearsed = replied ∷ whole_text ∷ []
 
 -- ---- the theorem
 cases : List Case
 cases =
     C1 ∷ C2 ∷ C3 ∷ C4 ∷ C5 ∷ C6 ∷ C7 ∷ C8 ∷ C9 ∷ C10 ∷ C11 ∷ C12 ∷ C13
-    ∷ sheets ++ orders ++ halfLinks ++ deadLinks ++ isisAreas ++ isisFaults ++ largest ++ counted ++ fiveNextHops
+    ∷ sheets ++ orders ++ half_links ++ dead_links ++ isis_areas ++ isis_faults ++ largest ++ counted ++ five_next_hops
     ++ timers ++ rehearsed
 
 -- the questions of a row, with the definitions' answers
@@ -760,47 +760,47 @@ Agree [] = Unit {0}
 Agree (c ∷ cs) = (answered c ≡ c.results) × Agree cs
 
 -- The definitions agree with the list: both sides are computed, in each of its 89 rows.
-last-rows : Agree rehearsed
+last_rows : Agree rehearsed
 unfolding answer
-last-rows = (refl, (refl, tt))
+last_rows = (refl, (refl, tt))
 
-timed-rows : Agree (timers ++ rehearsed)
+timed_rows : Agree (timers ++ rehearsed)
 unfolding answer
-timed-rows = (refl, (refl, (refl, (refl, (refl, (refl, (refl, (refl, (refl, (refl, last-rows))))))))))
+timed_rows = (refl, (refl, (refl, (refl, (refl, (refl, (refl, (refl, (refl, (refl, last_rows))))))))))
 
-five-rows : Agree (fiveNextHops ++ timers ++ rehearsed)
+five_rows : Agree (five_next_hops ++ timers ++ rehearsed)
 unfolding answer
-five-rows = (refl, (refl, (refl, (refl, (refl, timed-rows)))))
+five_rows = (refl, (refl, (refl, (refl, (refl, timed_rows)))))
 
-counted-rows : Agree (counted ++ fiveNextHops ++ timers ++ rehearsed)
+counted_rows : Agree (counted ++ five_next_hops ++ timers ++ rehearsed)
 unfolding answer
-counted-rows = (refl, (refl, (refl, (refl, (refl, (refl, (refl, (refl, (refl, five-rows)))))))))
+counted_rows = (refl, (refl, (refl, (refl, (refl, (refl, (refl, (refl, (refl, five_rows)))))))))
 
-large-rows : Agree (largest ++ counted ++ fiveNextHops ++ timers ++ rehearsed)
+large_rows : Agree (largest ++ counted ++ five_next_hops ++ timers ++ rehearsed)
 unfolding answer hub
-large-rows = (refl, (refl, (refl, (refl, (refl, counted-rows)))))
+large_rows = (refl, (refl, (refl, (refl, (refl, counted_rows)))))
 
-isis-rows : Agree (isisFaults ++ largest ++ counted ++ fiveNextHops ++ timers ++ rehearsed)
+isis_rows : Agree (isis_faults ++ largest ++ counted ++ five_next_hops ++ timers ++ rehearsed)
 unfolding answer
-isis-rows = (refl, (refl, (refl, (refl, (refl, (refl, (refl, (refl, (refl, (refl, (refl, (refl, large-rows))))))))))))
+isis_rows = (refl, (refl, (refl, (refl, (refl, (refl, (refl, (refl, (refl, (refl, (refl, (refl, large_rows))))))))))))
 
-dead-rows : Agree (deadLinks ++ isisAreas ++ isisFaults ++ largest ++ counted ++ fiveNextHops ++ timers ++ rehearsed)
-unfolding answer tenSteps
-dead-rows =
-    (refl, (refl, (refl, (refl, (refl, (refl, (refl, (refl, (refl, (refl, (refl, (refl, (refl, isis-rows)))))))))))))
+dead_rows : Agree (dead_links ++ isis_areas ++ isis_faults ++ largest ++ counted ++ five_next_hops ++ timers ++ rehearsed)
+unfolding answer ten_steps
+dead_rows =
+    (refl, (refl, (refl, (refl, (refl, (refl, (refl, (refl, (refl, (refl, (refl, (refl, (refl, isis_rows)))))))))))))
 
-half-rows :
+half_rows :
     Agree
-    (halfLinks ++ deadLinks ++ isisAreas ++ isisFaults ++ largest ++ counted ++ fiveNextHops ++ timers ++ rehearsed)
+    (half_links ++ dead_links ++ isis_areas ++ isis_faults ++ largest ++ counted ++ five_next_hops ++ timers ++ rehearsed)
 unfolding answer
-half-rows = (refl, (refl, (refl, (refl, (refl, (refl, (refl, (refl, (refl, (refl, (refl, dead-rows)))))))))))
+half_rows = (refl, (refl, (refl, (refl, (refl, (refl, (refl, (refl, (refl, (refl, (refl, dead_rows)))))))))))
 
 others :
     Agree
-    (sheets ++ orders ++ halfLinks ++ deadLinks ++ isisAreas ++ isisFaults ++ largest ++ counted ++ fiveNextHops
+    (sheets ++ orders ++ half_links ++ dead_links ++ isis_areas ++ isis_faults ++ largest ++ counted ++ five_next_hops
     ++ timers ++ rehearsed)
 unfolding answer
-others = (refl, (refl, (refl, (refl, (refl, (refl, (refl, (refl, (refl, half-rows)))))))))
+others = (refl, (refl, (refl, (refl, (refl, (refl, (refl, (refl, (refl, half_rows)))))))))
 
 agreed : Agree cases
 unfolding cases answer

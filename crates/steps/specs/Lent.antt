@@ -5,7 +5,7 @@
 use Rattle.std.specs.Prelude.{ℕ, ◌≡◌, List}
 use Rattle.plan.specs.declared.Record.{Record}
 use Rattle.machine.specs.Answers.{Reply, gives}
-use Rattle.machine.specs.Machine.{over, timed, withTables, withTimes, withClock}
+use Rattle.machine.specs.Machine.{over, timed, with_tables, with_times, with_clock}
 use Rattle.machine.specs.Machine.{learn, release, write, finish, deliver, tick, call_of, step_of}
 
 -- ---- the six kinds
@@ -13,8 +13,8 @@ use Rattle.machine.specs.Machine.{learn, release, write, finish, deliver, tick, 
 abbrev pub Learns : (clock : ℕ) (states learned states' learned' : List ℕ) (i : ℕ) (reply : Reply) → Type 0
 Learns clock states learned states' learned' i reply =
     (x : Record)
-    → gives (withTables (withTimes x clock learned') x.waiting states' x.written) reply
-    ≡ learn (withTables (withTimes x clock learned) x.waiting states x.written) i
+    → gives (with_tables (with_times x clock learned') x.waiting states' x.written) reply
+    ≡ learn (with_tables (with_times x clock learned) x.waiting states x.written) i
 
 -- release changes the states
 abbrev pub Releases :
@@ -22,8 +22,8 @@ abbrev pub Releases :
 Releases hold clock learned states states' i reply =
     (x : Record)
     → let y = timed x x.ranks hold x.step_time clock learned in
-    gives (withTables y x.waiting states' x.written) reply
-    ≡ release (withTables y x.waiting states x.written) i
+    gives (with_tables y x.waiting states' x.written) reply
+    ≡ release (with_tables y x.waiting states x.written) i
 
 -- write changes the written sets
 abbrev pub Writes :
@@ -56,7 +56,7 @@ Delivers telling states waiting waiting' i j reply =
 
 -- tick changes the clock
 abbrev pub Ticks : (clock clock' : ℕ) (reply : Reply) → Type 0
-Ticks clock clock' reply = (x : Record) → gives (withClock x clock') reply ≡ tick (withClock x clock)
+Ticks clock clock' reply = (x : Record) → gives (with_clock x clock') reply ≡ tick (with_clock x clock)
 
 -- ---- the call of a known kind
 -- a kind that reads a alone changes the states and the learn times

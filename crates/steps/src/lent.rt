@@ -6,8 +6,8 @@
 ghost use Rattle.std.specs.Prelude.{◌≡◌, true, false, ◌≢◌, ◌<◌, leb, get_or};
 ghost use Rattle.area.specs.Limits.{width};
 ghost use Rattle.area.specs.Tests.{all};
-ghost use Rattle.machine.specs.Answers.{replyOf};
-ghost use Rattle.machine.specs.Machine.{done, tickKind, isSound, isKind, readsB};
+ghost use Rattle.machine.specs.Answers.{reply_of};
+ghost use Rattle.machine.specs.Machine.{done, tick_kind, is_sound, is_kind, reads_b};
 ghost use Rattle.steps.specs.Lent.{CallsOne, CallsTwo, Steps};
 
 use crate::messages::deliver;
@@ -39,7 +39,7 @@ pub fn step(
         clock.old learn_times.old
         waiting.new states.new written.new
         clock.new learn_times.new
-        kind a b (replyOf result) }
+        kind a b (reply_of result) }
 {
     if !is_record(n, states) {
         return Answer::Refused(Refusal::Record);
@@ -104,10 +104,10 @@ fn call_one(
     kind: u8,
     i: usize,
 ) -> Answer
-    requires { (i < width) × (isKind kind ≡ true) × (kind ≢ tickKind) × (readsB kind ≡ false) }
+    requires { (i < width) × (is_kind kind ≡ true) × (kind ≢ tick_kind) × (reads_b kind ≡ false) }
     ensures { CallsOne ranks.now waiting.now due.now written.now
         hold_time step_time clock states.old learn_times.old
-        states.new learn_times.new kind i (replyOf result) }
+        states.new learn_times.new kind i (reply_of result) }
 {
     if kind == LEARN {
         return learn(states, clock, learn_times, i);
@@ -145,11 +145,11 @@ fn call_two(
     i: usize,
     j: usize,
 ) -> Answer
-    requires { (i < width) × (j < width) × (readsB kind ≡ true) }
+    requires { (i < width) × (j < width) × (reads_b kind ≡ true) }
     ensures { CallsTwo ranks.now telling.now due.now states.now
         hold_time step_time clock learn_times.now
         waiting.old written.old
-        waiting.new written.new kind i j (replyOf result) }
+        waiting.new written.new kind i j (reply_of result) }
 {
     if kind == WRITE {
         return write(
@@ -171,7 +171,7 @@ fn call_two(
 
 // Is this one of the six kinds?
 fn is_kind(kind: u8) -> bool
-    ensures { result ≡ isKind kind }
+    ensures { result ≡ is_kind kind }
 {
     if kind < LEARN {
         return false;
@@ -184,7 +184,7 @@ fn is_kind(kind: u8) -> bool
 
 // Does a call of this kind read b?
 fn reads_b(kind: u8) -> bool
-    ensures { result ≡ readsB kind }
+    ensures { result ≡ reads_b kind }
 {
     if kind == WRITE {
         return true;
@@ -197,7 +197,7 @@ fn reads_b(kind: u8) -> bool
 
 // Is n a number of routers, and is every state one of the four?
 fn is_record(n: u8, states: &[u8; WIDTH]) -> bool
-    ensures { result ≡ isSound n states.now }
+    ensures { result ≡ is_sound n states.now }
 {
     let routers = n as usize;
     if routers == 0 {

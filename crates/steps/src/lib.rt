@@ -14,10 +14,10 @@ mod moves;
 pub mod timers;
 
 ghost use Rattle.std.specs.Prelude.{◌≡◌};
-ghost use Rattle.machine.specs.Machine.{learnKind, releaseKind, writeKind, finishKind, deliverKind, tickKind};
+ghost use Rattle.machine.specs.Machine.{learn_kind, release_kind, write_kind, finish_kind, deliver_kind, tick_kind};
 ghost use Rattle.machine.specs.Machine.{step_of};
 ghost use Rattle.machine.specs.Run.{run, calls_of};
-ghost use Rattle.steps.specs.Outcomes.{outcomeOf};
+ghost use Rattle.steps.specs.Outcomes.{outcome_of};
 
 use machine::{Answer, DELIVER, FINISH, LEARN, RELEASE, TICK, WRITE};
 use plan::Record;
@@ -38,49 +38,49 @@ pub struct Machine {
 impl Machine {
     // A router learns of the change.
     pub fn learn(self, router: u8) -> Stepped
-        ensures outcome { outcomeOf result ≡ step_of self.now learnKind router 0 }
+        ensures outcome { outcome_of result ≡ step_of self.now learn_kind router 0 }
     {
         self.step(LEARN, router, 0)
     }
 
     // The hold-down of a router is over.
     pub fn release(self, router: u8) -> Stepped
-        ensures outcome { outcomeOf result ≡ step_of self.now releaseKind router 0 }
+        ensures outcome { outcome_of result ≡ step_of self.now release_kind router 0 }
     {
         self.step(RELEASE, router, 0)
     }
 
     // A router writes its new next hops to a destination.
     pub fn write(self, router: u8, destination: u8) -> Stepped
-        ensures outcome { outcomeOf result ≡ step_of self.now writeKind router destination }
+        ensures outcome { outcome_of result ≡ step_of self.now write_kind router destination }
     {
         self.step(WRITE, router, destination)
     }
 
     // A router has written all that is due, and is done.
     pub fn finish(self, router: u8) -> Stepped
-        ensures outcome { outcomeOf result ≡ step_of self.now finishKind router 0 }
+        ensures outcome { outcome_of result ≡ step_of self.now finish_kind router 0 }
     {
         self.step(FINISH, router, 0)
     }
 
     // The message that one router is done arrives at another.
     pub fn deliver(self, from: u8, to: u8) -> Stepped
-        ensures outcome { outcomeOf result ≡ step_of self.now deliverKind from to }
+        ensures outcome { outcome_of result ≡ step_of self.now deliver_kind from to }
     {
         self.step(DELIVER, from, to)
     }
 
     // The clock goes on.
     pub fn tick(self) -> Stepped
-        ensures outcome { outcomeOf result ≡ step_of self.now tickKind 0 0 }
+        ensures outcome { outcome_of result ≡ step_of self.now tick_kind 0 0 }
     {
         self.step(TICK, 0, 0)
     }
 
     // One step, by its kind.
     pub fn step(self, kind: u8, a: u8, b: u8) -> Stepped
-        ensures outcome { outcomeOf result ≡ step_of self.now kind a b }
+        ensures outcome { outcome_of result ≡ step_of self.now kind a b }
     {
         let mut next = self.now;
         let ranks = next.ranks;

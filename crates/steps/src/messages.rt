@@ -2,7 +2,7 @@
 // specs/Lent.antt.
 ghost use Rattle.std.specs.Prelude.{◌≡◌, ◌<◌};
 ghost use Rattle.area.specs.Limits.{width};
-ghost use Rattle.machine.specs.Answers.{replyOf};
+ghost use Rattle.machine.specs.Answers.{reply_of};
 ghost use Rattle.machine.specs.Machine.{listens};
 ghost use Rattle.steps.specs.Lent.{Delivers};
 
@@ -21,7 +21,7 @@ pub(crate) fn deliver(
 ) -> Answer
     requires { (sender < width) × (receiver < width) }
     ensures { Delivers telling.now states.now
-        waiting.old waiting.new sender receiver (replyOf result) }
+        waiting.old waiting.new sender receiver (reply_of result) }
 {
     let at = states[sender];
     if at != DONE {

@@ -3,7 +3,7 @@
 // (`State::after`); then its entry is written. What they promise is specs/Lent.antt.
 ghost use Rattle.std.specs.Prelude.{◌<◌};
 ghost use Rattle.area.specs.Limits.{width};
-ghost use Rattle.machine.specs.Answers.{replyOf};
+ghost use Rattle.machine.specs.Answers.{reply_of};
 ghost use Rattle.steps.specs.Lent.{Learns, Releases, Writes, Finishes};
 
 use crate::timers::{due_time, held_until, must_wait};
@@ -22,7 +22,7 @@ pub(crate) fn learn(
 ) -> Answer
     requires { i < width }
     ensures { Learns clock states.old learn_times.old
-        states.new learn_times.new i (replyOf result) }
+        states.new learn_times.new i (reply_of result) }
 {
     let NextState::To(holding) = named(states[i]).after(Event::Learn) else {
         return Answer::Refused(Refusal::State);
@@ -42,7 +42,7 @@ pub(crate) fn release(
 ) -> Answer
     requires { i < width }
     ensures { Releases hold_time clock learn_times.now
-        states.old states.new i (replyOf result) }
+        states.old states.new i (reply_of result) }
 {
     let NextState::To(ongoing) = named(states[i]).after(Event::Release) else {
         return Answer::Refused(Refusal::State);
@@ -72,7 +72,7 @@ pub(crate) fn write(
     requires { i < width }
     ensures { Writes ranks.now waiting.now due.now states.now
         hold_time step_time clock learn_times.now
-        written.old written.new i d (replyOf result) }
+        written.old written.new i d (reply_of result) }
 {
     // The next state is ongoing again, so it need not be stored.
     let NextState::To(_) = named(states[i]).after(Event::Write) else {
@@ -109,7 +109,7 @@ pub(crate) fn finish(
     requires { i < width }
     ensures { Finishes ranks.now waiting.now due.now written.now
         hold_time step_time clock learn_times.now
-        states.old states.new i (replyOf result) }
+        states.old states.new i (reply_of result) }
 {
     let NextState::To(done) = named(states[i]).after(Event::Finish) else {
         return Answer::Refused(Refusal::State);

@@ -1,8 +1,8 @@
 // The rank timers (02, No. 10): the times of a router, whether it must still wait, and the tick of the clock. The sums
 // are made in 64 bits, in which they never wrap.
 ghost use Rattle.std.specs.Prelude.{◌≡◌, ◌+◌, ◌*◌};
-ghost use Rattle.machine.specs.Answers.{replyOf};
-ghost use Rattle.machine.specs.Machine.{mustWait};
+ghost use Rattle.machine.specs.Answers.{reply_of};
+ghost use Rattle.machine.specs.Machine.{must_wait};
 ghost use Rattle.steps.specs.Lent.{Ticks};
 
 use area::limits::{LAST_TIME, Set};
@@ -25,7 +25,7 @@ pub fn due_time(learn_time: u32, hold_time: u16, rank: u8, step_time: u16) -> u6
 
 // Must a router that waits for these routers go on waiting?
 pub(crate) fn must_wait(waits_for: Set, clock: u32, due: u64) -> bool
-    ensures { result ≡ mustWait waits_for clock due }
+    ensures { result ≡ must_wait waits_for clock due }
 {
     if waits_for == 0 {
         return false;
@@ -36,7 +36,7 @@ pub(crate) fn must_wait(waits_for: Set, clock: u32, due: u64) -> bool
 
 // The clock goes on by one.
 pub(crate) fn tick(clock: &mut u32) -> Answer
-    ensures { Ticks clock.old clock.new (replyOf result) }
+    ensures { Ticks clock.old clock.new (reply_of result) }
 {
     if *clock == LAST_TIME {
         return Answer::Refused(Refusal::ClockEnd);

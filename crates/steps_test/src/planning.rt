@@ -1,6 +1,6 @@
 // Plan's record of a case, and its sets of four before the change and after it.
 ghost use Rattle.std.specs.Prelude.{◌+◌, ◌*◌, ◌≤◌};
-ghost use Rattle.area.specs.Limits.{mostChanges};
+ghost use Rattle.area.specs.Limits.{most_changes};
 
 use area::limits::{CELLS, Set};
 use cases::{LONG_LIST, LONG_TABLE, lists, metrics, read};
@@ -34,7 +34,7 @@ fn plan(
     old_fours: &mut [Set; CELLS],
     new_fours: &mut [Set; CELLS],
 ) -> Record
-    requires { bytes ≤ 5 * (mostChanges + 2) }
+    requires { bytes ≤ 5 * (most_changes + 2) }
 {
     let mut new = [0; CELLS];
     let mut old_dist = [0; CELLS];

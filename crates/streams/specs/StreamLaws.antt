@@ -1,30 +1,30 @@
 -- From what was read to what is printed.
---     whole-text     where the output buffer has room for every text, and as many bytes as the input buffer has decide
+--     whole_text_lem     where the output buffer has room for every text, and as many bytes as the input buffer has decide
 --                    the text of an input, the whole text of the whole input is printed
---     whole-bytes    the same, where they decide it for bytes
+--     whole_bytes    the same, where they decide it for bytes
 use Rattle.std.specs.Prelude.{ℕ, ◌≤◌, ◌<◌, ◌≡◌, List, length, get_or, take}
 use Rattle.std.proofs.Common.{ap, ◌∙◌, subst, arith, length-take, get_or-take}
 use Rattle.std.proofs.Math.Decide.{dec_lt}
 use Rattle.std.proofs.Math.ListN.{get_or-eq_default}
 use Rattle.io.specs.Counts.{IsPrefixLen}
 use Rattle.text.specs.Text.{Appended}
-use Rattle.text.specs.TextLaws.{appended-all}
+use Rattle.text.specs.TextLaws.{appended_all}
 use Rattle.streams.specs.Streams.{ReadOf}
 
-pub whole-text :
+pub whole_text_lem :
     (text : List ℕ → List ℕ) (buffer : List ℕ) (n : ℕ) {o p : List ℕ} {r : ℕ}
     → Appended o 0 (text (take n buffer)) p r
     → ((f : List ℕ) → length (text f) ≤ length o)
     → ((f : List ℕ) → text (take (length buffer) f) ≡ text f)
     → IsPrefixLen r p
     × ((input : List ℕ) → ReadOf input buffer n → take r p ≡ text input)
-whole-text text buffer n x room first = (
+whole_text_lem text buffer n x room first = (
   (x.within, x.counted),
-  λ input is. appended-all x (room (take n buffer)) ∙ ap text is ∙ first input,
+  λ input is. appended_all x (room (take n buffer)) ∙ ap text is ∙ first input,
 )
 
 -- the same where a text is known of bytes only: what is in the buffer is bytes, and so is that part of the input
-pub whole-bytes :
+pub whole_bytes :
     (text : List ℕ → List ℕ) (buffer : List ℕ) (n : ℕ) {o p : List ℕ} {r : ℕ}
     → Appended o 0 (text (take n buffer)) p r
     → ((f : List ℕ) → length (text f) ≤ length o)
@@ -34,9 +34,9 @@ pub whole-bytes :
     → text (take (length buffer) f) ≡ text f)
     → IsPrefixLen r p
     × ((input : List ℕ) → ReadOf input buffer n → take r p ≡ text input)
-whole-bytes text buffer n x room small first = (
+whole_bytes text buffer n x room small first = (
   (x.within, x.counted),
-  λ input is. appended-all x (room (take n buffer)) ∙ ap text is ∙ first input (byte input is),
+  λ input is. appended_all x (room (take n buffer)) ∙ ap text is ∙ first input (byte input is),
 )
   where
     part : (k : ℕ) → get_or (take n buffer) k 0 < 256

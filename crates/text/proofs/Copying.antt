@@ -1,8 +1,8 @@
 -- A copy to the end of a text, of as many bytes as there is room for, appends them.
---     appended-copy                    the bytes w, copied to the end m of the text, k of them
---     appended-byte, appended-full     one byte, where there is room for it, and where there is none
+--     appended_copy                    the bytes w, copied to the end m of the text, k of them
+--     appended_byte, appended_full     one byte, where there is room for it, and where there is none
 -- Cut off at the buffer's length, a text and w after it are the whole text, and of w as much as is left of the length
--- (take-both); that is what the copy wrote, since it stopped at the end of w or of the buffer (take-least).
+-- (take_both); that is what the copy wrote, since it stopped at the end of w or of the buffer (take_least).
 use Prim.Native.Nat.{ℕ, zero, suc, ◌+◌, ◌-◌, ◌≤◌, ◌<◌, min}
 use mathlib.Core.Path.{◌≡◌, refl, sym, ap, ◌∙◌}
 use mathlib.Core.List.{List, [], ◌∷◌, ◌++◌}
@@ -15,14 +15,14 @@ use lib.Seq.{take_all, length-take-le, take-append-le, take-suc-set, paste, leng
 use Rattle.text.specs.Text.{Appended}
 
 -- the first n elements of two lists
-take-both : (n : ℕ) (l w : List ℕ) → take n (l ++ w) ≡ take n l ++ take (n - length l) w
-take-both zero l w = rw (zero-sub (length l)) refl
-take-both (suc n) [] w = rw (sub-zero (suc n)) refl
-take-both (suc n) (x ∷ l) w = ap (λ (t : List ℕ). x ∷ t) (take-both n l w) ∙ rw (suc-sub-suc n (length l)) refl
+take_both : (n : ℕ) (l w : List ℕ) → take n (l ++ w) ≡ take n l ++ take (n - length l) w
+take_both zero l w = rw (zero-sub (length l)) refl
+take_both (suc n) [] w = rw (sub-zero (suc n)) refl
+take_both (suc n) (x ∷ l) w = ap (λ (t : List ℕ). x ∷ t) (take_both n l w) ∙ rw (suc-sub-suc n (length l)) refl
 
 -- a list has no more than its elements
-take-least : (n : ℕ) (l : List ℕ) → take (min n (length l)) l ≡ take n l
-take-least n l = elim (dec_lt n (length l)) [
+take_least : (n : ℕ) (l : List ℕ) → take (min n (length l)) l ≡ take n l
+take_least n l = elim (dec_lt n (length l)) [
   | yes h ↦ ap (λ (k : ℕ). take k l) (let e : min n (length l) ≡ n = omega arith in e)
   | no f ↦ take_all (min n (length l)) l (omega arith) ∙ sym (take_all n l (omega arith))
 ]
@@ -36,25 +36,25 @@ module _
     copied : take (length o) (take a o ++ w) ≡ take m o ++ take k w
     copied =
         let count : min (length o - m) (length w) ≡ k = omega arith in
-        take-both (length o) (take a o) w
+        take_both (length o) (take a o) w
         ∙ rw (take_all (length o) (take a o) (omega (arith, length-take a o)), length-take a o, ← is-end)
-        (rw (← take-least a o, ← is-end, ← take-least (length o - m) w) (rw count refl))
+        (rw (← take_least a o, ← is-end, ← take_least (length o - m) w) (rw count refl))
 
-    kept-length : length (paste o m w k) ≡ length o
-    kept-length = length-paste o m w k (omega arith) (omega arith)
+    kept_length : length (paste o m w k) ≡ length o
+    kept_length = length-paste o m w k (omega arith) (omega arith)
 
-    pub appended-copy : Appended o a w (paste o m w k) (m + k)
-    appended-copy = record {
-      size = kept-length;
-      within = omega (arith, kept-length);
-      counted = sym (length-take-le (m + k) (paste o m w k) (omega (arith, kept-length)));
+    pub appended_copy : Appended o a w (paste o m w k) (m + k)
+    appended_copy = record {
+      size = kept_length;
+      within = omega (arith, kept_length);
+      counted = sym (length-take-le (m + k) (paste o m w k) (omega (arith, kept_length)));
       text = take-paste o m w k (omega arith) (omega arith) ∙ sym copied;
     }
 
 -- one byte, where there is room for it, and where there is none
 module _ (o : List ℕ) (a x : ℕ) where
-  pub appended-byte : a < length o → Appended o a (x ∷ []) (set o a x) (a + 1)
-  appended-byte h = record {
+  pub appended_byte : a < length o → Appended o a (x ∷ []) (set o a x) (a + 1)
+  appended_byte h = record {
     size = length-set o a x;
     within = simp length-set (omega arith);
     counted = sym (length-take-le (a + 1) (set o a x) (simp length-set (omega arith)));
@@ -63,8 +63,8 @@ module _ (o : List ℕ) (a x : ℕ) where
         (sym (take_all (length o) (take a o ++ (x ∷ [])) (simp (length-append, length-take) (omega arith))));
   }
 
-  pub appended-full : length o ≤ a → Appended o a (x ∷ []) o (length o)
-  appended-full h = record {
+  pub appended_full : length o ≤ a → Appended o a (x ∷ []) o (length o)
+  appended_full h = record {
     size = refl;
     within = omega arith;
     counted = sym (length-take-le (length o) o (omega arith));

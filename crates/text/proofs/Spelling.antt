@@ -1,9 +1,9 @@
 -- The digits of a number, written from the last one back.
 --     Spelled x d from rest        `rest` is what is left of x: its digits go up to place `from` of d, and the digits
 --                                  of x after those stand behind it
---     spelled_none, spelled-more, spelled-done     at the start, after a digit more, and with the first digit
---     spelled-some                 a rest of two digits has a place in front
---     appended-rest                the part of d from the first digit on is what is appended
+--     spelled_none, spelled_more, spelled_done     at the start, after a digit more, and with the first digit
+--     spelled_some                 a rest of two digits has a place in front
+--     appended_rest                the part of d from the first digit on is what is appended
 use Prim.Native.Nat.{ℕ, suc, ◌+◌, ◌-◌, ◌/◌, ◌%◌, ◌^◌, ◌≤◌, ◌<◌}
 use mathlib.Core.Path.{◌≡◌, refl, sym, ap, ◌∙◌}
 use mathlib.Core.List.{List, ◌∷◌, ◌++◌, append-nil, append_assoc}
@@ -13,7 +13,7 @@ use native.Mathlib.Numerals.{add-one}
 use lib.ListN.{length, take, drop, set, length-set, length-drop, drop_of_length-le}
 use lib.Seq.{take_all, drop-cons, drop-set-lt, get_or-set_same}
 use Rattle.text.specs.Text.{Appended, digits, decimal}
-use Rattle.text.specs.TextLaws.{digits-one, digits_more, shorter}
+use Rattle.text.specs.TextLaws.{digits_one, digits_more, shorter}
 
 pub record Spelled (x : ℕ) (d : List ℕ) (from rest : ℕ) : Type 0 where
   pub size : length d ≡ 20
@@ -39,19 +39,19 @@ spelled_none x d e h = record {
 }
 
 -- a rest of two digits does not stand in one place
-pub spelled-some : {x from rest : ℕ} {d : List ℕ} → Spelled x d from rest → 10 ≤ rest → 1 ≤ from
-spelled-some {x} {from} {rest} s h = elim (dec_lt 0 from) [
+pub spelled_some : {x from rest : ℕ} {d : List ℕ} → Spelled x d from rest → 10 ≤ rest → 1 ≤ from
+spelled_some {x} {from} {rest} s h = elim (dec_lt 0 from) [
   | yes l ↦ l
   | no f ↦ let e : from ≡ 0 = omega arith in omega (arith, rw e at s.fits)
 ]
 
-pub spelled-more :
+pub spelled_more :
     {x from rest : ℕ} {d : List ℕ}
     → Spelled x d from rest
     → 10 ≤ rest
     → Spelled x (set d from (48 + rest % 10)) (from - 1) (rest / 10)
-spelled-more {x} {from} {rest} {d} s h =
-    let e : from - 1 + 1 ≡ from = omega (arith, spelled-some s h) in
+spelled_more {x} {from} {rest} {d} s h =
+    let e : from - 1 + 1 ≡ from = omega (arith, spelled_some s h) in
     let digit = written d from (48 + rest % 10) (omega (arith, s.size, s.place)) in record {
       size = simp length-set s.size;
       place = omega (arith, s.place);
@@ -59,23 +59,23 @@ spelled-more {x} {from} {rest} {d} s h =
       split = rw (e, digit) (s.split ∙ rw (digits_more from rest h, append_assoc) refl);
     }
 
-pub spelled-done :
+pub spelled_done :
     {x from rest : ℕ} {d : List ℕ}
     → Spelled x d from rest
     → rest < 10
     → drop from (set d from (48 + rest)) ≡ decimal x
-spelled-done {x} {from} {rest} {d} s h =
+spelled_done {x} {from} {rest} {d} s h =
     written d from (48 + rest) (omega (arith, s.size, s.place))
-    ∙ sym (s.split ∙ rw (digits-one from rest h) refl)
+    ∙ sym (s.split ∙ rw (digits_one from rest h) refl)
 
 -- the part of d from its first digit on is appended
-pub appended-rest :
+pub appended_rest :
     {o p w : List ℕ} {a r : ℕ} (d : List ℕ) (from : ℕ)
     → length d ≡ 20
     → drop from d ≡ w
     → Appended o a (take (20 - from) (drop from d)) p r
     → Appended o a w p r
-appended-rest {o} {p} {w} {a} {r} d from size e h =
+appended_rest {o} {p} {w} {a} {r} d from size e h =
     let all = take_all (20 - from) (drop from d) (omega (arith, length-drop from d)) in
     let whole : take (20 - from) (drop from d) ≡ w = all ∙ e in
     rw whole at h

@@ -34,5 +34,5 @@ unfoldable pub line : (name : List ℕ) (x : ℕ) → List ℕ
 line name x = field name x ++ word "\n"
 
 -- a refusal by its number
-unfoldable pub refusedLine : (number : ℕ) → List ℕ
-refusedLine number = line (word "refused ") number
+unfoldable pub refused_line : (number : ℕ) → List ℕ
+refused_line number = line (word "refused ") number

@@ -1,16 +1,16 @@
 -- Laws of texts and of numbers in decimal.
---     appended-none, appended_then, appended-anew      nothing is appended; one after the other; from the start again
---     appended-field, appended-line        a number after its name
---     field_is, line-is                    a field is a name and a number, a line a field and the end of the line
---     field-after, line_after              a name that is made of two parts
---     appended-all                         what is appended to the empty text is the text, where there is room
---     shorter, digits-one, digits_more     a number without its last digit, one digit, and a digit more
---     decimal-some, decimal-most           a number has one to twenty digits
---     field-most, line-most                so a number after its name is not long
---     decimal-below, field_below, line-below           a number below 10 ^ k has at most k digits, k from 1 on
---     decimal-value                        they say the number
---     decimal-ascii, decimal-lead          each is one of `0` to `9`, and the first is no `0` but in 0 itself
---     refused-is, refusal-line, refused-most           the line of a refusal
+--     appended_none, appended_then, appended_anew      nothing is appended; one after the other; from the start again
+--     appended_field, appended_line        a number after its name
+--     field_is, line_is                    a field is a name and a number, a line a field and the end of the line
+--     field_after, line_after              a name that is made of two parts
+--     appended_all                         what is appended to the empty text is the text, where there is room
+--     shorter, digits_one, digits_more     a number without its last digit, one digit, and a digit more
+--     decimal_some, decimal_most           a number has one to twenty digits
+--     field_most, line_most                so a number after its name is not long
+--     decimal_below, field_below, line_below           a number below 10 ^ k has at most k digits, k from 1 on
+--     decimal_value                        they say the number
+--     decimal_ascii, decimal_lead          each is one of `0` to `9`, and the first is no `0` but in 0 itself
+--     refused_is, refusal_line, refused_most           the line of a refusal
 -- Cutting off what does not fit may be done after each append or once at the end (take_again): so one append after
 -- another is an append. What is said of digits is by induction on how many there may be: a number below 10 is its own
 -- digit, and every other is the digits of a tenth of it, and one more.
@@ -19,7 +19,7 @@ use Rattle.std.proofs.Common.{sym, ap, ◌∙◌, append-nil, append_assoc, arit
 use Rattle.std.proofs.Math.Decide.{dec_lt}
 use Rattle.std.proofs.Math.ListN.{length-append, get_or-append}
 use Rattle.std.proofs.Math.Seq.{get_or-append_seam}
-use Rattle.text.specs.Text.{Appended, word, digits, decimal, field, line, refusedLine}
+use Rattle.text.specs.Text.{Appended, word, digits, decimal, field, line, refused_line}
 
 -- ---- lists
 -- what is cut off at n after an append may be cut off before it too
@@ -29,8 +29,8 @@ take_again (suc n) [] w = refl
 take_again (suc n) (x ∷ l) w = ap (λ (t : List ℕ). x ∷ t) (take_again n l w)
 
 -- ---- appending
-pub appended-none : (o : List ℕ) (a : ℕ) → a ≤ length o → Appended o a [] o a
-appended-none o a h = record {
+pub appended_none : (o : List ℕ) (a : ℕ) → a ≤ length o → Appended o a [] o a
+appended_none o a h = record {
   size = refl;
   within = h;
   counted = sym (length-take-le a o h);
@@ -52,118 +52,118 @@ appended_then {o} {v} {p} {w} {q} {a} {b} {c} x y = record {
 }
 
 -- a number after its name, and the same as a line
-pub appended-field :
+pub appended_field :
     (name : List ℕ) (x : ℕ) {o p q : List ℕ} {a b c : ℕ}
     → Appended o a name p b
     → Appended p b (decimal x) q c
     → Appended o a (field name x) q c
 unfolding field
-appended-field name x u v = appended_then u v
+appended_field name x u v = appended_then u v
 
-pub appended-line :
+pub appended_line :
     (name : List ℕ) (x : ℕ) {o p q : List ℕ} {a b c : ℕ}
     → Appended o a (field name x) p b
     → Appended p b (word "\n") q c
     → Appended o a (line name x) q c
 unfolding line
-appended-line name x u v = appended_then u v
+appended_line name x u v = appended_then u v
 
 -- the first part of a name may stand before the number, and before the line
-pub field-after : (v w : List ℕ) (x : ℕ) → field (v ++ w) x ≡ v ++ field w x
+pub field_after : (v w : List ℕ) (x : ℕ) → field (v ++ w) x ≡ v ++ field w x
 unfolding field
-field-after v w x = append_assoc v w (decimal x)
+field_after v w x = append_assoc v w (decimal x)
 
 pub field_is : (name : List ℕ) (x : ℕ) → field name x ≡ name ++ decimal x
 unfolding field
 field_is name x = refl
 
-pub line-is : (name : List ℕ) (x : ℕ) → line name x ≡ field name x ++ word "\n"
+pub line_is : (name : List ℕ) (x : ℕ) → line name x ≡ field name x ++ word "\n"
 unfolding line
-line-is name x = refl
+line_is name x = refl
 
 pub line_after : (v w : List ℕ) (x : ℕ) → line (v ++ w) x ≡ v ++ line w x
 unfolding line field
 line_after v w x = simp append_assoc
 
 -- a buffer of the same length has the same room for a text that starts anew
-pub appended-anew :
+pub appended_anew :
     {o p w q : List ℕ} {r : ℕ}
     → length p ≡ length o
     → Appended p 0 w q r
     → Appended o 0 w q r
-appended-anew {o} {p} {w} e x = record {
+appended_anew {o} {p} {w} e x = record {
   size = x.size ∙ e;
   within = x.within;
   counted = x.counted;
   text = x.text ∙ rw e refl;
 }
 
-pub appended-all : {o w p : List ℕ} {r : ℕ} → Appended o 0 w p r → length w ≤ length o → take r p ≡ w
-appended-all {o} {w} x h = x.text ∙ take_all (length o) w h
+pub appended_all : {o w p : List ℕ} {r : ℕ} → Appended o 0 w p r → length w ≤ length o → take r p ≡ w
+appended_all {o} {w} x h = x.text ∙ take_all (length o) w h
 
 -- ---- digits
 -- a number without its last digit has one digit less
 pub shorter : (k x : ℕ) → x < 10 ^ suc k → x / 10 < 10 ^ k
 shorter k x h = (div-lt_iff_lt-mul {k = 10} {x = x} {y = 10 ^ k} (omega arith)).1 (rw pow-suc at h)
 
-pub digits-one : (k x : ℕ) → x < 10 → digits (k + 1) x ≡ (48 + x) ∷ []
+pub digits_one : (k x : ℕ) → x < 10 → digits (k + 1) x ≡ (48 + x) ∷ []
 unfolding digits
-digits-one k x h = rw (add-one, lt-ltb x 10 h) refl
+digits_one k x h = rw (add-one, lt-ltb x 10 h) refl
 
 pub digits_more : (k x : ℕ) → 10 ≤ x → digits (k + 1) x ≡ digits k (x / 10) ++ ((48 + x % 10) ∷ [])
 unfolding digits
 digits_more k x h = rw (add-one, le-ltb x 10 h) refl
 
-digits-some : (k x : ℕ) → 1 ≤ length (digits (suc k) x)
+digits_some : (k x : ℕ) → 1 ≤ length (digits (suc k) x)
 unfolding digits
-digits-some k x = elim (dec_lt x 10) [
+digits_some k x = elim (dec_lt x 10) [
   | yes h ↦ rw (lt-ltb x 10 h) (omega arith)
   | no f ↦ rw (le-ltb x 10 (omega arith), length-append) (omega arith)
 ]
 
-digits-most : (k x : ℕ) → length (digits k x) ≤ k
+digits_most : (k x : ℕ) → length (digits k x) ≤ k
 unfolding digits
-digits-most zero x = omega arith
-digits-most (suc k) x = elim (dec_lt x 10) [
+digits_most zero x = omega arith
+digits_most (suc k) x = elim (dec_lt x 10) [
   | yes h ↦ rw (lt-ltb x 10 h) (omega arith)
-  | no f ↦ rw (le-ltb x 10 (omega arith), length-append) (omega (arith, digits-most k (x / 10)))
+  | no f ↦ rw (le-ltb x 10 (omega arith), length-append) (omega (arith, digits_most k (x / 10)))
 ]
 
 -- a small number has few digits, however many there may be
-digits-below : (j k x : ℕ) → 1 ≤ k → x < 10 ^ k → length (digits j x) ≤ k
+digits_below : (j k x : ℕ) → 1 ≤ k → x < 10 ^ k → length (digits j x) ≤ k
 unfolding digits
-digits-below zero k x s h = omega arith
-digits-below (suc j) zero x s h = absurd (not-suc-le-zero s)
-digits-below (suc j) (suc zero) x s h = rw (lt-ltb x 10 (omega arith)) (omega arith)
-digits-below (suc j) (suc (suc k)) x s h = elim (dec_lt x 10) [
+digits_below zero k x s h = omega arith
+digits_below (suc j) zero x s h = absurd (not-suc-le-zero s)
+digits_below (suc j) (suc zero) x s h = rw (lt-ltb x 10 (omega arith)) (omega arith)
+digits_below (suc j) (suc (suc k)) x s h = elim (dec_lt x 10) [
   | yes l ↦ rw (lt-ltb x 10 l) (omega arith)
   | no f ↦
-      let rest = digits-below j (suc k) (x / 10) (omega arith) (shorter (suc k) x h) in
+      let rest = digits_below j (suc k) (x / 10) (omega arith) (shorter (suc k) x h) in
       rw (le-ltb x 10 (omega arith), length-append) (omega (arith, rest))
 ]
 
 -- the number that a list of digits is, where v is what the digits before it are
-unfoldable pub valueAfter : (v : ℕ) (l : List ℕ) → ℕ
-valueAfter v [] = v
-valueAfter v (d ∷ l) = valueAfter (10 * v + (d - 48)) l
+unfoldable pub value_after : (v : ℕ) (l : List ℕ) → ℕ
+value_after v [] = v
+value_after v (d ∷ l) = value_after (10 * v + (d - 48)) l
 
 -- the number that a list of digits is
 unfoldable pub value : (l : List ℕ) → ℕ
-value l = valueAfter 0 l
+value l = value_after 0 l
 
 -- the number that digits are, with one digit more at their end
-value-more : (v d : ℕ) (l : List ℕ) → valueAfter v (l ++ (d ∷ [])) ≡ 10 * valueAfter v l + (d - 48)
-unfolding valueAfter
-value-more v d [] = refl
-value-more v d (e ∷ l) = value-more (10 * v + (e - 48)) d l
+value_more : (v d : ℕ) (l : List ℕ) → value_after v (l ++ (d ∷ [])) ≡ 10 * value_after v l + (d - 48)
+unfolding value_after
+value_more v d [] = refl
+value_more v d (e ∷ l) = value_more (10 * v + (e - 48)) d l
 
-digits_value : (k x : ℕ) → x < 10 ^ k → valueAfter 0 (digits k x) ≡ x
-unfolding digits valueAfter
+digits_value : (k x : ℕ) → x < 10 ^ k → value_after 0 (digits k x) ≡ x
+unfolding digits value_after
 digits_value zero x h = omega arith
 digits_value (suc k) x h = elim (dec_lt x 10) [
   | yes l ↦ rw (lt-ltb x 10 l) (omega arith)
   | no f ↦
-      let last = value-more 0 (48 + x % 10) (digits k (x / 10)) in
+      let last = value_more 0 (48 + x % 10) (digits k (x / 10)) in
       let rest = digits_value k (x / 10) (shorter k x h) in
       rw (le-ltb x 10 (omega arith), last, rest) (omega arith)
 ]
@@ -183,10 +183,10 @@ all_more l d i all a h = elim (dec_lt i (length l)) [
   | no f ↦ let e : i ≡ length l = omega arith in rw (e, get_or-append_seam l d [] 0) a
 ]
 
-digits-ascii : (k x i : ℕ) → i < length (digits k x) → Ascii (get_or (digits k x) i 0)
+digits_ascii : (k x i : ℕ) → i < length (digits k x) → Ascii (get_or (digits k x) i 0)
 unfolding digits
-digits-ascii zero x i h = absurd (not-suc-le-zero h)
-digits-ascii (suc k) x i h = elim (dec_lt x 10) [
+digits_ascii zero x i h = absurd (not-suc-le-zero h)
+digits_ascii (suc k) x i h = elim (dec_lt x 10) [
   | yes s ↦
       let one : digits (suc k) x ≡ (48 + x) ∷ [] = rw (lt-ltb x 10 s) refl in
       let e : i ≡ 0 = omega (arith, ap length one) in
@@ -196,7 +196,7 @@ digits-ascii (suc k) x i h = elim (dec_lt x 10) [
       rw (le-ltb x 10 (omega arith)) refl in
       let size = length-append (digits k (x / 10)) ((48 + x % 10) ∷ []) in
       rw (le-ltb x 10 (omega arith))
-      (all_more (digits k (x / 10)) (48 + x % 10) i (λ j l. digits-ascii k (x / 10) j l) (omega arith, omega arith)
+      (all_more (digits k (x / 10)) (48 + x % 10) i (λ j l. digits_ascii k (x / 10) j l) (omega arith, omega arith)
       (omega (arith, ap length more, size)))
 ]
 
@@ -205,91 +205,91 @@ lead : (l w : List ℕ) → 49 ≤ get_or l 0 0 → 49 ≤ get_or (l ++ w) 0 0
 lead [] w h = absurd (let x : ⊥ = omega arith in x)
 lead (d ∷ l) w h = h
 
-digits-lead : (k x : ℕ) → 1 ≤ x → x < 10 ^ k → 49 ≤ get_or (digits k x) 0 0
+digits_lead : (k x : ℕ) → 1 ≤ x → x < 10 ^ k → 49 ≤ get_or (digits k x) 0 0
 unfolding digits
-digits-lead zero x l h = absurd (let x : ⊥ = omega arith in x)
-digits-lead (suc k) x l h = elim (dec_lt x 10) [
+digits_lead zero x l h = absurd (let x : ⊥ = omega arith in x)
+digits_lead (suc k) x l h = elim (dec_lt x 10) [
   | yes s ↦ rw (lt-ltb x 10 s) (omega arith)
   | no f ↦
-      let first = digits-lead k (x / 10) (omega arith) (shorter k x h) in
+      let first = digits_lead k (x / 10) (omega arith) (shorter k x h) in
       rw (le-ltb x 10 (omega arith)) (lead (digits k (x / 10)) ((48 + x % 10) ∷ []) first)
 ]
 
 -- ---- numbers in decimal
-pub decimal-some : (x : ℕ) → 1 ≤ length (decimal x)
+pub decimal_some : (x : ℕ) → 1 ≤ length (decimal x)
 unfolding decimal
-decimal-some x = digits-some 19 x
+decimal_some x = digits_some 19 x
 
-pub decimal-most : (x : ℕ) → length (decimal x) ≤ 20
+pub decimal_most : (x : ℕ) → length (decimal x) ≤ 20
 unfolding decimal
-decimal-most x = digits-most 20 x
+decimal_most x = digits_most 20 x
 
 -- so a number after its name is not long, and neither is its line
-pub field-most : (name : List ℕ) (x : ℕ) → length (field name x) ≤ length name + 20
+pub field_most : (name : List ℕ) (x : ℕ) → length (field name x) ≤ length name + 20
 unfolding field
-field-most name x = simp length-append (omega (arith, decimal-most x))
+field_most name x = simp length-append (omega (arith, decimal_most x))
 
-pub line-most : (name : List ℕ) (x : ℕ) → length (line name x) ≤ length name + 21
+pub line_most : (name : List ℕ) (x : ℕ) → length (line name x) ≤ length name + 21
 unfolding line
-line-most name x = simp length-append (omega (arith, field-most name x))
+line_most name x = simp length-append (omega (arith, field_most name x))
 
 -- and shorter where the number is known to be small
 module _ (k x : ℕ) (some : 1 ≤ k) (h : x < 10 ^ k) where
-  pub decimal-below : length (decimal x) ≤ k
+  pub decimal_below : length (decimal x) ≤ k
   unfolding decimal
-  decimal-below = digits-below 20 k x some h
+  decimal_below = digits_below 20 k x some h
 
   pub field_below : (name : List ℕ) → length (field name x) ≤ length name + k
   unfolding field
-  field_below name = simp length-append (omega (arith, decimal-below))
+  field_below name = simp length-append (omega (arith, decimal_below))
 
-  pub line-below : (name : List ℕ) → length (line name x) ≤ length name + k + 1
+  pub line_below : (name : List ℕ) → length (line name x) ≤ length name + k + 1
   unfolding line
-  line-below name = simp length-append (omega (arith, field_below name))
+  line_below name = simp length-append (omega (arith, field_below name))
 
-pub decimal-value : (x : ℕ) → x < 10 ^ 20 → value (decimal x) ≡ x
+pub decimal_value : (x : ℕ) → x < 10 ^ 20 → value (decimal x) ≡ x
 unfolding decimal value
-decimal-value x h = digits_value 20 x h
+decimal_value x h = digits_value 20 x h
 
-pub decimal-ascii :
+pub decimal_ascii :
     (x i : ℕ)
     → i < length (decimal x)
     → (48 ≤ get_or (decimal x) i 0) × (get_or (decimal x) i 0 ≤ 57)
 unfolding decimal
-decimal-ascii x i h = digits-ascii 20 x i h
+decimal_ascii x i h = digits_ascii 20 x i h
 
-pub decimal-lead : (x : ℕ) → 1 ≤ x → x < 10 ^ 20 → 49 ≤ get_or (decimal x) 0 0
+pub decimal_lead : (x : ℕ) → 1 ≤ x → x < 10 ^ 20 → 49 ≤ get_or (decimal x) 0 0
 unfolding decimal
-decimal-lead x l h = digits-lead 20 x l h
+decimal_lead x l h = digits_lead 20 x l h
 
 -- the smallest number, two with a zero in them, and the largest u64
-decimal-0 : decimal 0 ≡ 48 ∷ []
+decimal_0 : decimal 0 ≡ 48 ∷ []
 unfolding decimal digits
-decimal-0 = refl
+decimal_0 = refl
 
-decimal-10 : decimal 10 ≡ 49 ∷ 48 ∷ []
+decimal_10 : decimal 10 ≡ 49 ∷ 48 ∷ []
 unfolding decimal digits
-decimal-10 = refl
+decimal_10 = refl
 
-decimal-905 : decimal 905 ≡ 57 ∷ 48 ∷ 53 ∷ []
+decimal_905 : decimal 905 ≡ 57 ∷ 48 ∷ 53 ∷ []
 unfolding decimal digits
-decimal-905 = refl
+decimal_905 = refl
 
-decimal-largest : decimal 18446744073709551615 ≡ word "18446744073709551615"
+decimal_largest : decimal 18446744073709551615 ≡ word "18446744073709551615"
 unfolding decimal digits
-decimal-largest = refl
+decimal_largest = refl
 
 -- ---- the line of a refusal
-pub refused-is : (k : ℕ) → refusedLine k ≡ line (word "refused ") k
-unfolding refusedLine
-refused-is k = refl
+pub refused_is : (k : ℕ) → refused_line k ≡ line (word "refused ") k
+unfolding refused_line
+refused_is k = refl
 
-pub refusal-line :
+pub refusal_line :
     (k : ℕ) {o p : List ℕ} {a b : ℕ}
     → Appended o a (line (word "refused ") k) p b
-    → Appended o a (refusedLine k) p b
-refusal-line k u = rw (refused-is k) u
+    → Appended o a (refused_line k) p b
+refusal_line k u = rw (refused_is k) u
 
-pub refused-most : (k : ℕ) → length (refusedLine k) ≤ 29
-unfolding refusedLine
-refused-most k = line-most (word "refused ") k
+pub refused_most : (k : ℕ) → length (refused_line k) ≤ 29
+unfolding refused_line
+refused_most k = line_most (word "refused ") k

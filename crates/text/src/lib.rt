@@ -8,7 +8,7 @@
 // What they promise is specs/Text.antt, and what a caller may conclude specs/TextLaws.antt. The loops' arguments are
 // proofs/Copying.antt (append) and proofs/Spelling.antt (spell).
 ghost use Rattle.std.specs.Prelude.{◌≡◌, [], ◌∷◌, ◌≤◌, min, length, drop};
-ghost use Rattle.text.specs.Text.{Appended, decimal, field, line, refusedLine};
+ghost use Rattle.text.specs.Text.{Appended, decimal, field, line, refused_line};
 
 // Appends `bytes` to the text of the first `at` bytes of `out`.
 pub fn append(out: &mut [u8], at: usize, bytes: &[u8]) -> usize
@@ -60,7 +60,7 @@ pub fn line(out: &mut [u8], at: usize, name: &[u8], x: u64) -> usize
 
 // Appends the line of a refusal, by its number.
 pub fn refused_line(out: &mut [u8], at: usize, number: u8) -> usize
-    ensures line { Appended out.old at (refusedLine number) out.new result }
+    ensures line { Appended out.old at (refused_line number) out.new result }
 {
     line(out, at, b"refused ", number as u64)
 }

@@ -1,18 +1,18 @@
 -- What the walks of `new`, `Reader::item`, `Reader::after` and `item_at` share. A reader holds lent bytes, and a place
 -- in them. Each of the four functions takes the two apart or takes a reader, and so does each function that they call.
 --     Fields, fields, of_fields        the bytes and the place of a reader, and the reader that has them
---     apart-vals, Apart, Lie           the two as parameters: their machine values, what they own, and that these stand
+--     apart_vals, Apart, Lie           the two as parameters: their machine values, what they own, and that these stand
 --                                      for them
---     the-reader, reader-val, Whole    the type of a reader, its machine value, and what it owns as the only parameter
+--     the_reader, reader_val, Whole    the type of a reader, its machine value, and what it owns as the only parameter
 --     Storable, .. -typed              a value can be stored in a local of its type
 --     Parameters, apart, whole         parameters that are at exit as they were passed: the two, and a reader
 --     token, Asks                      a share of the lifetime; what a callee asks, given what its parameters own
---     asked, asked-whole, asked-reader that is had: for a callee that takes the two, of the two or of a reader, which
+--     asked, asked_whole, asked_reader that is had: for a callee that takes the two, of the two or of a reader, which
 --                                      are kept; and for one that takes a reader that is not needed again
 --     made, moved                      a reader is had of the two, or of a reader at another place, and they are kept
 --     freed                            a local is freed at the end
---     Met, calls-for                   a callee's contract, and a call, of which the callee's clause is known
---     Run, walk-enters                 what a walk shows, and that a function with a walk meets its contract
+--     Met, calls_for                   a callee's contract, and a call, of which the callee's clause is known
+--     Run, walk_enters                 what a walk shows, and that a function with a walk meets its contract
 -- Assumes nothing.
 use mathlib.Core.Path.{◌≡◌, refl, subst}
 use Prim.Native.Nat.{ℕ, ◌<◌, ◌^◌}
@@ -75,33 +75,33 @@ fields d = (d.bytes, (d.at, tt))
 abbrev pub of_fields : Fields → Reader
 of_fields x = record { bytes = x.0; at = x.1.0 }
 
-abbrev pub apart-vals : Fields → List Val × (List Val × Unit {0})
-apart-vals x = (shr_slice_vals x.0, (uint_vals w64 x.1.0, tt))
+abbrev pub apart_vals : Fields → List Val × (List Val × Unit {0})
+apart_vals x = (shr_slice_vals x.0, (uint_vals w64 x.1.0, tt))
 
-abbrev the-two : Lft → List RattleType
-the-two κ = ShrSlice (named 0) κ u8 ∷ usize ∷ []
+abbrev the_two : Lft → List RattleType
+the_two κ = ShrSlice (named 0) κ u8 ∷ usize ∷ []
 
 abbrev pub Apart : Lft → Fields → Fml
-Apart κ x = owns (the-two κ) x (apart-vals x)
+Apart κ x = owns (the_two κ) x (apart_vals x)
 
 abbrev pub Lie : Lft → Fields → Type 0
-Lie κ x = Are (the-two κ) (Ises (the-two κ)) x (apart-vals x)
+Lie κ x = Are (the_two κ) (Ises (the_two κ)) x (apart_vals x)
 
-abbrev pub the-reader : Lfts 1 → RattleType
-the-reader κs = reader.the_row (named_lft 1 0 tt κs)
+abbrev pub the_reader : Lfts 1 → RattleType
+the_reader κs = reader.the_row (named_lft 1 0 tt κs)
 
-abbrev pub reader-val : Reader → Val
-reader-val = reader'.lowered
+abbrev pub reader_val : Reader → Val
+reader_val = reader'.lowered
 
 abbrev Own : Lft → Reader → Fml
-Own κ d = (the-reader (κ, tt)).own d (reader-val d ∷ [])
+Own κ d = (the_reader (κ, tt)).own d (reader_val d ∷ [])
 
 abbrev pub Whole : Lft → Reader → Fml
-Whole κ d = owns (the-reader (κ, tt) ∷ []) (d, tt) (reader-val d ∷ [], tt)
+Whole κ d = owns (the_reader (κ, tt) ∷ []) (d, tt) (reader_val d ∷ [], tt)
 
 -- the machine value of a reader can be stored
 abbrev pub Storable : Reader → Type 0
-Storable d = Holds (has_ty (reader'.mir (named 0)) (reader-val d)) × WT (reader-val d)
+Storable d = Holds (has_ty (reader'.mir (named 0)) (reader_val d)) × WT (reader_val d)
 
 -- ---- parameters that are at exit as they were passed (`stay`, `go`), and their machine values (`vals`, `tell`)
 pub record Parameters {n : ℕ} (ss : List (Slot n)) (ks : Kepts ss) : Type 2 where
@@ -122,10 +122,10 @@ apart = record {
   tell = λ κs. (shr_slice_Tells (named 0) κs.0 u8, (uint_Tells w64, tt));
 }
 
-abbrev pub whole : Parameters {n = 1} (plain the-reader ∷ []) (yes, tt)
+abbrev pub whole : Parameters {n = 1} (plain the_reader ∷ []) (yes, tt)
 whole = record {
-  stay = (stay_none the-reader yes, tt);
-  go = λ 𝓛. (Goes-none 𝓛 1 the-reader yes (λ κs x f. refl), tt);
+  stay = (stay_none the_reader yes, tt);
+  go = λ 𝓛. (Goes-none 𝓛 1 the_reader yes (λ κs x f. refl), tt);
   vals = λ κs. (LL.vals (reader.the_type (named_lft 1 0 tt κs)) (reader'.the_laws (named_lft 1 0 tt κs)), tt);
   tell = λ κs. (LL.tells (reader.the_type (named_lft 1 0 tt κs)) (reader'.the_laws (named_lft 1 0 tt κs)), tt);
 }
@@ -150,12 +150,12 @@ module _ {M : Type 1} {𝓤 : Ura M} (𝓛 : Logic 𝓤) (κ : Lft) where
 
   -- what a reader owns is had twice, for it is Copy; it is what the two own
   copied : (d : Reader) → Gives (‵ (Own κ d)) (‵ (Own κ d) ⊛ ‵ (Own κ d))
-  copied d = (LL.copy D (reader'.the_copy (named_lft 1 0 tt (κ, tt))) 𝓛).twice d (reader-val d ∷ [])
+  copied d = (LL.copy D (reader'.the_copy (named_lft 1 0 tt (κ, tt))) 𝓛).twice d (reader_val d ∷ [])
 
   opened : (d : Reader) → Gives (‵ (Own κ d)) (‵ (Apart κ (fields d)))
   opened d = qed 𝓛 (‵ (Own κ d) ∷ []) ∵
-      use1 𝓛 (given (reader-val d ∷ [] ≡ reader-val d ∷ []) (‵ (all_own D.parts L (fields d))))
-      (own_open 𝓛 D L (fields d) (reader-val d)) $ learn ! (λ _. done !)
+      use1 𝓛 (given (reader_val d ∷ [] ≡ reader_val d ∷ []) (‵ (all_own D.parts L (fields d))))
+      (own_open 𝓛 D L (fields d) (reader_val d)) $ learn ! (λ _. done !)
 
   shut : (x : Fields) → Gives (‵ (Apart κ x)) (‵ (Own κ (of_fields x)))
   shut = own_shut 𝓛 D L
@@ -175,52 +175,52 @@ module _ {M : Type 1} {𝓤 : Ura M} (𝓛 : Logic 𝓤) (κ : Lft) where
       move ! (0 ∷ 2 ∷ []) $ fjoin ! $ frame ! $
       -- [what the reader owns]: the place n is put in
       owned ! usize (Is usize) (uint_Makes 𝓛 w64) n (uint_vals w64 n) (refl, fits) $ move ! (1 ∷ 0 ∷ []) $
-      use2 𝓛 (‵ (Own κ (of_fields (d.bytes, (n, tt))))) (own_put 𝓛 D L 1 (fields d) n (reader-val d)) $ done !
+      use2 𝓛 (‵ (Own κ (of_fields (d.bytes, (n, tt))))) (own_put 𝓛 D L 1 (fields d) n (reader_val d)) $ done !
 
   module _ (q : Share) where
-    abbrev the-token : Item 𝓤
-    the-token = raw (token 𝓛 κ q)
+    abbrev the_token : Item 𝓤
+    the_token = raw (token 𝓛 κ q)
 
     -- a callee is handed the token and what it asks, and what was had is kept; the last reader is not needed again
-    pub asked : (x : Fields) → Gives (the-token ⊛ ‵ (Apart κ x)) (raw (Asks 𝓛 κ q (Apart κ x)) ⊛ ‵ (Apart κ x))
+    pub asked : (x : Fields) → Gives (the_token ⊛ ‵ (Apart κ x)) (raw (Asks 𝓛 κ q (Apart κ x)) ⊛ ‵ (Apart κ x))
     asked x =
-        qed 𝓛 (the-token ∷ ‵ (Apart κ x) ∷ []) ∵ move ! (1 ∷ []) $
+        qed 𝓛 (the_token ∷ ‵ (Apart κ x) ∷ []) ∵ move ! (1 ∷ []) $
         use1 𝓛 (‵ (Apart κ x) ⊛ ‵ (Own κ (of_fields x))) (made x) $ split ! $ nothing ! $
         move ! (3 ∷ 1 ∷ 0 ∷ []) $ join ! $ join ! $ frame ! $ use1 𝓛 (‵ (Apart κ x)) (opened (of_fields x)) $ done !
 
-    pub asked-whole : (d : Reader)
-        → Gives (the-token ⊛ ‵ (Whole κ d)) (raw (Asks 𝓛 κ q (Apart κ (fields d))) ⊛ ‵ (Whole κ d))
-    asked-whole d =
-        qed 𝓛 (the-token ∷ ‵ (Whole κ d) ∷ []) ∵ move ! (1 ∷ []) $ fsplit ! $
+    pub asked_whole : (d : Reader)
+        → Gives (the_token ⊛ ‵ (Whole κ d)) (raw (Asks 𝓛 κ q (Apart κ (fields d))) ⊛ ‵ (Whole κ d))
+    asked_whole d =
+        qed 𝓛 (the_token ∷ ‵ (Whole κ d) ∷ []) ∵ move ! (1 ∷ []) $ fsplit ! $
         use1 𝓛 (‵ (Own κ d) ⊛ ‵ (Own κ d)) (copied d) $ split ! $ use1 𝓛 (‵ (Apart κ (fields d))) (opened d) $
         nothing ! $ move ! (4 ∷ 1 ∷ 0 ∷ []) $ join ! $ join ! $ done !
 
-    pub asked-reader : (d : Reader) (v : Val)
-        → Gives (‵ ((the-reader (κ, tt)).own d (v ∷ [])) ⊛ the-token)
-        (raw (Asks 𝓛 κ q (owns (the-reader (κ, tt) ∷ []) (d, tt) (v ∷ [], tt))))
-    asked-reader d v =
-        qed 𝓛 (‵ ((the-reader (κ, tt)).own d (v ∷ [])) ∷ the-token ∷ []) ∵ nothing ! $ move ! (1 ∷ 0 ∷ []) $ fjoin ! $
+    pub asked_reader : (d : Reader) (v : Val)
+        → Gives (‵ ((the_reader (κ, tt)).own d (v ∷ [])) ⊛ the_token)
+        (raw (Asks 𝓛 κ q (owns (the_reader (κ, tt) ∷ []) (d, tt) (v ∷ [], tt))))
+    asked_reader d v =
+        qed 𝓛 (‵ ((the_reader (κ, tt)).own d (v ∷ [])) ∷ the_token ∷ []) ∵ nothing ! $ move ! (1 ∷ 0 ∷ []) $ fjoin ! $
         nothing ! $ move ! (2 ∷ 1 ∷ 0 ∷ []) $ join ! $ done !
 
   -- ---- what can be stored in a local of its type: a reader also where that type has no lifetime
-  pub apart-typed : (x : Fields)
+  pub apart_typed : (x : Fields)
       → Lie κ x
-      → Typed (ShrSlice (named 0) κ u8).mir (apart-vals x).0 × Typed usize.mir (apart-vals x).1.0
-  apart-typed x are = (
-    (shr_slice_Lawful 𝓛 (named 0) κ u8).typed x.0 (apart-vals x).0 are.0,
-    (uint_Lawful 𝓛 w64).typed x.1.0 (apart-vals x).1.0 are.1.0,
+      → Typed (ShrSlice (named 0) κ u8).mir (apart_vals x).0 × Typed usize.mir (apart_vals x).1.0
+  apart_typed x are = (
+    (shr_slice_Lawful 𝓛 (named 0) κ u8).typed x.0 (apart_vals x).0 are.0,
+    (uint_Lawful 𝓛 w64).typed x.1.0 (apart_vals x).1.0 are.1.0,
   )
 
-  pub reader-typed : (d : Reader) (v : Val)
-      → Is (the-reader (κ, tt)) d (v ∷ [])
+  pub reader_typed : (d : Reader) (v : Val)
+      → Is (the_reader (κ, tt)) d (v ∷ [])
       → (ℓ : Lifetime)
       → Holds (has_ty (reader'.mir ℓ) v) × WT v
-  reader-typed d v is ℓ =
+  reader_typed d v is ℓ =
       let α : NamedLft = record { mir = ℓ; lft = κ } in
       ((LL.lawful (reader.the_type α) (reader'.the_laws α) 𝓛).typed d (v ∷ []) is).0
 
-  pub item-typed : (r : Found) (v : Val) → Is item.the_row r (v ∷ []) → Holds (has_ty item'.mir v) × WT v
-  item-typed r v is = ((EL.lawful item.the_type item'.the_laws 𝓛 tt).typed r (v ∷ []) is).0
+  pub item_typed : (r : Found) (v : Val) → Is item.the_row r (v ∷ []) → Holds (has_ty item'.mir v) × WT v
+  item_typed r v is = ((EL.lawful item.the_type item'.the_laws 𝓛 tt).typed r (v ∷ []) is).0
 
 -- ---- steps of a walk
 -- a local is freed: it is the first of the list, with what frees it behind it
@@ -247,7 +247,7 @@ module _ {M : Type 1} {𝓤 : Ura M} (𝓛 : Logic 𝓤) (T : Ended) (c : Clause
     abbrev tokens : SProp 𝓤
     tokens = alive 𝓛 T.signature y.0.0 y.0.1
 
-    pub calls-for : {K : Type 0} {Γ : List (Item 𝓤)}
+    pub calls_for : {K : Type 0} {Γ : List (Item 𝓤)}
         → K
         → {E : Wp.Env 𝓤 H} {C : Calls 𝓤 H} {Λ : Loops 𝓤 H} {q : Post 𝓤 H}
         → {f : Name} {xs : List Operand} {d : Place} {rest : Body}
@@ -261,7 +261,7 @@ module _ {M : Type 1} {𝓤 : Ura M} (𝓛 : Logic 𝓤) (T : Ended) (c : Clause
         → Is R r (v ∷ [])
         → Seq K 𝓛 (‵ (R.own r (v ∷ [])) ∷ raw tokens ∷ Γ) (lands C Λ E d v rest q))
         → Seq K 𝓛 (raw (Met.pre y) ∷ Γ) (runs C Λ E (seq (call f xs d) rest) q)
-    calls-for t fm met φ clause os k = calls_at t fm Met met y os (λ v.
+    calls_for t fm met φ clause os k = calls_at t fm Met met y os (λ v.
         use1 𝓛 (later (some (λ (r : R.Denot).
         (raw tokens ⊛ ‵ (R.own r (v ∷ []))) ⊛ raw (ensured 𝓛 T c y.0.0 y.0.3 y.1 r)))) (id⊢ 𝓤 _) $
         await t tt $ pick t (λ r. split t $ move t (1 ∷ []) $
@@ -296,7 +296,7 @@ module _ {M : Type 1} {𝓤 : Ura M} (𝓛 : Logic 𝓤) (𝓜 : Model 𝓤 𝓛
     (T : Ended) (ps : Parameters T.signature.params T.kept) (c : Clauses 𝓤 T) where
   open 𝓛 use {H}
 
-  pub walk-enters : (name : Name) (function : Fn)
+  pub walk_enters : (name : Name) (function : Fn)
       → Closed 𝓤 H (tables 𝓤 H 𝓜 𝓡 γ).C (tables 𝓤 H 𝓜 𝓡 γ).Λ name function
       → (FmC 𝓤 H 𝓛.laws (tables 𝓤 H 𝓜 𝓡 γ).C
       → (κs : Lfts T.signature.lifetimes) (qs : Shares T.signature.lifetimes)
@@ -305,7 +305,7 @@ module _ {M : Type 1} {𝓤 : Ura M} (𝓛 : Logic 𝓤) (𝓜 : Model 𝓤 𝓛
       → Run 𝓛 T ps c function (tables 𝓤 H 𝓜 𝓡 γ).C (tables 𝓤 H 𝓜 𝓡 γ).Λ κs qs bounds a g)
       → Triple 𝓤 ((tables 𝓤 H 𝓜 𝓡 γ).C name) (Met 𝓛 T c)
   unfolding tables_of
-  walk-enters name function closed walk =
+  walk_enters name function closed walk =
       let 𝓣 = tables_of 𝓤 H 𝓜 (tables 𝓤 H 𝓜 𝓡 γ) in
       let run = WpFn 𝓤 H 𝓣.C 𝓣.Λ function in
       entered 𝓤 H (Met 𝓛 T c) 𝓣.C 𝓣.Λ name function closed

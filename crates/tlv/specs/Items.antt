@@ -13,8 +13,8 @@ use Rattle.tlv.specs.declared.Item.{Item}
 use Rattle.tlv.specs.declared.Item.TheVariants.{End, Refused, Entry}
 
 -- the most bytes of sub-TLVs that an entry may have
-abbrev pub mostSubTlvs : ℕ
-mostSubTlvs = 244
+abbrev pub most_sub_tlvs : ℕ
+most_sub_tlvs = 244
 
 -- an identity as one number: that in its seven bytes, high byte first
 abbrev pub seven : (l : List ℕ) (p : ℕ) → ℕ
@@ -28,13 +28,13 @@ seven l p =
     + get_or l (p + 6) 0
 
 -- how many bytes of sub-TLVs the entry at place p has
-abbrev pub subTlvs : (l : List ℕ) (p : ℕ) → ℕ
-subTlvs l p = get_or l (p + 10) 0
+abbrev pub sub_tlvs : (l : List ℕ) (p : ℕ) → ℕ
+sub_tlvs l p = get_or l (p + 10) 0
 
 -- where the entry at place p ends. A byte that is not there counts as 0, so an entry whose first eleven bytes are not
 -- all there ends past its list too.
 abbrev pub end_of : (l : List ℕ) (p : ℕ) → ℕ
-end_of l p = p + 11 + subTlvs l p
+end_of l p = p + 11 + sub_tlvs l p
 
 -- What stands at place p: the end of the list; a fault, where the entry runs past its list, and then where its sub-TLVs
 -- are too long; or an entry.
@@ -42,7 +42,7 @@ unfoldable pub item_at : (l : List ℕ) (p : ℕ) → Item
 item_at l p =
     pick (leb (length l) p) End
     (pick (ltb (length l) (end_of l p)) (Refused PastList)
-    (pick (ltb mostSubTlvs (subTlvs l p)) (Refused LongSubTlvs)
+    (pick (ltb most_sub_tlvs (sub_tlvs l p)) (Refused LongSubTlvs)
     (Entry (record { identity = seven l p; metric = three l (p + 7); next = end_of l p }))))
 
 -- the place behind an item at place p; p itself where that is no entry
@@ -51,8 +51,8 @@ behind p End = p
 behind p (Refused k) = p
 behind p (Entry x) = x.next
 
-unfoldable pub placeAfter : (l : List ℕ) (p : ℕ) → ℕ
-placeAfter l p = behind p (item_at l p)
+unfoldable pub place_after : (l : List ℕ) (p : ℕ) → ℕ
+place_after l p = behind p (item_at l p)
 
 -- ---- one after another
 -- an item, and what follows it by the place behind it: nothing after the end of the list or a fault
@@ -62,15 +62,15 @@ followed (Refused k) rest = Refused k ∷ []
 followed (Entry x) rest = Entry x ∷ rest x.next
 
 -- at most h items from place p on
-unfoldable pub itemsFrom : (l : List ℕ) (h p : ℕ) → List Item
-itemsFrom l zero p = []
-itemsFrom l (suc h) p = followed (item_at l p) (itemsFrom l h)
+unfoldable pub items_from : (l : List ℕ) (h p : ℕ) → List Item
+items_from l zero p = []
+items_from l (suc h) p = followed (item_at l p) (items_from l h)
 
 -- The items from place p on: the entries in their order up to the end of the list, or up to the first fault, which
 -- stands last. There are not more of them than bytes.
-unfoldable pub itemsAt : (l : List ℕ) (p : ℕ) → List Item
-itemsAt l p = itemsFrom l (length l) p
+unfoldable pub items_at : (l : List ℕ) (p : ℕ) → List Item
+items_at l p = items_from l (length l) p
 
 -- those of the whole list
 abbrev pub items : (l : List ℕ) → List Item
-items l = itemsAt l 0
+items l = items_at l 0

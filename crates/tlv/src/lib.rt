@@ -7,7 +7,7 @@
 // a loop over the items of a list needs, is specs/ItemLaws.antt. Functions over a `Reader` are proved by hand.
 ghost use Rattle.std.specs.Prelude.{◌≡◌, ◌<◌, ◌≤◌, ◌+◌, length};
 ghost use Rattle.area.specs.Bytes.{three};
-ghost use Rattle.tlv.specs.Items.{seven, item_at, placeAfter};
+ghost use Rattle.tlv.specs.Items.{seven, item_at, place_after};
 
 use area::refusal::Refusal;
 
@@ -60,7 +60,7 @@ impl<'a> Reader<'a> {
     // The reader behind the entry at its place; as it is where there is no entry.
     pub fn after(self) -> Reader<'a>
         ensures reader { (result.bytes ≡ self.entry.bytes)
-            × (result.at ≡ placeAfter self.entry.bytes.now self.entry.at) }
+            × (result.at ≡ place_after self.entry.bytes.now self.entry.at) }
     {
         let next = place_after(self.bytes, self.at);
         Reader {
@@ -103,7 +103,7 @@ fn decode(bytes: &[u8], at: usize) -> Item
 
 // Where the entry at a place ends; the place itself where there is no entry.
 fn place_after(bytes: &[u8], at: usize) -> usize
-    ensures { result ≡ placeAfter bytes.now at }
+    ensures { result ≡ place_after bytes.now at }
 {
     match decode(bytes, at) {
         Item::Entry(x) => x.next,

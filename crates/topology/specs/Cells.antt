@@ -5,16 +5,16 @@ use Rattle.area.specs.Tests.{pick}
 use Rattle.sets.specs.Four.{four}
 use Rattle.topology.specs.Topology.{topology}
 use Rattle.topology.specs.Distance.{distance}
-use Rattle.topology.specs.NextHops.{nextHops}
+use Rattle.topology.specs.NextHops.{next_hops}
 
 -- The cell (i, j) of each, for n routers with the metric table m: of two routers their distance and their next-hop set;
 -- with a row or a column from n on, no walk and no next hop.
-unfoldable pub distanceCell : (n : ℕ) (m : List ℕ) (i j : ℕ) → ℕ
-distanceCell n m i j = pick (ltb i n && ltb j n) (distance n (topology n m) i j) unreached
+unfoldable pub distance_cell : (n : ℕ) (m : List ℕ) (i j : ℕ) → ℕ
+distance_cell n m i j = pick (ltb i n && ltb j n) (distance n (topology n m) i j) unreached
 
-unfoldable pub hopCell : (n : ℕ) (m : List ℕ) (i j : ℕ) → ℕ
-hopCell n m i j = pick (ltb i n && ltb j n) (nextHops width n (topology n m) i j) 0
+unfoldable pub hop_cell : (n : ℕ) (m : List ℕ) (i j : ℕ) → ℕ
+hop_cell n m i j = pick (ltb i n && ltb j n) (next_hops width n (topology n m) i j) 0
 
 -- the set of four beside the full set: its four lowest numbers, which a line card holds
-unfoldable pub fourCell : (n : ℕ) (m : List ℕ) (i j : ℕ) → ℕ
-fourCell n m i j = four width (hopCell n m i j)
+unfoldable pub four_cell : (n : ℕ) (m : List ℕ) (i j : ℕ) → ℕ
+four_cell n m i j = four width (hop_cell n m i j)

@@ -1,7 +1,7 @@
 -- Distances (01, "The area and its paths"): the least sum of metrics over all walks.
 --     IsDistance       what the paper means
 --     distance         what computes it
--- DistanceLaws.antt: `distance` is the distance (`distance_is`), and nothing else is (`same-distance`).
+-- DistanceLaws.antt: `distance` is the distance (`distance_is`), and nothing else is (`same_distance`).
 use Rattle.std.specs.Prelude.{ℕ, zero, suc, ◌+◌, ◌-◌, ◌≤◌, ◌<◌, min, ◌≡◌, Bool, List, [], ◌∷◌, ◌++◌, map, ltb, eqb}
 use Rattle.area.specs.Limits.{unused, unreached}
 use Rattle.area.specs.Tests.{pick}
@@ -26,14 +26,14 @@ abbrev pub only : (b : Bool) (l : List ℕ) → List ℕ
 only b l = pick b l []
 
 -- The sums of the walks from i that take the link to k first, where `on k` are the sums of the walks on from k.
-abbrev pub sumsVia : (g : Topology) (i : ℕ) (on : ℕ → List ℕ) (k : ℕ) → List ℕ
-sumsVia g i on k = only (ltb (g i k) unused) (map (λ s. g i k + s) (on k))
+abbrev pub sums_via : (g : Topology) (i : ℕ) (on : ℕ → List ℕ) (k : ℕ) → List ℕ
+sums_via g i on k = only (ltb (g i k) unused) (map (λ s. g i k + s) (on k))
 
 -- The sums of all walks from i to j of at most `most` links: of the walk that stays, and of those that take a link
 -- to one of the n routers first.
 unfoldable pub sums : (n : ℕ) (g : Topology) (most : ℕ) (i j : ℕ) → List ℕ
 sums n g zero i j = only (eqb i j) (0 ∷ [])
-sums n g (suc most) i j = only (eqb i j) (0 ∷ []) ++ collect n (sumsVia g i (λ k. sums n g most k j))
+sums n g (suc most) i j = only (eqb i j) (0 ∷ []) ++ collect n (sums_via g i (λ k. sums n g most k j))
 
 -- the least number of a list, and `unreached` where it is empty
 unfoldable pub least : (l : List ℕ) → ℕ

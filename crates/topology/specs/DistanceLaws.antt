@@ -1,18 +1,18 @@
 -- Laws of distances. A proof about distances cites these and does not open `distance`.
 -- The least of the sums that are listed is that of a walk. No walk has less: it can be made to take at most n - 1 links
 -- at no larger sum, and then its sum is listed. And n - 1 metrics do not come to `unreached`.
---     distance-walk        a distance that is reached is the sum of a walk
---     distance-le          no walk has less
---     walk-near            where there is a walk, the distance is below `unreached`
+--     distance_walk        a distance that is reached is the sum of a walk
+--     distance_le          no walk has less
+--     walk_near            where there is a walk, the distance is below `unreached`
 --     distance_is          so `distance` is what 01 means
---     same-distance        and nothing else is
---     distance-top         it is at most `unreached`
---     distance-bound       below that, it is at most (n - 1) * 16777214
+--     same_distance        and nothing else is
+--     distance_top         it is at most `unreached`
+--     distance_bound       below that, it is at most (n - 1) * 16777214
 --     distance_self        the distance to oneself is 0
---     distance-link        over a first link
+--     distance_link        over a first link
 --     distance_back        over a last link
---     distance-through     through a third router
---     some-last            a distance that is reached ends with a link
+--     distance_through     through a third router
+--     some_last            a distance that is reached ends with a link
 use Rattle.std.specs.Prelude.{ℕ, ◌+◌, ◌-◌, ◌*◌, ◌≤◌, ◌<◌, ◌≡◌, ◌≢◌, List, [], ◌∷◌}
 use Rattle.std.proofs.Common.{inl, inr, arith}
 use Rattle.std.proofs.Math.Nat.{min-eq_left, min-eq_right}
@@ -23,26 +23,26 @@ use Rattle.topology.specs.Topology.{Topology}
 use Rattle.topology.specs.Walk.{Walk, stay, link, sum, links}
 use Rattle.topology.specs.Distance.{IsDistance, reached, apart, sums, least, distance}
 use Rattle.topology.specs.WalkLaws.{Graph, then, sum_then, Last, here, last, by_last, shorten}
-use Rattle.topology.specs.SumLaws.{sums-sound, sums-complete}
+use Rattle.topology.specs.SumLaws.{sums_sound, sums_complete}
 
 -- ---- the least of a list
-least-le : (x : ℕ) (l : List ℕ) → x ∈ l → least l ≤ x
+least_le : (x : ℕ) (l : List ℕ) → x ∈ l → least l ≤ x
 unfolding least
-least-le x [] m = absurd m
-least-le x (y ∷ l) (inl e) = omega arith
-least-le x (y ∷ l) (inr m) = omega (arith, least-le x l m)
+least_le x [] m = absurd m
+least_le x (y ∷ l) (inl e) = omega arith
+least_le x (y ∷ l) (inr m) = omega (arith, least_le x l m)
 
-pub least-top : (l : List ℕ) → least l ≤ unreached
+pub least_top : (l : List ℕ) → least l ≤ unreached
 unfolding least
-least-top [] = omega arith
-least-top (x ∷ l) = omega (arith, least-top l)
+least_top [] = omega arith
+least_top (x ∷ l) = omega (arith, least_top l)
 
-least-in : (l : List ℕ) → least l < unreached → least l ∈ l
+least_in : (l : List ℕ) → least l < unreached → least l ∈ l
 unfolding least
-least-in [] h = absurd (omega arith)
-least-in (x ∷ l) h = elim (dec_le x (least l)) [
+least_in [] h = absurd (omega arith)
+least_in (x ∷ l) h = elim (dec_le x (least l)) [
   | yes p ↦ inl (min-eq_left p)
-  | no q ↦ inr (rw (min-eq_right {n = least l} {m = x} (omega arith)) (least-in l (omega arith)))
+  | no q ↦ inr (rw (min-eq_right {n = least l} {m = x} (omega arith)) (least_in l (omega arith)))
 ]
 
 -- ---- `distance` is the distance
@@ -50,51 +50,51 @@ pub sum_bound : {g : Topology} {i j : ℕ} (w : Walk g i j) → sum w ≤ links 
 sum_bound stay = omega arith
 sum_bound (link u w) = omega (arith, sum_bound w)
 
-pub distance-top : (n : ℕ) (g : Topology) (i j : ℕ) → distance n g i j ≤ unreached
+pub distance_top : (n : ℕ) (g : Topology) (i j : ℕ) → distance n g i j ≤ unreached
 unfolding distance
-distance-top n g i j = least-top (sums n g (n - 1) i j)
+distance_top n g i j = least_top (sums n g (n - 1) i j)
 
 -- a distance that is not `unreached` is the sum of a walk
-pub distance-walk :
+pub distance_walk :
     (n : ℕ) (g : Topology) (i j : ℕ)
     → distance n g i j < unreached
     → (w : Walk g i j) × (links w ≤ n - 1) × (sum w ≡ distance n g i j)
 unfolding distance
-distance-walk n g i j h =
+distance_walk n g i j h =
     let listed = sums n g (n - 1) i j in
-    sums-sound n g (n - 1) i j (least listed) (least-in listed h)
+    sums_sound n g (n - 1) i j (least listed) (least_in listed h)
 
-pub distance-bound :
+pub distance_bound :
     (n : ℕ) (g : Topology) (i j : ℕ)
     → distance n g i j < unreached
     → distance n g i j ≤ (n - 1) * 16777214
-distance-bound n g i j h = let w = distance-walk n g i j h in omega (arith, w.1, w.2, sum_bound w.0)
+distance_bound n g i j h = let w = distance_walk n g i j h in omega (arith, w.1, w.2, sum_bound w.0)
 
 module _ {n : ℕ} {g : Topology} (G : Graph n g) where
   -- no walk's sum is less
-  pub distance-le : {i j : ℕ} (w : Walk g i j) → distance n g i j ≤ sum w
+  pub distance_le : {i j : ℕ} (w : Walk g i j) → distance n g i j ≤ sum w
   unfolding distance
-  distance-le {i} {j} w =
+  distance_le {i} {j} w =
       let v = shorten G w in
-      let listed = sums-complete G v.0 (n - 1) v.1 in
-      omega (arith, v.2, least-le (sum v.0) (sums n g (n - 1) i j) listed)
+      let listed = sums_complete G v.0 (n - 1) v.1 in
+      omega (arith, v.2, least_le (sum v.0) (sums n g (n - 1) i j) listed)
 
   -- where there is a walk, the distance is not `unreached`
-  pub walk-near : {i j : ℕ} → Walk g i j → distance n g i j < unreached
-  walk-near w = let v = shorten G w in omega (arith, G.few, distance-le v.0, v.1, sum_bound v.0)
+  pub walk_near : {i j : ℕ} → Walk g i j → distance n g i j < unreached
+  walk_near w = let v = shorten G w in omega (arith, G.few, distance_le v.0, v.1, sum_bound v.0)
 
   pub distance_is : (i j : ℕ) → IsDistance g i j (distance n g i j)
   distance_is i j = elim (dec_lt (distance n g i j) unreached) [
-    | yes h ↦ let w = distance-walk n g i j h in reached w.0 w.2 distance-le h
-    | no f ↦ apart (λ w. f (walk-near w)) (omega (arith, distance-top n g i j))
+    | yes h ↦ let w = distance_walk n g i j h in reached w.0 w.2 distance_le h
+    | no f ↦ apart (λ w. f (walk_near w)) (omega (arith, distance_top n g i j))
   ]
 
 -- nothing else is the distance
-pub same-distance : {g : Topology} {i j δ ε : ℕ} → IsDistance g i j δ → IsDistance g i j ε → δ ≡ ε
-same-distance (reached w e f l) (reached w' e' f' l') = omega (arith, f w', f' w)
-same-distance (reached w e f l) (apart z e') = absurd (z w)
-same-distance (apart z e) (reached w' e' f' l') = absurd (z w')
-same-distance (apart z e) (apart z' e') = omega arith
+pub same_distance : {g : Topology} {i j δ ε : ℕ} → IsDistance g i j δ → IsDistance g i j ε → δ ≡ ε
+same_distance (reached w e f l) (reached w' e' f' l') = omega (arith, f w', f' w)
+same_distance (reached w e f l) (apart z e') = absurd (z w)
+same_distance (apart z e) (reached w' e' f' l') = absurd (z w')
+same_distance (apart z e) (apart z' e') = omega arith
 
 -- ---- over links, and through other routers
 -- the last link of a least walk from i to j is one from some router p
@@ -103,37 +103,37 @@ EndsWithLink n g i j = (p : ℕ) × (g p j < unused) × (distance n g i p + g p 
 
 module _ {n : ℕ} {g : Topology} (G : Graph n g) where
   pub distance_self : (i : ℕ) → distance n g i i ≡ 0
-  distance_self i = omega (arith, distance-le G (stay {i = i}))
+  distance_self i = omega (arith, distance_le G (stay {i = i}))
 
-  pub distance-link : (i k j : ℕ) → g i k < unused → distance n g i j ≤ g i k + distance n g k j
-  distance-link i k j u = elim (dec_lt (distance n g k j) unreached) [
-    | yes h ↦ let w = distance-walk n g k j h in omega (arith, w.2, distance-le G (link u w.0))
-    | no f ↦ omega (arith, distance-top n g i j)
+  pub distance_link : (i k j : ℕ) → g i k < unused → distance n g i j ≤ g i k + distance n g k j
+  distance_link i k j u = elim (dec_lt (distance n g k j) unreached) [
+    | yes h ↦ let w = distance_walk n g k j h in omega (arith, w.2, distance_le G (link u w.0))
+    | no f ↦ omega (arith, distance_top n g i j)
   ]
 
-  pub distance-through : (i k j : ℕ) → distance n g i j ≤ distance n g i k + distance n g k j
-  distance-through i k j = elim (dec_lt (distance n g i k + distance n g k j) unreached) [
+  pub distance_through : (i k j : ℕ) → distance n g i j ≤ distance n g i k + distance n g k j
+  distance_through i k j = elim (dec_lt (distance n g i k + distance n g k j) unreached) [
     | yes h ↦
-        let w = distance-walk n g i k (omega arith) in
-        let v = distance-walk n g k j (omega arith) in
-        omega (arith, w.2, v.2, sum_then w.0 v.0, distance-le G (then w.0 v.0))
-    | no f ↦ omega (arith, distance-top n g i j)
+        let w = distance_walk n g i k (omega arith) in
+        let v = distance_walk n g k j (omega arith) in
+        omega (arith, w.2, v.2, sum_then w.0 v.0, distance_le G (then w.0 v.0))
+    | no f ↦ omega (arith, distance_top n g i j)
   ]
 
   pub distance_back : (i k j : ℕ) → g k j < unused → distance n g i j ≤ distance n g i k + g k j
-  distance_back i k j u = omega (arith, distance-through i k j, distance-link k j j u, distance_self j)
+  distance_back i k j u = omega (arith, distance_through i k j, distance_link k j j u, distance_self j)
 
   -- A distance that is not `unreached`, nor that from a router to itself, ends with a link. It starts with one too:
   -- `some_next` of NextHopLaws.antt.
-  last-hop :
+  last_hop :
       {i j : ℕ}
       → i ≢ j
       → (w : Walk g i j)
       → sum w ≡ distance n g i j
       → Last w
       → EndsWithLink n g i j
-  last-hop f w e (here q z) = absurd (f q)
-  last-hop {i} {j} f w e (last p v u q) = (p, u, omega (arith, distance-le G v, distance_back i p j u))
+  last_hop f w e (here q z) = absurd (f q)
+  last_hop {i} {j} f w e (last p v u q) = (p, u, omega (arith, distance_le G v, distance_back i p j u))
 
-  pub some-last : (i j : ℕ) → i ≢ j → distance n g i j < unreached → EndsWithLink n g i j
-  some-last i j f h = let w = distance-walk n g i j h in last-hop f w.0 w.2 (by_last w.0)
+  pub some_last : (i j : ℕ) → i ≢ j → distance n g i j < unreached → EndsWithLink n g i j
+  some_last i j f h = let w = distance_walk n g i j h in last_hop f w.0 w.2 (by_last w.0)

@@ -1,10 +1,10 @@
 -- Next hops (01, "The area and its paths").
 --     Next         what the paper means
---     isNext       the test of it: `next-true`, `true-next` of NextHopLaws.antt
---     nextHops     the set
+--     is_next       the test of it: `next_true`, `true_next` of NextHopLaws.antt
+--     next_hops     the set
 use Rattle.std.specs.Prelude.{ℕ, ◌+◌, ◌<◌, ◌≡◌, Bool, ◌&&◌, ltb, eqb}
 use Rattle.area.specs.Limits.{unused}
-use Rattle.sets.specs.Sets.{setOf}
+use Rattle.sets.specs.Sets.{set_of}
 use Rattle.topology.specs.Topology.{Topology}
 use Rattle.topology.specs.Distance.{distance}
 
@@ -14,10 +14,10 @@ pub record Next (n : ℕ) (g : Topology) (i j k : ℕ) : Type 0 where
   pub uses : g i k < unused
   pub exact : g i k + distance n g k j ≡ distance n g i j
 
-unfoldable pub isNext : (n : ℕ) (g : Topology) (i j k : ℕ) → Bool
-isNext n g i j k = ltb (g i k) unused && eqb (g i k + distance n g k j) (distance n g i j)
+unfoldable pub is_next : (n : ℕ) (g : Topology) (i j k : ℕ) → Bool
+is_next n g i j k = ltb (g i k) unused && eqb (g i k + distance n g k j) (distance n g i j)
 
 -- The next-hop set of (i, j), of routers below w. That it is empty for i = j and where j is not reached follows:
--- `no-next-self`, `no-next-unreached` of NextHopLaws.antt.
-unfoldable pub nextHops : (w n : ℕ) (g : Topology) (i j : ℕ) → ℕ
-nextHops w n g i j = setOf w (isNext n g i j)
+-- `no_next_self`, `no_next_unreached` of NextHopLaws.antt.
+unfoldable pub next_hops : (w n : ℕ) (g : Topology) (i j : ℕ) → ℕ
+next_hops w n g i j = set_of w (is_next n g i j)

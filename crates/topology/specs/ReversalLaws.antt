@@ -3,8 +3,8 @@
 -- same too: whether a search adds metrics from the source or from the destination makes no difference.
 --     turned                   a topology with every link turned round
 --     back                     a walk read from its far end
---     sum_back, links-back     it has the same sum, and as many links
---     distance-turned          the distance from either end
+--     sum_back, links_back     it has the same sum, and as many links
+--     distance_turned          the distance from either end
 use Rattle.std.specs.Prelude.{ℕ, ◌≤◌, ◌≡◌, refl}
 use Rattle.std.proofs.Math.Decide.{dec_lt}
 use Rattle.std.proofs.Common.{arith}
@@ -12,8 +12,8 @@ use Rattle.area.specs.Limits.{unreached}
 use Rattle.topology.specs.Topology.{Topology}
 use Rattle.topology.specs.Walk.{Walk, stay, link, sum, links}
 use Rattle.topology.specs.Distance.{distance}
-use Rattle.topology.specs.WalkLaws.{Graph, then, sum_then, links-then}
-use Rattle.topology.specs.DistanceLaws.{distance-walk, distance-le, distance-top}
+use Rattle.topology.specs.WalkLaws.{Graph, then, sum_then, links_then}
+use Rattle.topology.specs.DistanceLaws.{distance_walk, distance_le, distance_top}
 
 abbrev pub turned : (g : Topology) → Topology
 turned g i j = g j i
@@ -27,28 +27,28 @@ module _ {g : Topology} where
   sum_back stay = refl
   sum_back (link u w) = omega (arith, sum_then (back w) (link u stay), sum_back w)
 
-  pub links-back : {i j : ℕ} (w : Walk g i j) → links (back w) ≡ links w
-  links-back stay = refl
-  links-back (link u w) = omega (arith, links-then (back w) (link u stay), links-back w)
+  pub links_back : {i j : ℕ} (w : Walk g i j) → links (back w) ≡ links w
+  links_back stay = refl
+  links_back (link u w) = omega (arith, links_then (back w) (link u stay), links_back w)
 
-turned-graph : {n : ℕ} {g : Topology} → Graph n g → Graph n (turned g)
-turned-graph G = record {
+turned_graph : {n : ℕ} {g : Topology} → Graph n g → Graph n (turned g)
+turned_graph G = record {
   few = G.few;
   inside = λ i k u. let l = G.inside k i u in (l.1, l.0);
   positive = λ i k. G.positive k i;
 }
 
-no-farther : {n : ℕ} {g : Topology} → Graph n g → (i j : ℕ) → distance n (turned g) j i ≤ distance n g i j
-no-farther {n} {g} G i j = elim (dec_lt (distance n g i j) unreached) [
+no_farther : {n : ℕ} {g : Topology} → Graph n g → (i j : ℕ) → distance n (turned g) j i ≤ distance n g i j
+no_farther {n} {g} G i j = elim (dec_lt (distance n g i j) unreached) [
   | yes h ↦
-      let w = distance-walk n g i j h in
-      omega (arith, w.2, sum_back w.0, distance-le (turned-graph G) (back w.0))
-  | no f ↦ omega (arith, distance-top n (turned g) j i)
+      let w = distance_walk n g i j h in
+      omega (arith, w.2, sum_back w.0, distance_le (turned_graph G) (back w.0))
+  | no f ↦ omega (arith, distance_top n (turned g) j i)
 ]
 
-pub distance-turned :
+pub distance_turned :
     {n : ℕ} {g : Topology}
     → Graph n g
     → (i j : ℕ)
     → distance n (turned g) j i ≡ distance n g i j
-distance-turned G i j = omega (arith, no-farther G i j, no-farther (turned-graph G) j i)
+distance_turned G i j = omega (arith, no_farther G i j, no_farther (turned_graph G) j i)

@@ -2,7 +2,7 @@
 // the usable metric of a pair of routers. A link is used only if both directions have a metric (02, No. 4).
 ghost use Rattle.std.specs.Prelude.{◌≡◌, ◌*◌, ◌≤◌, length};
 ghost use Rattle.area.specs.Limits.{width};
-ghost use Rattle.topology.specs.Topology.{isUsed, topology};
+ghost use Rattle.topology.specs.Topology.{is_used, topology};
 ghost use Rattle.topology.specs.Usable.{usable};
 
 use area::limits::{CELLS, UNUSED, WIDTH};
@@ -46,7 +46,7 @@ fn link(n: usize, metric: &[u32], i: usize, j: usize) -> u32
 
 // Can a link be used at this metric?
 fn is_used(metric: u32) -> bool
-    ensures { result ≡ isUsed metric }
+    ensures { result ≡ is_used metric }
 {
     if metric < 1 { false } else { metric < UNUSED }
 }

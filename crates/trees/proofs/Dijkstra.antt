@@ -23,18 +23,18 @@ use mathlib.Core.Logic.{◌≢◌, ◌↔◌, ◌⊎◌, inl, inr, ⊎_elim}
 use native.Mathlib.Decide.{dec_lt, ℕ_discrete}
 use native.Mathlib.Omega.{arith}
 use Rattle.area.specs.Limits.{width, unused, unreached}
-use Rattle.area.specs.TestLaws.{look, or_cases, or_left, or_right, or-false, same_test}
+use Rattle.area.specs.TestLaws.{look, or_cases, or_left, or_right, or_false, same_test}
 use Rattle.sets.specs.Sets.{bit, added, union}
-use Rattle.sets.specs.SetLaws.{bit-zero, bit-union, added-cases}
+use Rattle.sets.specs.SetLaws.{bit_zero, bit_union, added_cases}
 use Rattle.sets.specs.Counts.{size}
-use Rattle.sets.specs.CountLaws.{size-added, size-le, size-most}
+use Rattle.sets.specs.CountLaws.{size_added, size_le, size_most}
 use Rattle.topology.specs.Walk.{Walk, stay, link, sum}
 use Rattle.topology.specs.Distance.{distance}
-use Rattle.topology.specs.NextHops.{isNext, nextHops, Next}
+use Rattle.topology.specs.NextHops.{is_next, next_hops, Next}
 use Rattle.topology.specs.SumLaws.{Within}
 use Rattle.topology.specs.WalkLaws.{Graph}
-use Rattle.topology.specs.DistanceLaws.{sum_bound, distance-le, distance-walk, distance-top}
-use Rattle.topology.specs.NextHopLaws.{next-true, true-next, same-next-hops, next-nearer}
+use Rattle.topology.specs.DistanceLaws.{sum_bound, distance_le, distance_walk, distance_top}
+use Rattle.topology.specs.NextHopLaws.{next_true, true_next, same_next_hops, next_nearer}
 use Rattle.trees.specs.Turns.{Best}
 
 -- ---- the invariant
@@ -54,7 +54,7 @@ pub record Front (n : ℕ) (g : ℕ → ℕ → ℕ) (d : ℕ) (D H : ℕ → �
   pub rest : (i : ℕ) → n ≤ i → i < width → D i ≡ unreached
 
 never : {A : Type 0} (k : ℕ) → bit 0 k ≡ true → A
-never k e = absurd (false≢true (sym (bit-zero k) ∙ e))
+never k e = absurd (false≢true (sym (bit_zero k) ∙ e))
 
 module _ {n : ℕ} {g : ℕ → ℕ → ℕ} {d : ℕ} where
   pub begin :
@@ -86,7 +86,7 @@ module _ {n : ℕ} {g : ℕ → ℕ → ℕ} {d : ℕ} where
   pub bound : {D H : ℕ → ℕ} {σ : ℕ} → Front n g d D H σ → (j : ℕ) → j < n → D j < unreached → D j ≤ width * 16777214
   bound {D} {H} {σ} f j l r =
       let w = reached f j l r in
-      omega (arith, w.1, w.2, sum_bound w.0, size-most width σ)
+      omega (arith, w.1, w.2, sum_bound w.0, size_most width σ)
 
 -- q offers its way to i: it is settled in this turn, i has a link to it, and is not settled then
 abbrev pub Offering : (g : ℕ → ℕ → ℕ) (β σ' i q : ℕ) → Type 0
@@ -104,17 +104,17 @@ pub grows : (n : ℕ) (D : ℕ → ℕ) (σ β : ℕ) → n ≤ width → Next-t
     → suc (size width σ) ≤ size width (union width σ β)
 grows n D σ β most t q b =
     let l = t.within q b in
-    let one = size-added width σ q (omega arith) (t.fresh q b) in
-    let all = size-le width (added width σ q) (union width σ β) part in
+    let one = size_added width σ q (omega arith) (t.fresh q b) in
+    let all = size_le width (added width σ q) (union width σ β) part in
     omega (arith, one, all)
   where
     part : (k : ℕ) → k < width → bit (added width σ q) k ≡ true → bit (union width σ β) k ≡ true
     part k l e =
-        bit-union width σ β k l
+        bit_union width σ β k l
         ∙ ⊎_elim
         (λ s. or_left (bit σ k) (bit β k) s)
         (λ (s : k ≡ q). or_right (bit σ k) (bit β k) (ap (bit β) s ∙ b))
-        (added-cases width σ q k e)
+        (added_cases width σ q k e)
 
 module _
     {n : ℕ} {g : ℕ → ℕ → ℕ} (G : Graph n g) (most : n ≤ width) {d : ℕ} {D H : ℕ → ℕ} {σ : ℕ}
@@ -126,20 +126,20 @@ module _
 
   -- ---- who is settled
   was : (i : ℕ) → i < width → bit σ' i ≡ true → (bit σ i ≡ true) ⊎ (bit β i ≡ true)
-  was i l b = or_cases (bit σ i) (bit β i) (sym (bit-union width σ β i l) ∙ b)
+  was i l b = or_cases (bit σ i) (bit β i) (sym (bit_union width σ β i l) ∙ b)
 
-  was-not : (i : ℕ) → i < width → bit σ' i ≡ false → bit σ i ≡ false
-  was-not i l b = (or-false (bit σ i) (bit β i) (sym (bit-union width σ β i l) ∙ b)).0
+  was_not : (i : ℕ) → i < width → bit σ' i ≡ false → bit σ i ≡ false
+  was_not i l b = (or_false (bit σ i) (bit β i) (sym (bit_union width σ β i l) ∙ b)).0
 
   stays : (i : ℕ) → i < width → bit σ i ≡ true → bit σ' i ≡ true
-  stays i l b = bit-union width σ β i l ∙ or_left (bit σ i) (bit β i) b
+  stays i l b = bit_union width σ β i l ∙ or_left (bit σ i) (bit β i) b
 
   joins : (i : ℕ) → i < width → bit β i ≡ true → bit σ' i ≡ true
-  joins i l b = bit-union width σ β i l ∙ or_right (bit σ i) (bit β i) b
+  joins i l b = bit_union width σ β i l ∙ or_right (bit σ i) (bit β i) b
 
   -- a settled router is no farther than one that is settled in this turn
-  no-farther : (i q : ℕ) → i < n → bit σ' i ≡ true → bit β q ≡ true → D i ≤ D q
-  no-farther i q l b c =
+  no_farther : (i q : ℕ) → i < n → bit σ' i ≡ true → bit β q ≡ true → D i ≤ D q
+  no_farther i q l b c =
       ⊎_elim
       (λ s. f.order i q l (t.within q c) s (t.fresh q c))
       (λ s. t.near i q s (t.within q c) (t.fresh q c))
@@ -154,7 +154,7 @@ module _
   sound' i l = ⊎_elim same offered (turn i (omega arith)).came
     where
       more : size width σ ≤ size width σ'
-      more = size-le width σ σ' (λ k h b. stays k h b)
+      more = size_le width σ σ' (λ k h b. stays k h b)
 
       same : D' i ≡ D i → (D' i ≡ unreached) ⊎ Within g (size width σ') i d (D' i)
       same e =
@@ -177,15 +177,15 @@ module _
       let best = turn i (omega (arith, l.0)) in
       ⊎_elim
       (λ old. omega (arith, f.tight i k u old, best.low))
-      (λ new. by-settled (look (bit σ' i)) new)
+      (λ new. by_settled (look (bit σ' i)) new)
       (was k (omega (arith, l.1)) b)
     where
-      by-settled : (bit σ' i ≡ true) ⊎ (bit σ' i ≡ false) → bit β k ≡ true → D' i ≤ D' k + g i k
-      by-settled (inl s) new =
+      by_settled : (bit σ' i ≡ true) ⊎ (bit σ' i ≡ false) → bit β k ≡ true → D' i ≤ D' k + g i k
+      by_settled (inl s) new =
           let l = G.inside i k u in
           let same = kept k (omega (arith, l.1)) b in
-          omega (arith, no-farther i k l.0 s new, kept i (omega (arith, l.0)) s)
-      by-settled (inr s) new =
+          omega (arith, no_farther i k l.0 s new, kept i (omega (arith, l.0)) s)
+      by_settled (inr s) new =
           let l = G.inside i k u in
           let same = kept k (omega (arith, l.1)) b in
           omega (arith, (turn i (omega (arith, l.0))).met k (new, u, s))
@@ -193,13 +193,13 @@ module _
   order' : (i j : ℕ) → i < n → j < n → bit σ' i ≡ true → bit σ' j ≡ false → D' i ≤ D' j
   order' i j l h b u =
       let same = kept i (omega arith) b in
-      let free = was-not j (omega arith) u in
+      let free = was_not j (omega arith) u in
       ⊎_elim
       (λ e. ⊎_elim
       (λ old. omega (arith, f.order i j l h old free))
       (λ new. omega (arith, t.near i j new h free))
       (was i (omega arith) b))
-      (λ o. omega (arith, o.2, no-farther i o.0 l b o.1.0))
+      (λ o. omega (arith, o.2, no_farther i o.0 l b o.1.0))
       (turn j (omega arith)).came
 
   -- ---- next hops: those found before, and those of β
@@ -209,8 +209,8 @@ module _
       let b = stays k (omega arith) y.settled in
       record { settled = b; used = y.used; exact = omega (arith, y.exact, kept k (omega arith) b) }
 
-  by-new : (i k : ℕ) → Offering g β σ' i k → D' i ≡ D k + g i k → By g σ' D' i k
-  by-new i k o e =
+  by_new : (i k : ℕ) → Offering g β σ' i k → D' i ≡ D k + g i k → By g σ' D' i k
+  by_new i k o e =
       let l = t.within k o.0 in
       let b = joins k (omega arith) o.0 in
       record { settled = b; used = o.1; exact = omega (arith, kept k (omega arith) b) }
@@ -219,7 +219,7 @@ module _
   shown i k l h b =
       ⊎_elim
       (λ o. by_old i k o.1 ((f.hops i k l h).0 o.0))
-      (λ o. by-new i k o.0 o.1)
+      (λ o. by_new i k o.0 o.1)
       (((turn i l).hops k h).0 b)
 
   held : (i k : ℕ) → i < width → k < width → By g σ' D' i k → bit (H' i) k ≡ true
@@ -245,7 +245,7 @@ module _
           → ((bit (H i) k ≡ true) × (D' i ≡ D i)) ⊎ (Offering g β σ' i k × (D' i ≡ D k + g i k))
       new b (inl s) =
           let one = G.positive i k y.used in
-          let low = no-farther i k ends.0 s b in
+          let low = no_farther i k ends.0 s b in
           absurd (let z : ⊥ = omega (arith, y.exact, kept k h y.settled, kept i l s) in z)
       new b (inr s) = inr ((b, y.used, s), omega (arith, y.exact, kept k h y.settled))
 
@@ -277,7 +277,7 @@ module _
   top j l =
       ⊎_elim
       (λ e. omega arith)
-      (λ w. omega (arith, w.1, w.2, sum_bound w.0, size-most width σ))
+      (λ w. omega (arith, w.1, w.2, sum_bound w.0, size_most width σ))
       (f.sound j l)
 
   relaxed : (i k : ℕ) → g i k < unused → D i ≤ D k + g i k
@@ -297,15 +297,15 @@ module _
     where
       le : D i ≤ distance n g i d
       le = elim (dec_lt (distance n g i d) unreached) [
-        | yes h ↦ let w = distance-walk n g i d h in omega (arith, w.2, no_less w.0, f.start)
+        | yes h ↦ let w = distance_walk n g i d h in omega (arith, w.2, no_less w.0, f.start)
         | no h ↦ omega (arith, top i l)
       ]
 
       ge : distance n g i d ≤ D i
       ge =
           ⊎_elim
-          (λ e. omega (arith, distance-top n g i d))
-          (λ w. omega (arith, w.2, distance-le G w.0))
+          (λ e. omega (arith, distance_top n g i d))
+          (λ w. omega (arith, w.2, distance_le G w.0))
           (f.sound i l)
 
   -- the sets hold the next hops
@@ -323,16 +323,16 @@ module _
           let lk = (G.inside i k x.uses).1 in
           let di = distances i l in
           let dk = distances k lk in
-          let nearer = next-nearer G x in
+          let nearer = next_nearer G x in
           (f.hops i k (omega arith) h).1 (record {
-            settled = all_settled k lk (omega (arith, distance-top n g i d));
+            settled = all_settled k lk (omega (arith, distance_top n g i d));
             used = x.uses;
             exact = omega (arith, x.exact);
           })
 
-  pub nexts : (i : ℕ) → i < n → H i < 2 ^ width → H i ≡ nextHops width n g i d
+  pub nexts : (i : ℕ) → i < n → H i < 2 ^ width → H i ≡ next_hops width n g i d
   nexts i l fits =
-      same-next-hops width n g i d (H i) fits
-      (λ k h. same_test (bit (H i) k) (isNext n g i d k)
-      (λ b. true-next ((right i k l h).0 b))
-      (λ b. (right i k l h).1 (next-true n g i d k b)))
+      same_next_hops width n g i d (H i) fits
+      (λ k h. same_test (bit (H i) k) (is_next n g i d k)
+      (λ b. true_next ((right i k l h).0 b))
+      (λ b. (right i k l h).1 (next_true n g i d k b)))

@@ -2,10 +2,10 @@
 --     Growing                    what the column holds is a front, and `reached` are the reached routers of it that are
 --                                not settled
 --     start                      the blank column with the destination at 0
---     links-are                  the neighbour sets say who has a link
---     next-are, room, inside     a turn: whom it settles; its sums fit; those it settles are settled then
+--     links_are                  the neighbour sets say who has a link
+--     next_are, room, inside     a turn: whom it settles; its sums fit; those it settles are settled then
 --     fewer, more                one router more is settled at least, and the column holds a front again
---     distance-column, hop-column      when no reached router is left, the column is that of the definition
+--     distance_column, hop_column      when no reached router is left, the column is that of the definition
 use Prim.Native.Nat.{ℕ, ◌+◌, ◌-◌, ◌^◌, ◌<◌, ◌≤◌}
 use mathlib.Core.Path.{◌≡◌, refl, sym, ap, ◌∙◌}
 use mathlib.Core.Bool.{true, false, not, false≢true}
@@ -18,23 +18,23 @@ use lib.Seq.{get_or-set_same, get_or-set_other}
 use lib.Dec.{ltb}
 use borrow.Author.Tests.{ltb-true, lt-ltb, not-true}
 use Rattle.area.specs.Limits.{width, unused, unreached}
-use Rattle.area.specs.Tables.{build, cell, perRouter}
-use Rattle.area.specs.TableLaws.{is-build}
-use Rattle.area.specs.PerRouterLaws.{per-at}
+use Rattle.area.specs.Tables.{build, cell, per_router}
+use Rattle.area.specs.TableLaws.{is_build}
+use Rattle.area.specs.PerRouterLaws.{per_at}
 use Rattle.area.specs.Tests.{lowest}
-use Rattle.area.specs.TestLaws.{both_true, and-true, or_cases, or_left, or_right, or-false}
-use Rattle.area.specs.LowestLaws.{lowest-passes, lowest-below}
+use Rattle.area.specs.TestLaws.{both_true, and_true, or_cases, or_left, or_right, or_false}
+use Rattle.area.specs.LowestLaws.{lowest_passes, lowest_below}
 use Rattle.sets.specs.Sets.{bit, added, union, without}
-use Rattle.sets.specs.SetLaws.{bit-zero, bit-lt, bit-setOf, setOf-lt, bit-union, bit-without}
-use Rattle.sets.specs.SetLaws.{added-self, added-cases, no-members, union-lt}
+use Rattle.sets.specs.SetLaws.{bit_zero, bit_lt, bit_set_of, set_of_lt, bit_union, bit_without}
+use Rattle.sets.specs.SetLaws.{added_self, added_cases, no_members, union_lt}
 use Rattle.sets.specs.Counts.{size}
-use Rattle.sets.specs.CountLaws.{size-most}
+use Rattle.sets.specs.CountLaws.{size_most}
 use Rattle.topology.specs.Topology.{topology}
-use Rattle.topology.specs.Cells.{distanceCell, hopCell}
-use Rattle.topology.specs.TopologyLaws.{topology-graph, metric-link, link-metric}
-use Rattle.topology.specs.CellLaws.{distance-in, distance-out, hops-in, hops-out}
-use Rattle.trees.specs.Turns.{entry, linksTo, Nearest, Offers, Turned}
-use Rattle.trees.proofs.Offering.{best-as}
+use Rattle.topology.specs.Cells.{distance_cell, hop_cell}
+use Rattle.topology.specs.TopologyLaws.{topology_graph, metric_link, link_metric}
+use Rattle.topology.specs.CellLaws.{distance_in, distance_out, hops_in, hops_out}
+use Rattle.trees.specs.Turns.{entry, links_to, Nearest, Offers, Turned}
+use Rattle.trees.proofs.Offering.{best_as}
 use Rattle.trees.proofs.Dijkstra.{Front, Next-to, Offering, begin, bound, grows, step, distances, nexts}
 
 -- reached and not settled
@@ -43,7 +43,7 @@ Waits n dist σ j = (bit σ j ≡ false) × (j < n) × (entry dist j < unreached
 
 pub record Growing (n : ℕ) (m : List ℕ) (d : ℕ) (dist hops : List ℕ) (σ reached : ℕ) : Type 0 where
   pub len : length dist ≡ width
-  pub len-h : length hops ≡ width
+  pub len_h : length hops ≡ width
   pub fits : (i : ℕ) → entry hops i < 2 ^ width
   pub front : Front n (topology n m) d (entry dist) (entry hops) σ
   pub ahead : (j : ℕ) → (bit reached j ≡ true) ↔ Waits n dist σ j
@@ -61,7 +61,7 @@ module _ {n : ℕ} {m : List ℕ} (most : n ≤ width) {d : ℕ} (within : d < n
       → Growing n m d (set dist d 0) hops 0 reached
   start dist hops ld lh far none fits {reached} is = record {
     len = length-set dist d 0 ∙ ld;
-    len-h = lh;
+    len_h = lh;
     fits = fits;
     front = begin (entry (set dist d 0)) (entry hops) within here others none most;
     ahead = λ j. (only j, itself j);
@@ -76,34 +76,34 @@ module _ {n : ℕ} {m : List ℕ} (most : n ≤ width) {d : ℕ} (within : d < n
       only : (j : ℕ) → bit reached j ≡ true → Waits n (set dist d 0) 0 j
       only j b =
           ⊎_elim
-          (λ z. absurd (false≢true (sym (bit-zero j) ∙ z)))
-          (λ (e : j ≡ d). rw e (bit-zero d, within, omega (arith, here)))
-          (added-cases width 0 d j (ap (λ (x : ℕ). bit x j) (sym is) ∙ b))
+          (λ z. absurd (false≢true (sym (bit_zero j) ∙ z)))
+          (λ (e : j ≡ d). rw e (bit_zero d, within, omega (arith, here)))
+          (added_cases width 0 d j (ap (λ (x : ℕ). bit x j) (sym is) ∙ b))
 
       itself : (j : ℕ) → Waits n (set dist d 0) 0 j → bit reached j ≡ true
       itself j w = elim (ℕ_discrete j d) [
-        | yes e ↦ ap (λ (x : ℕ). bit x j) is ∙ rw e (added-self width 0 d (omega arith))
+        | yes e ↦ ap (λ (x : ℕ). bit x j) is ∙ rw e (added_self width 0 d (omega arith))
         | no f ↦ absurd (let x : ⊥ = omega (arith, others j (omega (arith, w.1)) f, w.2) in x)
       ]
 
 -- ---- the neighbour sets
-module _ (n : ℕ) (m links : List ℕ) (most : n ≤ width) (is : links ≡ perRouter width n (linksTo n m)) where
-  link_set : (q : ℕ) → q < n → entry links q ≡ linksTo n m q
-  link_set q l = ap (λ (x : List ℕ). entry x q) is ∙ per-at width n (linksTo n m) q l most
+module _ (n : ℕ) (m links : List ℕ) (most : n ≤ width) (is : links ≡ per_router width n (links_to n m)) where
+  link_set : (q : ℕ) → q < n → entry links q ≡ links_to n m q
+  link_set q l = ap (λ (x : List ℕ). entry x q) is ∙ per_at width n (links_to n m) q l most
 
-  pub links-are : (i q : ℕ) → q < n → (bit (entry links q) i ≡ true) ↔ (topology n m i q < unused)
-  links-are i q l = (used, linked)
+  pub links_are : (i q : ℕ) → q < n → (bit (entry links q) i ≡ true) ↔ (topology n m i q < unused)
+  links_are i q l = (used, linked)
     where
       used : bit (entry links q) i ≡ true → topology n m i q < unused
       used b =
           let t = ap (λ (x : ℕ). bit x i) (sym (link_set q l)) ∙ b in
-          let a = bit-lt n (linksTo n m q) i (setOf-lt n (λ k. ltb (topology n m k q) unused)) t in
-          ltb-true (topology n m i q) unused (sym (bit-setOf n (λ k. ltb (topology n m k q) unused) i a) ∙ t)
+          let a = bit_lt n (links_to n m q) i (set_of_lt n (λ k. ltb (topology n m k q) unused)) t in
+          ltb-true (topology n m i q) unused (sym (bit_set_of n (λ k. ltb (topology n m k q) unused) i a) ∙ t)
 
       linked : topology n m i q < unused → bit (entry links q) i ≡ true
       linked u =
           ap (λ (x : ℕ). bit x i) (link_set q l)
-          ∙ bit-setOf n (λ k. ltb (topology n m k q) unused) i (metric-link n m i q u).from
+          ∙ bit_set_of n (λ k. ltb (topology n m k q) unused) i (metric_link n m i q u).from
           ∙ lt-ltb (topology n m i q) unused u
 
   module _ {d : ℕ} (within : d < n) {dist hops : List ℕ} {σ reached : ℕ} (f : Growing n m d dist hops σ reached)
@@ -112,8 +112,8 @@ module _ (n : ℕ) (m links : List ℕ) (most : n ≤ width) (is : links ≡ per
     waits : (q : ℕ) → bit β q ≡ true → Waits n dist σ q
     waits q b = (f.ahead q).0 (near.part q b)
 
-    pub next-are : Next-to n (entry dist) σ β
-    next-are = record {
+    pub next_are : Next-to n (entry dist) σ β
+    next_are = record {
       within = λ q b. (waits q b).1;
       fresh = λ q b. (waits q b).0;
       reach = λ q b. (waits q b).2;
@@ -126,31 +126,31 @@ module _ (n : ℕ) (m links : List ℕ) (most : n ≤ width) (is : links ≡ per
     pub inside : {σ' : ℕ} → σ' ≡ union width σ β → (q : ℕ) → bit β q ≡ true → bit σ' q ≡ true
     inside e q b =
         let l = (waits q b).1 in
-        ap (λ (x : ℕ). bit x q) e ∙ bit-union width σ β q (omega arith) ∙ or_right (bit σ q) (bit β q) b
+        ap (λ (x : ℕ). bit x q) e ∙ bit_union width σ β q (omega arith) ∙ or_right (bit σ q) (bit β q) b
 
     -- the link's metric is the table's
     metric : (i q : ℕ) → bit β q ≡ true → bit (entry links q) i ≡ true → topology n m i q ≡ cell width m i q
-    metric i q b c = link-metric (metric-link n m i q ((links-are i q (waits q b).1).0 c))
+    metric i q b c = link_metric (metric_link n m i q ((links_are i q (waits q b).1).0 c))
 
     pub room : (σ' i q : ℕ) → Offers links β σ' i q → entry dist q + cell width m i q ≤ unreached
     room σ' i q o =
         let w = waits q o.0 in
-        omega (arith, bound f.front q w.1 w.2, (links-are i q w.1).0 o.1, metric i q o.0 o.1)
+        omega (arith, bound f.front q w.1 w.2, (links_are i q w.1).0 o.1, metric i q o.0 o.1)
 
     -- ---- one router more is settled
-    some-member : β ≢ 0 → (q : ℕ) × (bit β q ≡ true)
-    some-member g = elim (dec_lt (lowest width (bit β)) width) [
-      | yes h ↦ (lowest width (bit β), lowest-passes (bit β) width h)
-      | no h ↦ absurd (g (no-members β (λ k b.
+    some_member : β ≢ 0 → (q : ℕ) × (bit β q ≡ true)
+    some_member g = elim (dec_lt (lowest width (bit β)) width) [
+      | yes h ↦ (lowest width (bit β), lowest_passes (bit β) width h)
+      | no h ↦ absurd (g (no_members β (λ k b.
           let l = (waits k b).1 in
-          false≢true (sym (lowest-below (bit β) width k (omega arith)) ∙ b))))
+          false≢true (sym (lowest_below (bit β) width k (omega arith)) ∙ b))))
     ]
 
     pub fewer : reached ≢ 0 → {σ' : ℕ} → σ' ≡ union width σ β → width - size width σ' < width - size width σ
     fewer g {σ'} e =
-        let one = some-member (near.some g) in
-        let more = grows n (entry dist) σ β most next-are one.0 one.1 in
-        omega (arith, ap (size width) e, more, size-most width (union width σ β))
+        let one = some_member (near.some g) in
+        let more = grows n (entry dist) σ β most next_are one.0 one.1 in
+        omega (arith, ap (size width) e, more, size_most width (union width σ β))
 
     -- ---- the column after a turn
     module _
@@ -159,11 +159,11 @@ module _ (n : ℕ) (m links : List ℕ) (most : n ≤ width) (is : links ≡ per
         (found : (i : ℕ) → i < width → (bit offered i ≡ true) ↔ ((q : ℕ) × Offers links β (union width σ β) i q)) where
       front' : Front n (topology n m) d (entry dist') (entry hops') (union width σ β)
       front' =
-          step (topology-graph n m most) most f.front next-are
+          step (topology_graph n m most) most f.front next_are
           (λ i l.
-          best-as (Offering (topology n m) β (union width σ β) i) (λ q. entry dist q + topology n m i q) (turn i l)
-          (λ q o. (o.0, (links-are i q (waits q o.0).1).0 o.1, o.2))
-          (λ q o. (o.0, (links-are i q (waits q o.0).1).1 o.1, o.2))
+          best_as (Offering (topology n m) β (union width σ β) i) (λ q. entry dist q + topology n m i q) (turn i l)
+          (λ q o. (o.0, (links_are i q (waits q o.0).1).0 o.1, o.2))
+          (λ q o. (o.0, (links_are i q (waits q o.0).1).1 o.1, o.2))
           (λ q o. ap (λ (x : ℕ). entry dist q + x) (sym (metric i q o.0 o.1))))
           within
 
@@ -171,18 +171,18 @@ module _ (n : ℕ) (m links : List ℕ) (most : n ≤ width) (is : links ≡ per
       shown : (j : ℕ) → bit (union width (without width reached β) offered) j ≡ true → Waits n dist' (union width σ β) j
       shown j b =
           let kept = without width reached β in
-          ⊎_elim old new (or_cases (bit kept j) (bit offered j) (sym (bit-union width kept offered j l) ∙ b))
+          ⊎_elim old new (or_cases (bit kept j) (bit offered j) (sym (bit_union width kept offered j l) ∙ b))
         where
           l : j < width
           l =
               let kept = without width reached β in
-              bit-lt width (union width kept offered) j (union-lt width kept offered) b
+              bit_lt width (union width kept offered) j (union_lt width kept offered) b
 
           old : bit (without width reached β) j ≡ true → Waits n dist' (union width σ β) j
           old c =
-              let t = both_true (bit reached j) (not (bit β j)) (sym (bit-without width reached β j l) ∙ c) in
+              let t = both_true (bit reached j) (not (bit β j)) (sym (bit_without width reached β j l) ∙ c) in
               let w = (f.ahead j).0 t.0 in (
-                bit-union width σ β j l ∙ rw (w.0, not-true (bit β j) t.1) refl,
+                bit_union width σ β j l ∙ rw (w.0, not-true (bit β j) t.1) refl,
                 w.1,
                 omega (arith, w.2, (turn j l).low),
               )
@@ -192,16 +192,16 @@ module _ (n : ℕ) (m links : List ℕ) (most : n ≤ width) (is : links ≡ per
               let o = (found j l).0 c in
               let q = o.0 in
               let w = waits q o.1.0 in
-              let u = (links-are j q w.1).0 o.1.1 in
+              let u = (links_are j q w.1).0 o.1.1 in
               let near = bound f.front q w.1 w.2 in (
                 o.1.2,
-                (metric-link n m j q u).from,
+                (metric_link n m j q u).from,
                 omega (arith, (turn j l).met q o.1, metric j q o.1.0 o.1.1, u, near),
               )
 
       held : (j : ℕ) → Waits n dist' (union width σ β) j → bit (union width (without width reached β) offered) j ≡ true
       held j w =
-          bit-union width (without width reached β) offered j l
+          bit_union width (without width reached β) offered j l
           ∙ ⊎_elim
           (λ e. or_left (bit (without width reached β) j) (bit offered j) (kept e))
           (λ o. or_right (bit (without width reached β) j) (bit offered j) ((found j l).1 (o.0, o.1)))
@@ -211,12 +211,12 @@ module _ (n : ℕ) (m links : List ℕ) (most : n ≤ width) (is : links ≡ per
           l = omega (arith, w.1)
 
           free : (bit σ j ≡ false) × (bit β j ≡ false)
-          free = or-false (bit σ j) (bit β j) (sym (bit-union width σ β j l) ∙ w.0)
+          free = or_false (bit σ j) (bit β j) (sym (bit_union width σ β j l) ∙ w.0)
 
           kept : entry dist' j ≡ entry dist j → bit (without width reached β) j ≡ true
           kept e =
-              bit-without width reached β j l
-              ∙ and-true (bit reached j) (not (bit β j))
+              bit_without width reached β j l
+              ∙ and_true (bit reached j) (not (bit β j))
               ((f.ahead j).1 (free.0, w.1, omega (arith, w.2, e))) (ap not free.1)
 
       pub more :
@@ -229,7 +229,7 @@ module _ (n : ℕ) (m links : List ℕ) (most : n ≤ width) (is : links ≡ per
           → Growing n m d dist' hops' σ' reached'
       more e r ld lh fits = rw (e, r) (record {
         len = ld;
-        len-h = lh;
+        len_h = lh;
         fits = fits;
         front = front';
         ahead = λ j. (shown j, held j);
@@ -241,27 +241,27 @@ module _
     (f : Growing n m d dist hops σ reached) (none : reached ≡ 0) where
   end : (j : ℕ) → j < n → bit σ j ≡ false → entry dist j < unreached → ⊥
   end j l b r =
-      false≢true (sym (bit-zero j) ∙ ap (λ (x : ℕ). bit x j) (sym none) ∙ (f.ahead j).1 (b, l, r))
+      false≢true (sym (bit_zero j) ∙ ap (λ (x : ℕ). bit x j) (sym none) ∙ (f.ahead j).1 (b, l, r))
 
-  pub distance-column : dist ≡ build width (λ i. distanceCell n m i d)
-  distance-column = is-build width (λ i. distanceCell n m i d) dist f.len (λ i l. elim (dec_lt i n) [
+  pub distance_column : dist ≡ build width (λ i. distance_cell n m i d)
+  distance_column = is_build width (λ i. distance_cell n m i d) dist f.len (λ i l. elim (dec_lt i n) [
     | yes b ↦
-        distances (topology-graph n m most) most f.front end i b
-        ∙ sym (distance-in n m i d b within)
-    | no g ↦ f.front.rest i (omega arith) l ∙ sym (distance-out n m i d (inl (omega arith)))
+        distances (topology_graph n m most) most f.front end i b
+        ∙ sym (distance_in n m i d b within)
+    | no g ↦ f.front.rest i (omega arith) l ∙ sym (distance_out n m i d (inl (omega arith)))
   ])
 
   -- a router from n on has no link
-  no-hops : (i : ℕ) → n ≤ i → i < width → entry hops i ≡ 0
-  no-hops i b l =
-      no-members (entry hops i) (λ k t.
-      let y = (f.front.hops i k l (bit-lt width (entry hops i) k (f.fits i) t)).0 t in
-      let x : ⊥ = omega (arith, (metric-link n m i k y.used).from) in x)
+  no_hops : (i : ℕ) → n ≤ i → i < width → entry hops i ≡ 0
+  no_hops i b l =
+      no_members (entry hops i) (λ k t.
+      let y = (f.front.hops i k l (bit_lt width (entry hops i) k (f.fits i) t)).0 t in
+      let x : ⊥ = omega (arith, (metric_link n m i k y.used).from) in x)
 
-  pub hop-column : hops ≡ build width (λ i. hopCell n m i d)
-  hop-column = is-build width (λ i. hopCell n m i d) hops f.len-h (λ i l. elim (dec_lt i n) [
+  pub hop_column : hops ≡ build width (λ i. hop_cell n m i d)
+  hop_column = is_build width (λ i. hop_cell n m i d) hops f.len_h (λ i l. elim (dec_lt i n) [
     | yes b ↦
-        nexts (topology-graph n m most) most f.front end i b (f.fits i)
-        ∙ sym (hops-in n m i d b within)
-    | no g ↦ no-hops i (omega arith) l ∙ sym (hops-out n m i d (inl (omega arith)))
+        nexts (topology_graph n m most) most f.front end i b (f.fits i)
+        ∙ sym (hops_in n m i d b within)
+    | no g ↦ no_hops i (omega arith) l ∙ sym (hops_out n m i d (inl (omega arith)))
   ])

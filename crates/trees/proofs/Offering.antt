@@ -1,7 +1,7 @@
 -- Offers to one router, one after another (`Best`): what is kept is the least of all, with the next hops that meet it.
 --     best_none    no offer changes nothing
---     best-more    one offer more
---     best-as      the same offers, said in another way
+--     best_more    one offer more
+--     best_as      the same offers, said in another way
 use Prim.Native.Nat.{ℕ, ◌<◌, ◌≤◌}
 use mathlib.Core.Path.{◌≡◌, refl, sym, ◌∙◌}
 use mathlib.Core.Bool.{true, ◌||◌}
@@ -12,7 +12,7 @@ use lib.Dec.{eqb}
 use Rattle.area.specs.Limits.{width}
 use Rattle.area.specs.TestLaws.{or_cases, or_left, or_right}
 use Rattle.sets.specs.Sets.{bit, added, union}
-use Rattle.sets.specs.SetLaws.{bit-zero, bit_added, bit-union}
+use Rattle.sets.specs.SetLaws.{bit_zero, bit_added, bit_union}
 use Rattle.trees.specs.Turns.{Offered, nearer, equal, farther, Best}
 
 pub best_none : {Q : ℕ → Type 0} (f : ℕ → ℕ) (x h : ℕ) → ((q : ℕ) → Q q → ⊥) → Best Q f x h x h
@@ -23,14 +23,14 @@ best_none f x h none = record {
   hops = λ k l. ((λ b. inl (b, refl)), (λ t. ⊎_elim (λ o. o.0) (λ o. absurd (none k o.0)) t));
 }
 
-pub best-as :
+pub best_as :
     {Q : ℕ → Type 0} {f : ℕ → ℕ} {x h x' h' : ℕ} (R : ℕ → Type 0) (g : ℕ → ℕ)
     → Best Q f x h x' h'
     → ((q : ℕ) → Q q → R q)
     → ((q : ℕ) → R q → Q q)
     → ((q : ℕ) → Q q → f q ≡ g q)
     → Best R g x h x' h'
-best-as {Q} {f} {x} {h} {x'} {h'} R g b to from same = record {
+best_as {Q} {f} {x} {h} {x'} {h'} R g b to from same = record {
   low = b.low;
   met = λ q r. omega (arith, b.met q (from q r), same q (from q r));
   came = ⊎_elim (λ e. inl e) (λ o. inr (o.0, to o.0 o.1, o.2 ∙ same o.0 o.1)) b.came;
@@ -43,7 +43,7 @@ best-as {Q} {f} {x} {h} {x'} {h'} R g b to from same = record {
 -- the set of one next hop
 module _ (q : ℕ) where
   only : (k : ℕ) → k < width → bit (added width 0 q) k ≡ true → k ≡ q
-  only k l b = eqb-true k q (sym (bit_added width 0 q k l ∙ rw (bit-zero k) refl) ∙ b)
+  only k l b = eqb-true k q (sym (bit_added width 0 q k l ∙ rw (bit_zero k) refl) ∙ b)
 
   itself : (k : ℕ) → k < width → k ≡ q → bit (added width 0 q) k ≡ true
   itself k l e = bit_added width 0 q k l ∙ or_right (bit 0 k) (eqb k q) (eq-eqb k q e)
@@ -85,8 +85,8 @@ module _
     hops = λ k w. (
       (λ t. ⊎_elim (was k w) (λ s. let is = only q k w s in inr (rw is (new, sym l)))
           (or_cases (bit h' k) (bit (added width 0 q) k)
-          (sym (bit-union width h' (added width 0 q) k w) ∙ (rw e at t)))),
-      (λ t. rw e (bit-union width h' (added width 0 q) k w ∙ either k w t)),
+          (sym (bit_union width h' (added width 0 q) k w) ∙ (rw e at t)))),
+      (λ t. rw e (bit_union width h' (added width 0 q) k w ∙ either k w t)),
     );
   }
     where
@@ -120,7 +120,7 @@ module _
           (λ (s : k ≡ q). absurd (let y = rw s at o.1 in let z : ⊥ = omega arith in z))
           (from k o.0)
 
-  pub best-more : {x'' h'' : ℕ} → Offered (f q) (added width 0 q) x' h' x'' h'' → Best R f x h x'' h''
-  best-more (nearer l e w) = rw e (taken l w)
-  best-more (equal l e w) = rw e (joined l w)
-  best-more (farther l e w) = rw (e, w) (passed l)
+  pub best_more : {x'' h'' : ℕ} → Offered (f q) (added width 0 q) x' h' x'' h'' → Best R f x h x'' h''
+  best_more (nearer l e w) = rw e (taken l w)
+  best_more (equal l e w) = rw e (joined l w)
+  best_more (farther l e w) = rw (e, w) (passed l)

@@ -2,7 +2,7 @@
 -- offers its way to its neighbours. The contracts of private functions cite this; nothing here is part of what the
 -- search promises.
 --     entry        what a column holds for a router
---     linksTo      the routers that have a used link to a router
+--     links_to      the routers that have a used link to a router
 --     Nearest      which routers are settled in a turn
 --     Offered      what one offer makes of a router's distance and next hops
 --     ColumnOffered, Relaxed
@@ -13,7 +13,7 @@
 use Rattle.std.specs.Prelude.{ℕ, ◌+◌, ◌<◌, ◌≤◌, ◌≡◌, true, false, ◌≢◌, ◌⊎◌, ◌↔◌, List, ltb, get_or}
 use Rattle.area.specs.Limits.{width, unused}
 use Rattle.area.specs.Tables.{cell}
-use Rattle.sets.specs.Sets.{bit, setOf, added, union}
+use Rattle.sets.specs.Sets.{bit, set_of, added, union}
 use Rattle.topology.specs.Topology.{topology}
 
 -- A column: the distances of all routers to one destination, or their next hops to it.
@@ -21,8 +21,8 @@ abbrev pub entry : (column : List ℕ) (i : ℕ) → ℕ
 entry column i = get_or column i 0
 
 -- the routers with a used link to q
-abbrev pub linksTo : (n : ℕ) (m : List ℕ) (q : ℕ) → ℕ
-linksTo n m q = setOf n (λ i. ltb (topology n m i q) unused)
+abbrev pub links_to : (n : ℕ) (m : List ℕ) (q : ℕ) → ℕ
+links_to n m q = set_of n (λ i. ltb (topology n m i q) unused)
 
 -- β are members of the set s, none of s is nearer than they by the distances d, and there is one where s has a member.
 -- They need not be all of the nearest: those that are left out come in a later turn.

@@ -15,10 +15,10 @@ mod tree;
 
 ghost use Rattle.std.specs.Prelude.{◌≡◌, ℕ, ◌*◌, ◌<◌, ◌≤◌, length, get_or};
 ghost use Rattle.area.specs.Limits.{width, unreached};
-ghost use Rattle.area.specs.Tables.{tabulate, withColumn, perRouter};
-ghost use Rattle.topology.specs.Cells.{distanceCell, hopCell};
-ghost use Rattle.trees.specs.Trees.{areSizes, distanceTable, hopTable};
-ghost use Rattle.trees.specs.Turns.{entry, linksTo};
+ghost use Rattle.area.specs.Tables.{tabulate, with_column, per_router};
+ghost use Rattle.topology.specs.Cells.{distance_cell, hop_cell};
+ghost use Rattle.trees.specs.Trees.{are_sizes, distance_table, hop_table};
+ghost use Rattle.trees.specs.Turns.{entry, links_to};
 
 use area::limits::{CELLS, Set, UNREACHED, WIDTH};
 use neighbours::neighbours;
@@ -27,9 +27,9 @@ use tree::tree;
 // The distance and the next-hop set of every pair; where a size is wrong, nothing is written.
 pub fn trees(n: usize, metric: &[u32], dist: &mut [u32], hops: &mut [Set])
     ensures distances { dist.new
-        ≡ distanceTable n metric.now dist.old hops.old }
+        ≡ distance_table n metric.now dist.old hops.old }
     ensures hops { hops.new
-        ≡ hopTable n metric.now dist.old hops.old }
+        ≡ hop_table n metric.now dist.old hops.old }
 {
     if are_sizes(n, metric.len(), dist.len(), hops.len()) {
         fill(n, metric, dist, hops);
@@ -38,7 +38,7 @@ pub fn trees(n: usize, metric: &[u32], dist: &mut [u32], hops: &mut [Set])
 
 // Are these the sizes that a search needs?
 fn are_sizes(n: usize, cells: usize, distances: usize, sets: usize) -> bool
-    ensures { result ≡ areSizes n cells distances sets }
+    ensures { result ≡ are_sizes n cells distances sets }
 {
     if WIDTH < n {
         return false;
@@ -56,8 +56,8 @@ fn are_sizes(n: usize, cells: usize, distances: usize, sets: usize) -> bool
 fn fill(n: usize, metric: &[u32], dist: &mut [u32], hops: &mut [Set])
     requires n_le_width { (n ≤ width) × (length metric.now ≡ width * width) }
     requires dist_len { (length dist.old ≡ width * width) × (length hops.old ≡ width * width) }
-    ensures dist_after { dist.new ≡ tabulate width (distanceCell n metric.now) }
-    ensures hops_after { hops.new ≡ tabulate width (hopCell n metric.now) }
+    ensures dist_after { dist.new ≡ tabulate width (distance_cell n metric.now) }
+    ensures hops_after { hops.new ≡ tabulate width (hop_cell n metric.now) }
 {
     blank(dist, hops);
     let links = neighbours(n, metric);
@@ -81,12 +81,12 @@ fn blank(dist: &mut [u32], hops: &mut [Set])
 // The search for destination d, which fills its column and no other cell.
 fn column(n: usize, metric: &[u32], links: &[Set], d: usize, dist: &mut [u32], hops: &mut [Set])
     requires n_le_width { (n ≤ width) × (length metric.now ≡ width * width) × (d < n) }
-    requires links_value { links.now ≡ perRouter width n (linksTo n metric.now) }
+    requires links_value { links.now ≡ per_router width n (links_to n metric.now) }
     requires dist_len { (length dist.old ≡ width * width) × (length hops.old ≡ width * width) }
     ensures dist_after { dist.new
-        ≡ withColumn width dist.old d (λ i. distanceCell n metric.now i d) }
+        ≡ with_column width dist.old d (λ i. distance_cell n metric.now i d) }
     ensures hops_after { hops.new
-        ≡ withColumn width hops.old d (λ i. hopCell n metric.now i d) }
+        ≡ with_column width hops.old d (λ i. hop_cell n metric.now i d) }
 {
     let mut found = [UNREACHED; WIDTH];
     let mut by: [Set; WIDTH] = [0; WIDTH];
@@ -98,8 +98,8 @@ fn column(n: usize, metric: &[u32], links: &[Set], d: usize, dist: &mut [u32], h
 fn put(d: usize, found: &[u32], by: &[Set], dist: &mut [u32], hops: &mut [Set])
     requires d_lt_width { (d < width) × (length found.now ≡ width) × (length by.now ≡ width) }
     requires dist_len { (length dist.old ≡ width * width) × (length hops.old ≡ width * width) }
-    ensures dist_after { dist.new ≡ withColumn width dist.old d (entry found.now) }
-    ensures hops_after { hops.new ≡ withColumn width hops.old d (entry by.now) }
+    ensures dist_after { dist.new ≡ with_column width dist.old d (entry found.now) }
+    ensures hops_after { hops.new ≡ with_column width hops.old d (entry by.now) }
 {
     for i in 0..WIDTH {
         let at = WIDTH * i + d;

@@ -5,10 +5,10 @@
 //     offer    a router takes what is nearer, and joins what is as near
 ghost use Rattle.std.specs.Prelude.{◌≡◌, true, ◌↔◌, ℕ, ◌+◌, ◌*◌, ◌<◌, ◌≤◌, length};
 ghost use Rattle.area.specs.Limits.{width, unreached};
-ghost use Rattle.area.specs.Tables.{cell, build, perRouter};
+ghost use Rattle.area.specs.Tables.{cell, build, per_router};
 ghost use Rattle.sets.specs.Sets.{bit};
-ghost use Rattle.topology.specs.Cells.{distanceCell, hopCell};
-ghost use Rattle.trees.specs.Turns.{entry, linksTo, ColumnOffered, Relaxed, Offers, Turned};
+ghost use Rattle.topology.specs.Cells.{distance_cell, hop_cell};
+ghost use Rattle.trees.specs.Turns.{entry, links_to, ColumnOffered, Relaxed, Offers, Turned};
 
 use crate::nearest::nearest;
 use area::limits::{Set, WIDTH};
@@ -26,12 +26,12 @@ pub(crate) fn tree(
     hops: &mut [Set],
 )
     requires n_le_width { (n ≤ width) × (length metric.now ≡ width * width) × (d < n) }
-    requires links_value { links.now ≡ perRouter width n (linksTo n metric.now) }
+    requires links_value { links.now ≡ per_router width n (links_to n metric.now) }
     requires dist_len { (length dist.old ≡ width) × (length hops.old ≡ width) }
     requires by_index { (i : ℕ) → i < width → entry dist.old i ≡ unreached }
     requires by_index_2 { (i : ℕ) → i < width → entry hops.old i ≡ 0 }
-    ensures dist_after { dist.new ≡ build width (λ i. distanceCell n metric.now i d) }
-    ensures hops_after { hops.new ≡ build width (λ i. hopCell n metric.now i d) }
+    ensures dist_after { dist.new ≡ build width (λ i. distance_cell n metric.now i d) }
+    ensures hops_after { hops.new ≡ build width (λ i. hop_cell n metric.now i d) }
 {
     let mut settled: Set = 0;
     let mut reached = add(0, d);

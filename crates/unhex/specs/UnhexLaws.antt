@@ -1,89 +1,89 @@
 -- Laws of what is written for an input.
---     text-written, text-error         for a text that is not longer than what is read
---     binary-written, binary-error     for what is no text
---     written-first, error-first       what is read of an input decides
---     written-room     so many bytes have room for all that is written
---     file-through     a bench file of either format that is accepted goes through as it is
---     hexed-through    the text of a list of bytes gives these bytes
+--     text_written, text_error         for a text that is not longer than what is read
+--     binary_written, binary_error     for what is no text
+--     written_first, error_first       what is read of an input decides
+--     written_room     so many bytes have room for all that is written
+--     file_through     a bench file of either format that is accepted goes through as it is
+--     hexed_through    the text of a list of bytes gives these bytes
 use Rattle.std.specs.Prelude.{ℕ, ◌+◌, ◌≤◌, ◌<◌, ◌≡◌, Bool, cond, List, get_or}
 use Rattle.std.proofs.Math.Path.{refl}
 use Rattle.std.proofs.Common.{◌∙◌, arith, length-take, take_all}
 use Rattle.std.proofs.Math.Bool.{true, false}
 use Rattle.std.proofs.Math.ListN.{length}
 use Rattle.bench_file.specs.declared.Format.{Format}
-use Rattle.bench_file.specs.Faults.{fileRefusal}
-use Rattle.bench_file.specs.FaultLaws.{accepted-of}
-use Rattle.bench_file.specs.FileLaws.{accepted-largest}
-use Rattle.hex.specs.Hex.{most, unhexed, isFaulty, isText}
+use Rattle.bench_file.specs.Faults.{file_refusal}
+use Rattle.bench_file.specs.FaultLaws.{accepted_of}
+use Rattle.bench_file.specs.FileLaws.{accepted_largest}
+use Rattle.hex.specs.Hex.{most, unhexed, is_faulty, is_text}
 use Rattle.hex.specs.Digits.{hexed}
-use Rattle.hex.specs.HexLaws.{room, length-hexed, unhexed-fits, unhexed-hexed}
-use Rattle.hex.specs.FaultLaws.{hexed-sound, unhexed-first, faulty-first}
-use Rattle.hex.specs.BinaryLaws.{accepted-binary, hexed-text}
-use Rattle.unhex.specs.Unhex.{part, written, isError}
+use Rattle.hex.specs.HexLaws.{room, length_hexed, unhexed_fits, unhexed_hexed}
+use Rattle.hex.specs.FaultLaws.{hexed_sound, unhexed_first, faulty_first}
+use Rattle.hex.specs.BinaryLaws.{accepted_binary, hexed_text}
+use Rattle.unhex.specs.Unhex.{part, written, is_error}
 
 -- ---- an input that is read as a whole
 module _ (l : List ℕ) (short : length l ≤ most + 1) where
   all : part l ≡ l
   all = take_all (most + 1) l short
 
-  pub text-written : isText l ≡ true → written l ≡ unhexed l
+  pub text_written : is_text l ≡ true → written l ≡ unhexed l
   unfolding written
-  text-written is = rw (all, is) refl
+  text_written is = rw (all, is) refl
 
-  pub text-error : isText l ≡ true → isError l ≡ isFaulty l
-  unfolding isError
-  text-error is = rw (all, is) refl
+  pub text_error : is_text l ≡ true → is_error l ≡ is_faulty l
+  unfolding is_error
+  text_error is = rw (all, is) refl
 
-  pub binary-written : isText l ≡ false → written l ≡ l
+  pub binary_written : is_text l ≡ false → written l ≡ l
   unfolding written
-  binary-written none = rw (all, none) refl
+  binary_written none = rw (all, none) refl
 
-  pub binary-error : isText l ≡ false → isError l ≡ false
-  unfolding isError
-  binary-error none = rw (all, none) refl
+  pub binary_error : is_text l ≡ false → is_error l ≡ false
+  unfolding is_error
+  binary_error none = rw (all, none) refl
 
 -- ---- every input
 module _ (f : List ℕ) where
-  part-short : length (part f) ≤ most + 1
-  part-short = omega (arith, length-take (most + 1) f)
+  part_short : length (part f) ≤ most + 1
+  part_short = omega (arith, length-take (most + 1) f)
 
   again : part (part f) ≡ part f
-  again = all (part f) part-short
+  again = all (part f) part_short
 
-  pub written-first : written (part f) ≡ written f
+  pub written_first : written (part f) ≡ written f
   unfolding written
-  written-first = rw (again, unhexed-first (most + 1) f (omega arith)) refl
+  written_first = rw (again, unhexed_first (most + 1) f (omega arith)) refl
 
-  pub error-first : isError (part f) ≡ isError f
-  unfolding isError
-  error-first = rw (again, faulty-first (most + 1) f (omega arith)) refl
+  pub error_first : is_error (part f) ≡ is_error f
+  unfolding is_error
+  error_first = rw (again, faulty_first (most + 1) f (omega arith)) refl
 
-  pub written-room : length (written f) ≤ most + 1
+  pub written_room : length (written f) ≤ most + 1
   unfolding written
-  written-room = by-test (isText (part f))
+  written_room = by_test (is_text (part f))
     where
-      by-test : (t : Bool) → length (cond t (unhexed f) (part f)) ≤ most + 1
-      by-test true = omega (arith, unhexed-fits f)
-      by-test false = part-short
+      by_test : (t : Bool) → length (cond t (unhexed f) (part f)) ≤ most + 1
+      by_test true = omega (arith, unhexed_fits f)
+      by_test false = part_short
 
 -- ---- the two forms of a bench file
-pub file-through :
+pub file_through :
     (format : Format) (f : List ℕ)
-    → fileRefusal format f ≡ 0
-    → (written f ≡ f) × (isError f ≡ false)
-file-through format f z =
-    let short : length f ≤ most + 1 = omega (arith, accepted-largest format f (accepted-of format f z)) in
-    let none = accepted-binary format f z in
-    (binary-written f short none, binary-error f short none)
+    → file_refusal format f ≡ 0
+    → (written f ≡ f) × (is_error f ≡ false)
+file_through format f z =
+    let short : length f ≤ most + 1 = omega (arith, accepted_largest format f (accepted_of format f z)) in
+    let none = accepted_binary format f z in
+    (binary_written f short none, binary_error f short none)
 
-pub hexed-through :
+pub hexed_through :
     (l : List ℕ)
     → length l ≤ room
     → ((k : ℕ) → get_or l k 0 < 256)
-    → (written (hexed l) ≡ l) × (isError (hexed l) ≡ false)
-hexed-through l h small =
-    let short : length (hexed l) ≤ most + 1 = omega (arith, length-hexed l) in
-    let is = hexed-text l in (
-      text-written (hexed l) short is ∙ unhexed-hexed l h small,
-      text-error (hexed l) short is ∙ hexed-sound l h small,
+    → (written (hexed l) ≡ l) × (is_error (hexed l) ≡ false)
+hexed_through l h small =
+    let short : length (hexed l) ≤ most + 1 = omega (arith, length_hexed l) in
+    let is = hexed_text l in (
+      text_written (hexed l) short is ∙ unhexed_hexed l h small,
+      text_error (hexed l) short is ∙ hexed_sound l h small,
     )

@@ -5,7 +5,7 @@ ghost use Rattle.std.specs.Prelude.{◌≡◌, List, ℕ, ◌+◌, ◌≤◌, le
 ghost use Rattle.io.specs.Counts.{IsPrefixLen};
 ghost use Rattle.hex.specs.Hex.{most};
 ghost use Rattle.streams.specs.Streams.{ReadOf};
-ghost use Rattle.unhex.specs.Unhex.{written, isError};
+ghost use Rattle.unhex.specs.Unhex.{written, is_error};
 
 use hex::{MOST, Unhexed};
 
@@ -38,7 +38,7 @@ fn whole(buffer: &[u8], count: usize, out: &mut [u8]) -> Unhexed
         → take result.length out.new ≡ written input }
     ensures error { (input : List ℕ)
         → ReadOf input buffer.now count
-        → result.is_faulty ≡ isError input }
+        → result.is_faulty ≡ is_error input }
 {
     let input = &buffer[..count];
     if hex::is_text(input) {

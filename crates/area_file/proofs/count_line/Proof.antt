@@ -1,6 +1,6 @@
 -- The two bytes, and then the comment.
 use borrow.Author.Rules.{rules}
-use Rattle.area_file.specs.LineLaws.{count-appended}
+use Rattle.area_file.specs.LineLaws.{count_appended}
 use Rattle.area_file.proofs.count_line.Statement.{statement}
 use Rattle.area_file.proofs.count_line.Tie as tie
 
@@ -26,7 +26,7 @@ same_length : tie.Need-same-length
 same_length c = search rules
 
 returns : tie.Need-returns
-returns c = search count-appended
+returns c = search count_appended
 
 pub count-line-spec : {M : Type 1} → statement M
 count-line-spec =

@@ -6,7 +6,7 @@ use native.Mathlib.Omega.{arith}
 use lib.ListN.{length}
 use Rattle.area.specs.Limits.{width}
 use Rattle.area_file.specs.AreaFile.{listed}
-use Rattle.area_file.specs.LineLaws.{counted_none, counted-more, counted-less}
+use Rattle.area_file.specs.LineLaws.{counted_none, counted_more, counted_less}
 use Rattle.area_file.proofs.count_links.Statement.{statement}
 use Rattle.area_file.proofs.count_links.Tie as tie
 
@@ -51,13 +51,13 @@ loop-again c =
     let turn = c.before.before.before.before in
     let at-loop = turn.loop in
     let a = turn.before.before.args in
-    let told = c.before.is-listed in
+    let told = c.before.is_listed_lem in
     let m = a.metrics.now in
     let so_far = at-loop.invariant.5 in
     let counted =
     ⊎_elim
-    (λ w. w.1 ∙ counted-more a.n m at-loop.k _ so_far told.result told.ensures w.0.taken)
-    (λ w. w.1 ∙ counted-less a.n m at-loop.k _ so_far told.result told.ensures w.0.left)
+    (λ w. w.1 ∙ counted_more a.n m at-loop.k _ so_far told.result told.ensures w.0.taken)
+    (λ w. w.1 ∙ counted_less a.n m at-loop.k _ so_far told.result told.ensures w.0.left)
     c.if1.branch in (
       omega arith,
       omega arith,

@@ -1,6 +1,6 @@
 -- The parts, one after another.
 use borrow.Author.Rules.{rules}
-use Rattle.area_file.specs.LineLaws.{last-appended}
+use Rattle.area_file.specs.LineLaws.{last_appended}
 use Rattle.area_file.proofs.last_lines.Statement.{statement}
 use Rattle.area_file.proofs.last_lines.Tie as tie
 
@@ -35,7 +35,7 @@ same_length : tie.Need-same-length
 same_length c = search rules
 
 returns : tie.Need-returns
-returns c = search last-appended
+returns c = search last_appended
 
 pub last-lines-spec : {M : Type 1} → statement M
 last-lines-spec =

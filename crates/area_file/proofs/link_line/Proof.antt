@@ -1,6 +1,6 @@
 -- The five bytes, and then the comment.
 use borrow.Author.Rules.{rules}
-use Rattle.area_file.specs.LineLaws.{link-appended}
+use Rattle.area_file.specs.LineLaws.{link_appended}
 use Rattle.area_file.proofs.link_line.Statement.{statement}
 use Rattle.area_file.proofs.link_line.Tie as tie
 
@@ -29,7 +29,7 @@ same_length : tie.Need-same-length
 same_length c = search rules
 
 returns : tie.Need-returns
-returns c = search link-appended
+returns c = search link_appended
 
 pub link-line-spec : {M : Type 1} → statement M
 link-line-spec =

@@ -5,7 +5,7 @@ use native.Mathlib.Omega.{arith}
 use lib.ListN.{length}
 use Rattle.area.specs.Limits.{width}
 use Rattle.text.specs.Text.{Appended}
-use Rattle.area_file.specs.AreaFile.{listed, linkLines}
+use Rattle.area_file.specs.AreaFile.{listed, link_lines}
 use Rattle.area_file.specs.LineLaws.{lines_start, lines_next}
 use Rattle.area_file.proofs.link_lines.Statement.{statement}
 use Rattle.area_file.proofs.link_lines.Tie as tie
@@ -16,7 +16,7 @@ invariant-loop n metrics out₀ start at₀ k₀ k-end out at k =
     × (k-end ≡ width * n)
     × (n ≤ width)
     × (length metrics ≡ width * width)
-    × Appended out₀ start (linkLines (listed n metrics k)) out at
+    × Appended out₀ start (link_lines (listed n metrics k)) out at
 
 abbrev decreases-loop : tie.decreases-loop
 decreases-loop n metrics out₀ start at₀ k₀ k-end out at k = k-end - k

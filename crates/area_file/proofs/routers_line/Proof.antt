@@ -1,6 +1,6 @@
 -- The byte, and then the comment.
 use borrow.Author.Rules.{rules}
-use Rattle.area_file.specs.LineLaws.{routers-appended}
+use Rattle.area_file.specs.LineLaws.{routers_appended}
 use Rattle.area_file.proofs.routers_line.Statement.{statement}
 use Rattle.area_file.proofs.routers_line.Tie as tie
 
@@ -23,7 +23,7 @@ same_length : tie.Need-same-length
 same_length c = search rules
 
 returns : tie.Need-returns
-returns c = search routers-appended
+returns c = search routers_appended
 
 pub routers-line-spec : {M : Type 1} → statement M
 routers-line-spec =

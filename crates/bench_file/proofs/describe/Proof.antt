@@ -5,9 +5,9 @@ use mathlib.Core.List.{List}
 use Prim.Native.Nat.{ℕ, ◌+◌, ◌*◌}
 use borrow.Author.Rules.{rules}
 use Rattle.bench_file.specs.declared.Format.{Format}
-use Rattle.bench_file.specs.Formats.{timesSize, timeAt}
-use Rattle.bench_file.specs.Sections.{routers, linkCount, changeCount, holdTime, stepTime, stepCount}
-use Rattle.bench_file.specs.FaultLaws.{read-changes, times-place, read-steps}
+use Rattle.bench_file.specs.Formats.{times_size, time_at}
+use Rattle.bench_file.specs.Sections.{routers, link_count, change_count, hold_time, step_time, step_count}
+use Rattle.bench_file.specs.FaultLaws.{read_changes, times_place, read_steps}
 use Rattle.bench_file.specs.declared.Contents.{Contents}
 use Rattle.bench_file.specs.Read.{contents}
 use Rattle.bench_file.proofs.describe.Statement.{statement}
@@ -16,12 +16,12 @@ use Rattle.bench_file.proofs.describe.Tie as tie
 described :
     (format : Format) (f : List ℕ) (n k x z y hold step : ℕ)
     → n ≡ routers f
-    → k ≡ linkCount f
-    → x ≡ changeCount f
-    → z ≡ timesSize format
-    → y ≡ stepCount format f
-    → hold ≡ holdTime format f
-    → step ≡ stepTime format f
+    → k ≡ link_count f
+    → x ≡ change_count f
+    → z ≡ times_size format
+    → y ≡ step_count format f
+    → hold ≡ hold_time format f
+    → step ≡ step_time format f
     → ◌≡◌
     {A = Contents}
     (record {
@@ -94,11 +94,11 @@ returns c =
     let links = counted.before.two.ensures.0 in
     let changes = counted.byte.ensures.0 in
     let times = numbers.before.times-size.ensures.0 in
-    let place = times-place f links changes in
-    described format f _ _ _ _ _ _ _ numbers.byte2.ensures.0 links (read-changes f links changes) times
-    (read-steps f links changes format times c.before.before.two2.ensures.0)
-    (c.before.time-at.ensures ∙ ap (timeAt format f) place)
-    (c.time-at2.ensures ∙ ap (λ (i : ℕ). timeAt format f (i + 2)) place)
+    let place = times_place f links changes in
+    described format f _ _ _ _ _ _ _ numbers.byte2.ensures.0 links (read_changes f links changes) times
+    (read_steps f links changes format times c.before.before.two2.ensures.0)
+    (c.before.time-at.ensures ∙ ap (time_at format f) place)
+    (c.time-at2.ensures ∙ ap (λ (i : ℕ). time_at format f (i + 2)) place)
 
 pub describe-spec : {M : Type 1} → statement M
 describe-spec =

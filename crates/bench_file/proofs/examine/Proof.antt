@@ -9,36 +9,36 @@ use borrow.Author.Rules.{rules}
 use borrow.Author.Tests.{eqb-true, eqb-false, not-true, not-false}
 use lib.Dec.{eqb}
 use Rattle.area.specs.declared.refusal.Verdict.{Verdict}
-use Rattle.area.specs.Refusals.{verdictNumber}
+use Rattle.area.specs.Refusals.{verdict_number}
 use Rattle.bench_file.specs.declared.Format.{Format}
 use Rattle.bench_file.specs.declared.Contents.{Contents}
-use Rattle.bench_file.specs.Faults.{fileRefusal}
-use Rattle.bench_file.specs.Read.{contents, noContents, contentsBy}
-use Rattle.bench_file.specs.ReadLaws.{by-refused, by-accepted}
+use Rattle.bench_file.specs.Faults.{file_refusal}
+use Rattle.bench_file.specs.Read.{contents, no_contents, contents_by}
+use Rattle.bench_file.specs.ReadLaws.{by_refused, by_accepted}
 use Rattle.bench_file.proofs.examine.Statement.{statement}
 use Rattle.bench_file.proofs.examine.Tie as tie
 
 -- v is what `judge` gave, and ok whether that is accepted
 module _
     (format : Format) (f : List ℕ)
-    (v : Verdict) (told : verdictNumber v ≡ fileRefusal format f)
-    (ok : Bool) (good : ok ≡ eqb (verdictNumber v) 0)
+    (v : Verdict) (told : verdict_number v ≡ file_refusal format f)
+    (ok : Bool) (good : ok ≡ eqb (verdict_number v) 0)
   where
     abbrev Owed : (c : Contents) → Type 0
-    Owed c = (verdictNumber v ≡ fileRefusal format f) × (c ≡ contentsBy format f)
+    Owed c = (verdict_number v ≡ file_refusal format f) × (c ≡ contents_by format f)
 
-    refused : not ok ≡ true → (c : Contents) → c ≡ noContents → Owed c
-    refused h c e = (told, e ∙ sym (by-refused format f (λ z. some (told ∙ z))))
+    refused : not ok ≡ true → (c : Contents) → c ≡ no_contents → Owed c
+    refused h c e = (told, e ∙ sym (by_refused format f (λ z. some (told ∙ z))))
       where
-        some : verdictNumber v ≢ 0
-        some = eqb-false (verdictNumber v) 0 (sym good ∙ not-true ok h)
+        some : verdict_number v ≢ 0
+        some = eqb-false (verdict_number v) 0 (sym good ∙ not-true ok h)
 
     module _ (h : not ok ≡ false) where
-      none : fileRefusal format f ≡ 0
-      none = sym told ∙ eqb-true (verdictNumber v) 0 (sym good ∙ not-false ok h)
+      none : file_refusal format f ≡ 0
+      none = sym told ∙ eqb-true (verdict_number v) 0 (sym good ∙ not-false ok h)
 
       passed : (c : Contents) → c ≡ contents format f → Owed c
-      passed c e = (told, e ∙ sym (by-accepted format f none))
+      passed c e = (told, e ∙ sym (by_accepted format f none))
 
 judge-requires : tie.Need-judge-requires
 judge-requires c κs = search rules

@@ -14,19 +14,19 @@ use lib.Dec.{eqb}
 use lib.ListN.{length, take, drop, length-drop}
 use lib.Seq.{take_all}
 use Rattle.area.specs.Limits.{width}
-use Rattle.area.specs.Refusals.{tableSize, verdictNumber}
-use Rattle.area.specs.SizeLaws.{router-count-most}
-use Rattle.bench_file.specs.Sections.{routers, linkCount, links}
-use Rattle.bench_file.specs.Faults.{fileRefusal}
-use Rattle.bench_file.specs.FaultLaws.{Accepted, accepted-of}
+use Rattle.area.specs.Refusals.{table_size, verdict_number}
+use Rattle.area.specs.SizeLaws.{router_count_most}
+use Rattle.bench_file.specs.Sections.{routers, link_count, links}
+use Rattle.bench_file.specs.Faults.{file_refusal}
+use Rattle.bench_file.specs.FaultLaws.{Accepted, accepted_of}
 use Rattle.bench_file.specs.declared.BenchFile.{BenchFile}
 use Rattle.bench_file.specs.declared.Contents.{Contents}
 use Rattle.bench_file.specs.declared.Format.TheVariants.{New}
-use Rattle.bench_file.specs.Read.{readRefusal, contents, noContents, contentsBy, contentsOf, linked, metricsOf}
-use Rattle.bench_file.specs.ReadLaws.{InTable, linked-clear, read-size, read-file}
-use Rattle.bench_file.specs.ReadLaws.{contents-refused, contents-accepted}
-use Rattle.bench_file.specs.ReadLaws.{by-refused, by-accepted, metrics-kept, metrics-refused, metrics-accepted}
-use Rattle.bench_file.specs.FileLaws.{contents-links}
+use Rattle.bench_file.specs.Read.{read_refusal, contents, no_contents, contents_by, contents_of, linked, metrics_of}
+use Rattle.bench_file.specs.ReadLaws.{InTable, linked_clear, read_size, read_file}
+use Rattle.bench_file.specs.ReadLaws.{contents_refused, contents_accepted}
+use Rattle.bench_file.specs.ReadLaws.{by_refused, by_accepted, metrics_kept, metrics_refused, metrics_accepted}
+use Rattle.bench_file.specs.FileLaws.{contents_links}
 use Rattle.bench_file.proofs.read.Statement.{statement}
 use Rattle.bench_file.proofs.read.Tie as tie
 
@@ -42,75 +42,75 @@ lent_is f =
 module _ (f t : List ℕ) where
   -- what a return owes: the number of its answer, the contents and the table
   abbrev Owed : (k : ℕ) (c : Contents) (m : List ℕ) → Type 0
-  Owed k c m = (k ≡ readRefusal f t) × ((c ≡ contentsOf f t) × (m ≡ metricsOf f t))
+  Owed k c m = (k ≡ read_refusal f t) × ((c ≡ contents_of f t) × (m ≡ metrics_of f t))
 
-  wrong_size : length t ≢ width * width → (c : Contents) → c ≡ noContents → Owed tableSize c t
-  wrong_size a c e = (sym (read-size f t a), (e ∙ sym (contents-refused f t some), sym (metrics-kept New f t a)))
+  wrong_size : length t ≢ width * width → (c : Contents) → c ≡ no_contents → Owed table_size c t
+  wrong_size a c e = (sym (read_size f t a), (e ∙ sym (contents_refused f t some), sym (metrics_kept New f t a)))
     where
-      some : readRefusal f t ≢ 0
-      some z = let x : ⊥ = omega (arith, read-size f t a, z) in x
+      some : read_refusal f t ≢ 0
+      some z = let x : ⊥ = omega (arith, read_size f t a, z) in x
 
   -- x is what `examine` gave, and ok whether that is accepted
   module _
       (a : length t ≡ width * width)
-      (x : BenchFile) (told : verdictNumber x.answer ≡ fileRefusal New f) (said : x.contents ≡ contentsBy New f)
-      (ok : Bool) (good : ok ≡ eqb (verdictNumber x.answer) 0)
+      (x : BenchFile) (told : verdict_number x.answer ≡ file_refusal New f) (said : x.contents ≡ contents_by New f)
+      (ok : Bool) (good : ok ≡ eqb (verdict_number x.answer) 0)
     where
-      answered : verdictNumber x.answer ≡ readRefusal f t
-      answered = told ∙ sym (read-file f t a)
+      answered : verdict_number x.answer ≡ read_refusal f t
+      answered = told ∙ sym (read_file f t a)
 
       refused :
           not ok ≡ true
           → (m : List ℕ)
           → m ≡ linked [] 0
-          → Owed (verdictNumber x.answer) x.contents m
-      refused h m g = (answered, (said ∙ by-refused New f some ∙ sym blank, g ∙ sym cleared))
+          → Owed (verdict_number x.answer) x.contents m
+      refused h m g = (answered, (said ∙ by_refused New f some ∙ sym blank, g ∙ sym cleared))
         where
-          some : fileRefusal New f ≢ 0
-          some z = eqb-false (verdictNumber x.answer) 0 (sym good ∙ not-true ok h) (told ∙ z)
+          some : file_refusal New f ≢ 0
+          some z = eqb-false (verdict_number x.answer) 0 (sym good ∙ not-true ok h) (told ∙ z)
 
-          blank : contentsOf f t ≡ noContents
-          blank = contents-refused f t (λ z. some (sym (read-file f t a) ∙ z))
+          blank : contents_of f t ≡ no_contents
+          blank = contents_refused f t (λ z. some (sym (read_file f t a) ∙ z))
 
-          cleared : metricsOf f t ≡ linked [] 0
-          cleared = metrics-refused New f t a some
+          cleared : metrics_of f t ≡ linked [] 0
+          cleared = metrics_refused New f t a some
 
       module _ (h : not ok ≡ false) where
-        none : fileRefusal New f ≡ 0
-        none = sym told ∙ eqb-true (verdictNumber x.answer) 0 (sym good ∙ not-false ok h)
+        none : file_refusal New f ≡ 0
+        none = sym told ∙ eqb-true (verdict_number x.answer) 0 (sym good ∙ not-false ok h)
 
         whole : Accepted New f
-        whole = accepted-of New f none
+        whole = accepted_of New f none
 
         long : 3 ≤ length f
         long = omega (arith, whole.size)
 
         is-contents : x.contents ≡ contents New f
-        is-contents = said ∙ by-accepted New f none
+        is-contents = said ∙ by_accepted New f none
 
-        links-is : x.contents.links ≡ linkCount f
-        links-is = ap (λ (c : Contents). c.links) is-contents ∙ contents-links New f
+        links_is : x.contents.links ≡ link_count f
+        links_is = ap (λ (c : Contents). c.links) is-contents ∙ contents_links New f
 
         in_table : InTable (lent f) x.contents.links
-        in_table = rw (lent_is f, links-is) ends
+        in_table = rw (lent_is f, links_is) ends
           where
-            ends : InTable (links f) (linkCount f)
+            ends : InTable (links f) (link_count f)
             ends k b =
-                let most = router-count-most (routers f) whole.routers-in in
-                let l = (whole.each-link k b).entry in
+                let most = router_count_most (routers f) whole.routers_in in
+                let l = (whole.each_link k b).entry in
                 (omega (arith, l.from_in), omega (arith, l.to_in))
 
         passed :
             (m : List ℕ)
             → m ≡ linked (lent f) x.contents.links
-            → Owed (verdictNumber x.answer) x.contents m
-        passed m g = (answered, (is-contents ∙ sym same, g ∙ ap₂ linked (lent_is f) links-is ∙ sym filled))
+            → Owed (verdict_number x.answer) x.contents m
+        passed m g = (answered, (is-contents ∙ sym same, g ∙ ap₂ linked (lent_is f) links_is ∙ sym filled))
           where
-            same : contentsOf f t ≡ contents New f
-            same = contents-accepted f t (read-file f t a ∙ none)
+            same : contents_of f t ≡ contents New f
+            same = contents_accepted f t (read_file f t a ∙ none)
 
-            filled : metricsOf f t ≡ linked (links f) (linkCount f)
-            filled = metrics-accepted New f t a none
+            filled : metrics_of f t ≡ linked (links f) (link_count f)
+            filled = metrics_accepted New f t a none
 
 no-contents-requires : tie.Need-no-contents-requires
 no-contents-requires c κs = search rules
@@ -141,7 +141,7 @@ returns-2 c =
     let a = cleared.before.before.before.before.before.args in
     refused a.file.now a.table.now (omega arith)
     found.result found.ensures.0 found.ensures.1 ok.is-accepted.result ok.is-accepted.ensures
-    c.if2.true _ (linked-clear a.table.now (omega arith) _ cleared.clear.ensures)
+    c.if2.true _ (linked_clear a.table.now (omega arith) _ cleared.clear.ensures)
 
 sub-put : tie.Need-overflow-sub-put
 sub-put c = search long
@@ -153,7 +153,7 @@ part-put-end : tie.Need-slice-bounds-put-end
 part-put-end c = search rules
 
 put-requires : tie.Need-put-requires
-put-requires c κs = (search linked-clear, search in_table)
+put-requires c κs = (search linked_clear, search in_table)
 
 same-length-2 : tie.Need-same-length-2
 same-length-2 c = search rules

@@ -6,11 +6,11 @@ use borrow.Author.Rules.{rules}
 use Rattle.area.specs.Bytes.{two}
 use Rattle.bench_file.specs.declared.Format.{Format}
 use Rattle.bench_file.specs.declared.Format.TheVariants.{New}
-use Rattle.bench_file.specs.Formats.{timeAt}
+use Rattle.bench_file.specs.Formats.{time_at}
 use Rattle.bench_file.proofs.time_at.Statement.{statement}
 use Rattle.bench_file.proofs.time_at.Tie as tie
 
-two_bytes : (format : Format) (f : List ℕ) (i x : ℕ) → format ≡ New → x ≡ two f i → x ≡ timeAt format f i
+two_bytes : (format : Format) (f : List ℕ) (i x : ℕ) → format ≡ New → x ≡ two f i → x ≡ time_at format f i
 two_bytes format f i x is e = rw is e
 
 enum_told : tie.Need-enum-told

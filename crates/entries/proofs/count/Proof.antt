@@ -1,11 +1,11 @@
 -- The number of whole entries is the quotient, in code and definition alike.
 use mathlib.Core.Path.{refl}
-use Rattle.entries.specs.Entries.{entryCount}
+use Rattle.entries.specs.Entries.{entry_count}
 use Rattle.entries.proofs.count.Statement.{statement}
 use Rattle.entries.proofs.count.Tie as tie
 
 returns : tie.Need-returns
-unfolding entryCount
+unfolding entry_count
 returns c = refl
 
 pub count_spec : {M : Type 1} → statement M

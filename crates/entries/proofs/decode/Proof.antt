@@ -3,7 +3,7 @@
 use mathlib.Core.Path.{refl}
 use borrow.Author.Rules.{rules}
 use borrow.Author.Tests.{lt-ltb, le-ltb}
-use Rattle.entries.specs.Entries.{entryCount, entry_of}
+use Rattle.entries.specs.Entries.{entry_count, entry_of}
 use Rattle.entries.proofs.decode.Statement.{statement}
 use Rattle.entries.proofs.decode.Tie as tie
 
@@ -71,7 +71,7 @@ add-t26 : tie.Need-overflow-add-t26
 add-t26 c = search rules
 
 returns : tie.Need-returns
-unfolding entry_of entryCount
+unfolding entry_of entry_count
 returns c =
     let start = c.before.before.before.before.before.before.before.before.before.before in
     let from = c.before.before.wide4.ensures.0 in
@@ -80,14 +80,14 @@ returns c =
     let middle = c.before.before.before.before.before.before.wide2.ensures.0 in
     let low = c.before.before.before.before.wide3.ensures.0 in
     let a = start.before.before.args in
-    let listed = lt-ltb a.e (entryCount a.list.now) start.if1.true in
+    let listed = lt-ltb a.e (entry_count a.list.now) start.if1.true in
     rw (listed, from, to, high, middle, low) refl
 
 returns-2 : tie.Need-returns-2
-unfolding entry_of entryCount
+unfolding entry_of entry_count
 returns-2 c =
     let a = c.before.before.args in
-    rw (le-ltb a.e (entryCount a.list.now) c.if1.false) refl
+    rw (le-ltb a.e (entry_count a.list.now) c.if1.false) refl
 
 pub decode-spec : {M : Type 1} → statement M
 decode-spec =

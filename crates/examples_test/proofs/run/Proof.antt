@@ -7,10 +7,10 @@ use Rattle.examples_test.proofs.run.Statement.{statement}
 use Rattle.examples_test.proofs.run.Tie as tie
 
 abbrev invariant-loop : tie.invariant-loop
-invariant-loop names at₀ at-end at = at ≤ length names
+invariant-loop names at₀ at_end at = at ≤ length names
 
 abbrev decreases-loop : tie.decreases-loop
-decreases-loop names at₀ at-end at = length names - at
+decreases-loop names at₀ at_end at = length names - at
 
 pub run_spec : {M : Type 1} → statement M
 run_spec =

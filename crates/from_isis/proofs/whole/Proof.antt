@@ -1,11 +1,11 @@
--- The output buffer has room for all that is written (isis-room), and what was read of the input decides it
--- (isis-first).
+-- The output buffer has room for all that is written (isis_room), and what was read of the input decides it
+-- (isis_first).
 use native.Mathlib.Omega.{arith}
 use borrow.Author.Rules.{rules}
 use lib.ListN.{length}
-use Rattle.area_file.specs.FromIsis.{isisText}
-use Rattle.area_file.specs.FromIsisLaws.{isis-room, isis-first}
-use Rattle.streams.specs.StreamLaws.{whole-bytes}
+use Rattle.area_file.specs.FromIsis.{isis_text}
+use Rattle.area_file.specs.FromIsisLaws.{isis_room, isis_first}
+use Rattle.streams.specs.StreamLaws.{whole_bytes}
 use Rattle.from_isis.proofs.whole.Statement.{statement}
 use Rattle.from_isis.proofs.whole.Tie as tie
 
@@ -28,10 +28,10 @@ returns c =
     let a = known.before.args in
     let stream = a.stream.now in
     let table = a.table.now in
-    whole-bytes (λ s. isisText s table) stream a.count called.from-isis.ensures.0
-    (λ f. omega (arith, isis-room f table))
+    whole_bytes (λ s. isis_text s table) stream a.count called.from-isis.ensures.0
+    (λ f. omega (arith, isis_room f table))
     (λ k. (known.shared-slice-known.given k).fits)
-    (λ f small. isis-first f table (length stream) (omega arith)
+    (λ f small. isis_first f table (length stream) (omega arith)
     (omega (arith, small 0 (omega arith), small 1 (omega arith))))
 
 pub whole-spec : {M : Type 1} → statement M

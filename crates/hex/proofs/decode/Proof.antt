@@ -8,24 +8,24 @@ use Prim.Native.Nat.{◌-◌, ◌≤◌}
 use native.Mathlib.Omega.{arith}
 use borrow.Author.Rules.{rules}
 use lib.ListN.{length}
-use Rattle.hex.proofs.Decoding.{Decoded, decoded-none, decoded-byte, decoded-quiet}
-use Rattle.hex.proofs.Decoding.{decoded-bad, decoded-odd, some-before, decoded-all, some-text, decoded-lone}
+use Rattle.hex.proofs.Decoding.{Decoded, decoded_none, decoded_byte, decoded_quiet}
+use Rattle.hex.proofs.Decoding.{decoded_bad, decoded_odd, some_before, decoded_all, some_text, decoded_lone}
 use Rattle.hex.proofs.decode.Statement.{statement}
 use Rattle.hex.proofs.decode.Tie as tie
 
 abbrev invariant-loop : tie.invariant-loop
-invariant-loop text out₀ reading₀ n₀ at₀ at-end out reading n at =
+invariant-loop text out₀ reading₀ n₀ at₀ at_end out reading n at =
     (at ≤ length text)
-    × (at-end ≡ length text)
+    × (at_end ≡ length text)
     × Decoded text out₀ out n at reading
 
 abbrev decreases-loop : tie.decreases-loop
-decreases-loop text out₀ reading₀ n₀ at₀ at-end out reading n at = at-end - at
+decreases-loop text out₀ reading₀ n₀ at₀ at_end out reading n at = at_end - at
 
 loop-holds : tie.Need-loop-init invariant-loop decreases-loop
 loop-holds c =
     let a = c.before.before.args in
-    (omega arith, refl, decoded-none a.text.now a.out.now)
+    (omega arith, refl, decoded_none a.text.now a.out.now)
 
 shared-slice-read-step : tie.Need-shared-slice-read-step invariant-loop decreases-loop
 shared-slice-read-step c = omega arith
@@ -47,7 +47,7 @@ returns c =
     let turn = c.before.before.before.before.before.before in
     let so_far = turn.before.before.before.loop.invariant.2 in
     let is-bad = c.before.before.before.before.enum_told.given.1 in
-    decoded-bad so_far (omega arith) turn.step.result turn.step.ensures is-bad c.before.before.bad.ensures
+    decoded_bad so_far (omega arith) turn.step.result turn.step.ensures is-bad c.before.before.bad.ensures
 
 enum-told-2 : tie.Need-enum-told-2 invariant-loop decreases-loop
 enum-told-2 c = search rules
@@ -56,7 +56,7 @@ sub-odd : tie.Need-overflow-sub-odd invariant-loop decreases-loop
 sub-odd c =
     let turn = c.before.before.before in
     let so_far = turn.before.before.before.loop.invariant.2 in
-    some-before so_far (omega arith) turn.step.result turn.step.ensures c.before.enum-told2.given.1
+    some_before so_far (omega arith) turn.step.result turn.step.ensures c.before.enum-told2.given.1
 
 odd-requires : tie.Need-odd-requires invariant-loop decreases-loop
 odd-requires c κs = omega arith
@@ -69,7 +69,7 @@ returns-2 c =
     let turn = c.before.before.before.before.before.before in
     let so_far = turn.before.before.before.loop.invariant.2 in
     let is_odd = c.before.before.before.before.enum-told2.given.1 in
-    decoded-odd so_far (omega arith) turn.step.result turn.step.ensures is_odd c.before.before.odd.ensures
+    decoded_odd so_far (omega arith) turn.step.result turn.step.ensures is_odd c.before.before.odd.ensures
 
 enum-known-reading : tie.Need-enum-known-reading invariant-loop decreases-loop
 enum-known-reading c = search rules
@@ -93,10 +93,10 @@ loop-again c =
           (λ w.
           let byte = w.1.given in
           rw (w.7, w.8, w.9)
-          (decoded-byte so_far (omega arith) step.result step.ensures byte.0.0 byte.1 w.4.ensures))
+          (decoded_byte so_far (omega arith) step.result step.ensures byte.0.0 byte.1 w.4.ensures))
           (λ w.
           rw (w.1, w.2, w.3)
-          (decoded-quiet so_far (omega arith) step.result step.ensures w.0.keys4))
+          (decoded_quiet so_far (omega arith) step.result step.ensures w.0.keys4))
           c.match.branch,
     )
 
@@ -107,7 +107,7 @@ sub-odd-2 : tie.Need-overflow-sub-odd-2 invariant-loop decreases-loop
 sub-odd-2 c =
     let high = c.before.enum-told3.given in
     let so_far = c.before.before.before.before.loop.invariant.2 in
-    some-text so_far (omega arith) high.0.0 high.1
+    some_text so_far (omega arith) high.0.0 high.1
 
 odd-requires-2 : tie.Need-odd-requires-2 invariant-loop decreases-loop
 odd-requires-2 c κs = omega arith
@@ -120,13 +120,13 @@ returns-3 c =
     let told = c.before.before.before.before in
     let high = told.enum-told3.given in
     let so_far = told.before.before.before.loop.invariant.2 in
-    decoded-lone so_far (omega arith) high.0.0 high.1 c.before.before.odd2.ensures
+    decoded_lone so_far (omega arith) high.0.0 high.1 c.before.before.odd2.ensures
 
 same-length-4 : tie.Need-same-length-4 invariant-loop decreases-loop
 same-length-4 c = omega arith
 
 returns-4 : tie.Need-returns-4 invariant-loop decreases-loop
-returns-4 c = decoded-all c.before.before.loop.invariant.2 (omega arith) c.match2.keys2
+returns-4 c = decoded_all c.before.before.loop.invariant.2 (omega arith) c.match2.keys2
 
 pub decode-spec : {M : Type 1} → statement M
 decode-spec =

@@ -1,8 +1,8 @@
 -- Each range of bytes has its law.
 use native.Mathlib.Omega.{arith}
 use borrow.Author.Rules.{rules}
-use Rattle.hex.specs.ReadingLaws.{digit-decimal, digit-upper, digit-lower}
-use Rattle.hex.specs.ReadingLaws.{digit_low, digit-middle, digit-between, digit-high}
+use Rattle.hex.specs.ReadingLaws.{digit_decimal, digit_upper, digit_lower}
+use Rattle.hex.specs.ReadingLaws.{digit_low, digit_middle, digit_between, digit_high}
 use Rattle.hex.proofs.digit.Statement.{statement}
 use Rattle.hex.proofs.digit.Tie as tie
 
@@ -13,25 +13,25 @@ sub-result-2 : tie.Need-overflow-sub-result-2
 sub-result-2 c = search rules
 
 returns : tie.Need-returns
-returns c = digit-decimal _ (omega arith) (omega arith)
+returns c = digit_decimal _ (omega arith) (omega arith)
 
 returns-2 : tie.Need-returns-2
-returns-2 c = digit-upper _ (omega arith) (omega arith)
+returns-2 c = digit_upper _ (omega arith) (omega arith)
 
 returns-3 : tie.Need-returns-3
-returns-3 c = digit-lower _ (omega arith) (omega arith)
+returns-3 c = digit_lower _ (omega arith) (omega arith)
 
 returns-4 : tie.Need-returns-4
 returns-4 c = digit_low _ (omega arith)
 
 returns-5 : tie.Need-returns-5
-returns-5 c = digit-middle _ (omega arith) (omega arith)
+returns-5 c = digit_middle _ (omega arith) (omega arith)
 
 returns-6 : tie.Need-returns-6
-returns-6 c = digit-between _ (omega arith) (omega arith)
+returns-6 c = digit_between _ (omega arith) (omega arith)
 
 returns-7 : tie.Need-returns-7
-returns-7 c = digit-high _ (omega arith)
+returns-7 c = digit_high _ (omega arith)
 
 pub digit-spec : {M : Type 1} → statement M
 digit-spec =

@@ -3,19 +3,19 @@ use mathlib.Core.Path.{◌≡◌, refl, sym, ◌∙◌}
 use Prim.Native.Nat.{◌-◌, ◌≤◌}
 use native.Mathlib.Omega.{arith}
 use lib.ListN.{length, drop}
-use Rattle.hex.specs.Hex.{isText}
-use Rattle.hex.specs.BinaryLaws.{text-more, text-end, text-control}
+use Rattle.hex.specs.Hex.{is_text}
+use Rattle.hex.specs.BinaryLaws.{text_more, text_end, text_control}
 use Rattle.hex.proofs.is_text.Statement.{statement}
 use Rattle.hex.proofs.is_text.Tie as tie
 
 abbrev invariant-loop : tie.invariant-loop
-invariant-loop bytes at₀ at-end at =
+invariant-loop bytes at₀ at_end at =
     (at ≤ length bytes)
-    × (at-end ≡ length bytes)
-    × (isText bytes ≡ isText (drop at bytes))
+    × (at_end ≡ length bytes)
+    × (is_text bytes ≡ is_text (drop at bytes))
 
 abbrev decreases-loop : tie.decreases-loop
-decreases-loop bytes at₀ at-end at = at-end - at
+decreases-loop bytes at₀ at_end at = at_end - at
 
 loop-holds : tie.Need-loop-init invariant-loop decreases-loop
 loop-holds c = (omega arith, refl, refl)
@@ -30,7 +30,7 @@ returns : tie.Need-returns invariant-loop decreases-loop
 returns c =
     let told = c.before.is_control in
     let at = c.before.before.before.before.loop.at in
-    sym (text-control _ at (omega arith) (sym told.ensures ∙ c.if1.true))
+    sym (text_control _ at (omega arith) (sym told.ensures ∙ c.if1.true))
 
 add_at : tie.Need-overflow-add-at invariant-loop decreases-loop
 add_at c = omega arith
@@ -44,11 +44,11 @@ loop-again c =
     let turn = c.before.before.before.before in
     let at-loop = turn.loop in
     let bytes = turn.before.before.args.bytes.now in
-    let more = text-more bytes at-loop.at (omega arith) (sym told.ensures ∙ c.if1.false) in
+    let more = text_more bytes at-loop.at (omega arith) (sym told.ensures ∙ c.if1.false) in
     (omega arith, refl, at-loop.invariant.2 ∙ more)
 
 returns-2 : tie.Need-returns-2 invariant-loop decreases-loop
-returns-2 c = let at-loop = c.before.loop in sym (at-loop.invariant.2 ∙ text-end _ at-loop.at (omega arith))
+returns-2 c = let at-loop = c.before.loop in sym (at-loop.invariant.2 ∙ text_end _ at-loop.at (omega arith))
 
 pub is-text-spec : {M : Type 1} → statement M
 is-text-spec =

@@ -1,6 +1,6 @@
 -- Each return has its law.
 use borrow.Author.Rules.{rules}
-use Rattle.hex.specs.ReadingLaws.{second-digit, second-space, second-hash, second-bad}
+use Rattle.hex.specs.ReadingLaws.{second_digit, second_space, second_hash, second_bad}
 use Rattle.hex.proofs.second.Statement.{statement}
 use Rattle.hex.proofs.second.Tie as tie
 
@@ -14,19 +14,19 @@ add-t6 : tie.Need-overflow-add-t6
 add-t6 c = search rules
 
 returns : tie.Need-returns
-returns c = search second-digit
+returns c = search second_digit
 
 is-space-requires : tie.Need-is-space-requires
 is-space-requires c κs = search rules
 
 returns-2 : tie.Need-returns-2
-returns-2 c = search second-space
+returns-2 c = search second_space
 
 returns-3 : tie.Need-returns-3
-returns-3 c = search second-hash
+returns-3 c = search second_hash
 
 returns-4 : tie.Need-returns-4
-returns-4 c = search second-bad
+returns-4 c = search second_bad
 
 pub second_spec : {M : Type 1} → statement M
 second_spec =

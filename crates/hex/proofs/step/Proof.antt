@@ -1,7 +1,7 @@
 -- The reading before decides which law holds.
 use mathlib.Core.Path.{refl}
 use borrow.Author.Rules.{rules}
-use Rattle.hex.specs.ReadingLaws.{high_half, comment-ends, comment-lasts}
+use Rattle.hex.specs.ReadingLaws.{high_half, comment_ends, comment_lasts}
 use Rattle.hex.specs.Hex.{next}
 use Rattle.hex.proofs.step.Statement.{statement}
 use Rattle.hex.proofs.step.Tie as tie
@@ -39,10 +39,10 @@ unfolding next
 returns c = rw c.before.enum_told.given.1 c.first.ensures
 
 returns-2 : tie.Need-returns-2
-returns-2 c = rw c.before.enum-told2.given.1 (comment-ends _ c.if1.true)
+returns-2 c = rw c.before.enum-told2.given.1 (comment_ends _ c.if1.true)
 
 returns-3 : tie.Need-returns-3
-returns-3 c = rw c.before.enum-told2.given.1 (comment-lasts _ c.if1.false)
+returns-3 c = rw c.before.enum-told2.given.1 (comment_lasts _ c.if1.false)
 
 returns-4 : tie.Need-returns-4
 unfolding next

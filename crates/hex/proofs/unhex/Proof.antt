@@ -5,8 +5,8 @@ use native.Mathlib.Omega.{arith}
 use borrow.Author.Rules.{rules}
 use lib.ListN.{length}
 use Rattle.hex.specs.Hex.{most}
-use Rattle.hex.specs.HexLaws.{unhexed-long, unhexed-decoded}
-use Rattle.hex.specs.FaultLaws.{faulty-long, faulty-decoded}
+use Rattle.hex.specs.HexLaws.{unhexed_long, unhexed_decoded}
+use Rattle.hex.specs.FaultLaws.{faulty_long, faulty_decoded}
 use Rattle.hex.proofs.unhex.Statement.{statement}
 use Rattle.hex.proofs.unhex.Tie as tie
 
@@ -24,7 +24,7 @@ returns c =
     let appended = c.before.before in
     let text = appended.before.before.before.before.before.before.args.text.now in
     let long : most < length text = omega arith in
-    (rw (unhexed-long text long) appended.append.ensures, sym (faulty-long text long))
+    (rw (unhexed_long text long) appended.append.ensures, sym (faulty_long text long))
 
 decode-requires : tie.Need-decode-requires
 decode-requires c κs = search rules
@@ -37,7 +37,7 @@ returns-2 c =
     let decoded = c.before.before in
     let text = decoded.before.before.before.before.before.args.text.now in
     let fits : length text ≤ most = omega arith in
-    rw (unhexed-decoded text fits, faulty-decoded text fits) decoded.decode.ensures
+    rw (unhexed_decoded text fits, faulty_decoded text fits) decoded.decode.ensures
 
 pub unhex-spec : {M : Type 1} → statement M
 unhex-spec =

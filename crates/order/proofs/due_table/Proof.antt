@@ -6,31 +6,31 @@ use Prim.Native.Nat.{ℕ, ◌*◌, ◌≤◌, ◌<◌}
 use borrow.Author.Rules.{rules}
 use lib.ListN.{length, replicate}
 use Rattle.area.specs.Limits.{width}
-use Rattle.area.specs.Tables.{cell, perRouter}
-use Rattle.order.specs.Order.{dueBy, dueTable}
-use Rattle.order.specs.OrderLaws.{due-many, due-old, due-new, due-of}
+use Rattle.area.specs.Tables.{cell, per_router}
+use Rattle.order.specs.Order.{due_by, due_table}
+use Rattle.order.specs.OrderLaws.{due_many, due_old, due_new, due_of_lem}
 use Rattle.order.proofs.due_table.Statement.{statement}
 use Rattle.order.proofs.due_table.Tie as tie
 
 -- one law for each return
 module _ (n : ℕ) (old new : List ℕ) where
-  many : width < n → replicate width 0 ≡ dueTable n old new
-  many a = sym (due-many n old new a)
+  many : width < n → replicate width 0 ≡ due_table n old new
+  many a = sym (due_many n old new a)
 
-  short-old : length old ≢ width * width → replicate width 0 ≡ dueTable n old new
-  short-old f = sym (due-old n old new f)
+  short-old : length old ≢ width * width → replicate width 0 ≡ due_table n old new
+  short-old f = sym (due_old n old new f)
 
-  short-new : length new ≢ width * width → replicate width 0 ≡ dueTable n old new
-  short-new f = sym (due-new n old new f)
+  short-new : length new ≢ width * width → replicate width 0 ≡ due_table n old new
+  short-new f = sym (due_new n old new f)
 
   found :
       n ≤ width
       → length old ≡ width * width
       → length new ≡ width * width
       → (t : List ℕ)
-      → t ≡ perRouter width n (dueBy n (cell width old) (cell width new))
-      → t ≡ dueTable n old new
-  found a x y t e = e ∙ sym (due-of n old new a x y)
+      → t ≡ per_router width n (due_by n (cell width old) (cell width new))
+      → t ≡ due_table n old new
+  found a x y t e = e ∙ sym (due_of_lem n old new a x y)
 
 returns : tie.Need-returns
 returns c = search many

@@ -7,26 +7,26 @@ use Prim.Native.Nat.{ℕ, ◌*◌, ◌≤◌, ◌<◌}
 use lib.Dec.{eqb}
 use lib.ListN.{length}
 use Rattle.area.specs.Limits.{width}
-use Rattle.order.specs.Order.{isOrderable}
-use Rattle.order.specs.OrderLaws.{orderable-many, orderable-root, orderable-old, orderable-last}
+use Rattle.order.specs.Order.{is_orderable}
+use Rattle.order.specs.OrderLaws.{orderable_many, orderable_root, orderable_old, orderable_last}
 use Rattle.order.proofs.is_orderable.Statement.{statement}
 use Rattle.order.proofs.is_orderable.Tie as tie
 
 -- one law for each return
 module _ (n c : ℕ) (old new : List ℕ) where
-  many : width < n → false ≡ isOrderable n c old new
-  many a = sym (orderable-many n c old new a)
+  many : width < n → false ≡ is_orderable n c old new
+  many a = sym (orderable_many n c old new a)
 
   module _ (a : n ≤ width) where
-    far : width ≤ c → false ≡ isOrderable n c old new
-    far b = sym (orderable-root n c old new a b)
+    far : width ≤ c → false ≡ is_orderable n c old new
+    far b = sym (orderable_root n c old new a b)
 
     module _ (b : c < width) where
-      short : length old ≢ width * width → false ≡ isOrderable n c old new
-      short f = sym (orderable-old n c old new a b f)
+      short : length old ≢ width * width → false ≡ is_orderable n c old new
+      short f = sym (orderable_old n c old new a b f)
 
-      last : length old ≡ width * width → eqb (length new) (width * width) ≡ isOrderable n c old new
-      last e = sym (orderable-last n c old new a b e)
+      last : length old ≡ width * width → eqb (length new) (width * width) ≡ is_orderable n c old new
+      last e = sym (orderable_last n c old new a b e)
 
 returns : tie.Need-returns
 returns c = search many

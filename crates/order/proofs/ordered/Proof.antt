@@ -7,26 +7,26 @@ use native.Mathlib.Omega.{arith}
 use borrow.Author.Rules.{rules}
 use lib.ListN.{get_or}
 use Rattle.area.specs.Limits.{width}
-use Rattle.area.specs.Tables.{cell, perRouter}
-use Rattle.ranks.specs.Rank.{ranksOf}
-use Rattle.ranks.specs.RankLaws.{ranks-in}
-use Rattle.order.specs.Order.{waitingBy, tellingBy, ordered}
-use Rattle.order.proofs.Converse.{converse-of, ranks-of}
+use Rattle.area.specs.Tables.{cell, per_router}
+use Rattle.ranks.specs.Rank.{ranks_of}
+use Rattle.ranks.specs.RankLaws.{ranks_in}
+use Rattle.order.specs.Order.{waiting_by, telling_by, ordered}
+use Rattle.order.proofs.Converse.{converse_of, ranks_of_lem}
 use Rattle.order.proofs.ordered.Statement.{statement}
 use Rattle.order.proofs.ordered.Tie as tie
 
 put-together :
     (n c : ℕ) (rising : Bool) (old new ws ts rs : List ℕ)
     → n ≤ width
-    → ws ≡ perRouter width n (waitingBy n c rising (cell width old) (cell width new))
-    → ts ≡ perRouter width n (tellingBy n (λ s. get_or ws s 0))
-    → rs ≡ ranksOf n ws
+    → ws ≡ per_router width n (waiting_by n c rising (cell width old) (cell width new))
+    → ts ≡ per_router width n (telling_by n (λ s. get_or ws s 0))
+    → rs ≡ ranks_of n ws
     → record { waiting = ws; telling = ts; ranks = rs } ≡ ordered n c rising old new
 unfolding ordered
 put-together n c rising old new ws ts rs most w t r =
-    let waits = waitingBy n c rising (cell width old) (cell width new) in
-    let t-is = t ∙ converse-of width n waits ws most w in
-    let r-is = r ∙ ranks-in n ws most ∙ ranks-of width n waits ws most w in
+    let waits = waiting_by n c rising (cell width old) (cell width new) in
+    let t-is = t ∙ converse_of width n waits ws most w in
+    let r-is = r ∙ ranks_in n ws most ∙ ranks_of_lem width n waits ws most w in
     rw (w, t-is, r-is) refl
 
 waiting-requires : tie.Need-waiting-requires

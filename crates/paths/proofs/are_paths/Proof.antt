@@ -7,26 +7,26 @@ use Prim.Native.Nat.{ℕ, ◌*◌}
 use lib.Dec.{eqb}
 use lib.ListN.{length}
 use Rattle.area.specs.Limits.{width}
-use Rattle.area.specs.SizeLaws.{table-true, table-false, table_is}
-use Rattle.paths.specs.Paths.{arePaths}
+use Rattle.area.specs.SizeLaws.{table_true, table_false, table_is}
+use Rattle.paths.specs.Paths.{are_paths}
 use Rattle.paths.proofs.are_paths.Statement.{statement}
 use Rattle.paths.proofs.are_paths.Tie as tie
 
 -- one law for each return
 module _ (d h f : List ℕ) where
-  short-d : length d ≢ width * width → false ≡ arePaths (record { distances = d; hops = h; fours = f })
-  unfolding arePaths
-  short-d x = rw (table-false d x) refl
+  short-d : length d ≢ width * width → false ≡ are_paths (record { distances = d; hops = h; fours = f })
+  unfolding are_paths
+  short-d x = rw (table_false d x) refl
 
   module _ (pd : length d ≡ width * width) where
-    short-h : length h ≢ width * width → false ≡ arePaths (record { distances = d; hops = h; fours = f })
-    unfolding arePaths
-    short-h x = rw (table-true d pd, table-false h x) refl
+    short-h : length h ≢ width * width → false ≡ are_paths (record { distances = d; hops = h; fours = f })
+    unfolding are_paths
+    short-h x = rw (table_true d pd, table_false h x) refl
 
     module _ (ph : length h ≡ width * width) where
-      last : eqb (length f) (width * width) ≡ arePaths (record { distances = d; hops = h; fours = f })
-      unfolding arePaths
-      last = rw (table-true d pd, table-true h ph, table_is f) refl
+      last : eqb (length f) (width * width) ≡ are_paths (record { distances = d; hops = h; fours = f })
+      unfolding are_paths
+      last = rw (table_true d pd, table_true h ph, table_is f) refl
 
 returns : tie.Need-returns
 returns c = search short-d

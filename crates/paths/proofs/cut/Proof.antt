@@ -4,7 +4,7 @@ use Prim.Native.Nat.{◌-◌, ◌*◌, ◌≤◌}
 use native.Mathlib.Omega.{arith}
 use lib.ListN.{length, get_or, length-set}
 use Rattle.area.specs.Limits.{width}
-use Rattle.area.specs.TableLaws.{Front, front-none, front-more, is-build}
+use Rattle.area.specs.TableLaws.{Front, front_none, front_more, is_build}
 use Rattle.sets.specs.Four.{four}
 use Rattle.paths.proofs.cut.Statement.{statement}
 use Rattle.paths.proofs.cut.Tie as tie
@@ -19,7 +19,7 @@ abbrev decreases-loop : tie.decreases-loop
 decreases-loop hops fours₀ k₀ fours k = width * width - k
 
 loop-holds : tie.Need-loop-init invariant-loop decreases-loop
-loop-holds c = (omega arith, omega arith, front-none _ c.before.before.args.fours.now)
+loop-holds c = (omega arith, omega arith, front_none _ c.before.before.args.fours.now)
 
 mul-four : tie.Need-overflow-mul-four invariant-loop decreases-loop
 mul-four c = omega arith
@@ -45,7 +45,7 @@ loop-less c = omega arith
 loop-again : tie.Need-loop-preserved invariant-loop decreases-loop
 loop-again c =
     let at-loop = c.before.before.before.loop in
-    let more = front-more at-loop.k _ at-loop.fours _ at-loop.invariant.2 (omega arith) c.four.ensures in
+    let more = front_more at-loop.k _ at-loop.fours _ at-loop.invariant.2 (omega arith) c.four.ensures in
     (omega arith, simp length-set at-loop.invariant.1, more)
 
 same_length : tie.Need-same-length invariant-loop decreases-loop
@@ -55,7 +55,7 @@ returns : tie.Need-returns invariant-loop decreases-loop
 returns c =
     let at-loop = c.before.loop in
     let e : at-loop.k ≡ width * width = omega arith in
-    is-build (width * width) _ at-loop.fours at-loop.invariant.1 (rw e at at-loop.invariant.2)
+    is_build (width * width) _ at-loop.fours at-loop.invariant.1 (rw e at at-loop.invariant.2)
 
 pub cut_spec : {M : Type 1} → statement M
 cut_spec =

@@ -6,14 +6,14 @@ use native.Mathlib.Omega.{arith}
 use borrow.Author.Rules.{rules}
 use Rattle.area.specs.Limits.{width}
 use Rattle.area.specs.RowLaws.{lent_length, Rows, rows_none, rows_more, rows_all}
-use Rattle.topology.specs.Cells.{distanceCell, hopCell}
-use Rattle.search.specs.RowsLaws.{sizes-true, distances-row, hops-row}
+use Rattle.topology.specs.Cells.{distance_cell, hop_cell}
+use Rattle.search.specs.RowsLaws.{sizes_true, distances_row, hops_row}
 use Rattle.paths.proofs.fill.Statement.{statement}
 use Rattle.paths.proofs.fill.Tie as tie
 
 abbrev invariant-loop : tie.invariant-loop
 invariant-loop n metric dist₀ hops₀ i₀ dist hops i =
-    (i ≤ width) × Rows width (distanceCell n metric) i dist × Rows width (hopCell n metric) i hops
+    (i ≤ width) × Rows width (distance_cell n metric) i dist × Rows width (hop_cell n metric) i hops
 
 abbrev decreases-loop : tie.decreases-loop
 decreases-loop n metric dist₀ hops₀ i₀ dist hops i = width - i
@@ -74,12 +74,12 @@ loop-again c =
     let l : at.i < width = omega arith in
     let size = lent_length width _ at.invariant.1.size at.i l in
     let size-h = lent_length width _ at.invariant.2.size at.i l in
-    let sizes = sizes-true _ _ _ _ start.requires.0.0 start.requires.0.1 size size-h in
-    let row = turn.ensures.0 ∙ distances-row _ _ _ _ _ sizes in
-    let row-h = turn.ensures.1 ∙ hops-row _ _ _ _ _ sizes in (
+    let sizes = sizes_true _ _ _ _ start.requires.0.0 start.requires.0.1 size size-h in
+    let row = turn.ensures.0 ∙ distances_row _ _ _ _ _ sizes in
+    let row_h = turn.ensures.1 ∙ hops_row _ _ _ _ _ sizes in (
       omega arith,
       rows_more width _ at.i _ at.invariant.1 l last.0 kept.0 row,
-      rows_more width _ at.i _ at.invariant.2 l last.1.0 kept.1.0 row-h,
+      rows_more width _ at.i _ at.invariant.2 l last.1.0 kept.1.0 row_h,
     )
 
 same_length : tie.Need-same-length invariant-loop decreases-loop

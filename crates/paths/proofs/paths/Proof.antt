@@ -13,81 +13,81 @@ use borrow.Author.Rules.{rules}
 use borrow.Author.Tests.{not-true, not-false}
 use lib.ListN.{length, get_or}
 use Rattle.area.specs.Limits.{width}
-use Rattle.area.specs.Refusals.{routerCount, badMetric, tableSize}
+use Rattle.area.specs.Refusals.{router_count, bad_metric, table_size}
 use Rattle.area.specs.Tables.{build, tabulate}
-use Rattle.area.specs.TableLaws.{length-tabulate}
-use Rattle.area.specs.TestLaws.{and-true, and-false}
-use Rattle.area.specs.Sizes.{isRouterCount, isTable}
-use Rattle.area.specs.SizeLaws.{router-count-true, router-count-low, router-count-high, table-true, table-false}
+use Rattle.area.specs.TableLaws.{length_tabulate}
+use Rattle.area.specs.TestLaws.{and_true, and_false}
+use Rattle.area.specs.Sizes.{is_router_count, is_table}
+use Rattle.area.specs.SizeLaws.{router_count_true, router_count_low, router_count_high, table_true, table_false}
 use Rattle.sets.specs.Four.{four}
-use Rattle.topology.specs.Cells.{distanceCell, hopCell}
-use Rattle.paths.specs.Paths.{PathTables, pathsIn, arePaths, areMetrics, pathsRefusal, filledPaths, pathsOf}
-use Rattle.paths.specs.FilledLaws.{fours-mapped}
-use Rattle.paths.specs.PathsLaws.{sized-paths-of}
-use Rattle.paths.specs.PathsLaws.{refused-count, refused-tables, refused-metrics, accepted}
-use Rattle.paths.specs.PathsLaws.{tables-kept, tables-filled}
+use Rattle.topology.specs.Cells.{distance_cell, hop_cell}
+use Rattle.paths.specs.Paths.{PathTables, paths_in, are_paths, are_metrics, paths_refusal, filled_paths, paths_of}
+use Rattle.paths.specs.FilledLaws.{fours_mapped}
+use Rattle.paths.specs.PathsLaws.{sized_paths_of}
+use Rattle.paths.specs.PathsLaws.{refused_count, refused_tables, refused_metrics, accepted}
+use Rattle.paths.specs.PathsLaws.{tables_kept, tables_filled}
 use Rattle.paths.proofs.paths.Statement.{statement}
 use Rattle.paths.proofs.paths.Tie as tie
 
 -- what `fill` and `cut` leave are the tables of the topology
 made :
     (n : ℕ) (m : List ℕ) {d h f : List ℕ}
-    → d ≡ tabulate width (distanceCell n m)
-    → h ≡ tabulate width (hopCell n m)
+    → d ≡ tabulate width (distance_cell n m)
+    → h ≡ tabulate width (hop_cell n m)
     → f ≡ build (width * width) (λ k. four width (get_or h k 0))
-    → record { distances = d; hops = h; fours = f } ≡ filledPaths n m
-unfolding filledPaths
-made n m {d} {h} {f} a b c = rw (a, c ∙ fours-mapped n m h b, b) refl
+    → record { distances = d; hops = h; fours = f } ≡ filled_paths n m
+unfolding filled_paths
+made n m {d} {h} {f} a b c = rw (a, c ∙ fours_mapped n m h b, b) refl
 
 module _ (n : ℕ) (m : List ℕ) (t : PathTables) where
   -- what is owed by a return with the answer k that leaves these tables
   abbrev Owed : (k : ℕ) (left : PathTables) → Type 0
-  Owed k left = (k ≡ pathsRefusal n m t) × (left ≡ pathsOf n m t)
+  Owed k left = (k ≡ paths_refusal n m t) × (left ≡ paths_of n m t)
 
   -- a refusal leaves the tables
-  refuses : (k : ℕ) → 1 ≤ k → pathsRefusal n m t ≡ k → Owed k t
+  refuses : (k : ℕ) → 1 ≤ k → paths_refusal n m t ≡ k → Owed k t
   refuses k l e =
-      let f : pathsRefusal n m t ≢ 0 = λ z. let x : ⊥ = omega arith in x in
-      (sym e, sym (tables-kept n m t f))
+      let f : paths_refusal n m t ≢ 0 = λ z. let x : ⊥ = omega arith in x in
+      (sym e, sym (tables_kept n m t f))
 
-  count : isRouterCount n ≡ false → Owed routerCount t
-  count e = refuses routerCount (omega arith) (refused-count n m t e)
+  count : is_router_count n ≡ false → Owed router_count t
+  count e = refuses router_count (omega arith) (refused_count n m t e)
 
   module _ (some : 1 ≤ n) (most : n ≤ width) where
-    size : (isTable m && arePaths t) ≡ false → Owed tableSize t
-    size e = refuses tableSize (omega arith) (refused-tables n m t (router-count-true n some most) e)
+    size : (is_table m && are_paths t) ≡ false → Owed table_size t
+    size e = refuses table_size (omega arith) (refused_tables n m t (router_count_true n some most) e)
 
-    metrics-size : length m ≢ width * width → Owed tableSize t
-    metrics-size f = size (rw (table-false m f) refl)
+    metrics-size : length m ≢ width * width → Owed table_size t
+    metrics-size f = size (rw (table_false m f) refl)
 
-    paths-size : arePaths t ≡ false → Owed tableSize t
-    paths-size e = size (and-false (isTable m) (arePaths t) e)
+    paths-size : are_paths t ≡ false → Owed table_size t
+    paths-size e = size (and_false (is_table m) (are_paths t) e)
 
-    module _ (m-size : length m ≡ width * width) (sized : arePaths t ≡ true) where
-      sizes : (isTable m && arePaths t) ≡ true
-      sizes = and-true (isTable m) (arePaths t) (table-true m m-size) sized
+    module _ (m-size : length m ≡ width * width) (sized : are_paths t ≡ true) where
+      sizes : (is_table m && are_paths t) ≡ true
+      sizes = and_true (is_table m) (are_paths t) (table_true m m-size) sized
 
-      metric : areMetrics n m ≡ false → Owed badMetric t
-      metric e = refuses badMetric (omega arith) (refused-metrics n m t (router-count-true n some most) sizes e)
+      metric : are_metrics n m ≡ false → Owed bad_metric t
+      metric e = refuses bad_metric (omega arith) (refused_metrics n m t (router_count_true n some most) sizes e)
 
-      filled : areMetrics n m ≡ true → {left : PathTables} → left ≡ filledPaths n m → Owed 0 left
+      filled : are_metrics n m ≡ true → {left : PathTables} → left ≡ filled_paths n m → Owed 0 left
       filled e is =
-          let z = accepted n m t (router-count-true n some most) sizes e in
-          (sym z, is ∙ sym (tables-filled n m t z))
+          let z = accepted n m t (router_count_true n some most) sizes e in
+          (sym z, is ∙ sym (tables_filled n m t z))
 
 -- the tables that were lent
 abbrev lent : tie.Start → PathTables
-lent s = pathsIn s.args.dist s.args.hops s.args.fours
+lent s = paths_in s.args.dist s.args.hops s.args.fours
 
 returns : tie.Need-returns
 returns c =
     let s = c.before.before.before.before.before in
-    count s.args.n s.args.metric.now (lent s) (router-count-low s.args.n c.if1.true)
+    count s.args.n s.args.metric.now (lent s) (router_count_low s.args.n c.if1.true)
 
 returns-2 : tie.Need-returns-2
 returns-2 c =
     let s = c.before.before.before.before.before.before in
-    count s.args.n s.args.metric.now (lent s) (router-count-high s.args.n c.if2.true)
+    count s.args.n s.args.metric.now (lent s) (router_count_high s.args.n c.if2.true)
 
 returns-3 : tie.Need-returns-3
 returns-3 c =
@@ -134,7 +134,7 @@ began c =
 known : (c : tie.Else4)
     → let s = began c in
     (1 ≤ s.args.n) × (s.args.n ≤ width) × (length s.args.metric.now ≡ width * width)
-    × (arePaths (lent s) ≡ true)
+    × (are_paths (lent s) ≡ true)
 known c =
     (omega arith, omega arith, omega arith, sym c.before.are-paths.ensures ∙ not-false _ c.if4.false)
 
@@ -150,16 +150,16 @@ fill-requires : tie.Need-fill-requires
 fill-requires c κs =
     let asked = c.before.before.before.before in
     let k = known asked in
-    let sizes = sized-paths-of (lent (began asked)) k.3 in
+    let sizes = sized_paths_of (lent (began asked)) k.3 in
     ((k.1, k.2), (sizes.distances, sizes.hops))
 
 cut-requires : tie.Need-cut-requires
 cut-requires c κs =
     let asked = c.before.before.before.before.before.before.before.before.before.before.before in
     let k = known asked in
-    let sizes = sized-paths-of (lent (began asked)) k.3 in
+    let sizes = sized_paths_of (lent (began asked)) k.3 in
     let fill = c.before.before.before.before.before.before.fill.ensures in
-    (ap length fill.1 ∙ length-tabulate width (hopCell _ _), sizes.fours)
+    (ap length fill.1 ∙ length_tabulate width (hop_cell _ _), sizes.fours)
 
 same-length-7 : tie.Need-same-length-7
 same-length-7 c = search rules

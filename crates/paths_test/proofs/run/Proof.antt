@@ -7,10 +7,10 @@ use Rattle.paths_test.proofs.run.Statement.{statement}
 use Rattle.paths_test.proofs.run.Tie as tie
 
 abbrev invariant-loop : tie.invariant-loop
-invariant-loop text at₀ at-end at = at ≤ length text
+invariant-loop text at₀ at_end at = at ≤ length text
 
 abbrev decreases-loop : tie.decreases-loop
-decreases-loop text at₀ at-end at = length text - at
+decreases-loop text at₀ at_end at = length text - at
 
 pub run_spec : {M : Type 1} → statement M
 run_spec =

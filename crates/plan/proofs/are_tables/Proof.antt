@@ -8,32 +8,32 @@ use borrow.Author.Rules.{rules}
 use borrow.Author.Tests.{not-true, not-false}
 use lib.ListN.{length}
 use Rattle.area.specs.Limits.{width}
-use Rattle.area.specs.SizeLaws.{table-true, table-false}
-use Rattle.paths.specs.Paths.{PathTables, arePaths}
-use Rattle.plan.specs.Plan.{areTables}
+use Rattle.area.specs.SizeLaws.{table_true, table_false}
+use Rattle.paths.specs.Paths.{PathTables, are_paths}
+use Rattle.plan.specs.Plan.{are_tables}
 use Rattle.plan.proofs.are_tables.Statement.{statement}
 use Rattle.plan.proofs.are_tables.Tie as tie
 
 -- one law for each return
 module _ (m a : List ℕ) (o p : PathTables) where
-  short-m : length m ≢ width * width → false ≡ areTables m (record { metrics = a; old = o; new = p })
-  unfolding areTables
-  short-m f = rw (table-false m f) refl
+  short-m : length m ≢ width * width → false ≡ are_tables m (record { metrics = a; old = o; new = p })
+  unfolding are_tables
+  short-m f = rw (table_false m f) refl
 
   module _ (pm : length m ≡ width * width) where
-    short-new : length a ≢ width * width → false ≡ areTables m (record { metrics = a; old = o; new = p })
-    unfolding areTables
-    short-new f = rw (table-true m pm, table-false a f) refl
+    short-new : length a ≢ width * width → false ≡ are_tables m (record { metrics = a; old = o; new = p })
+    unfolding are_tables
+    short-new f = rw (table_true m pm, table_false a f) refl
 
-    module _ (pa : length a ≡ width * width) (ok : Bool) (told : ok ≡ arePaths o) where
-      short-old-paths : not ok ≡ true → false ≡ areTables m (record { metrics = a; old = o; new = p })
-      unfolding areTables
-      short-old-paths f = rw (table-true m pm, table-true a pa, sym told ∙ not-true ok f) refl
+    module _ (pa : length a ≡ width * width) (ok : Bool) (told : ok ≡ are_paths o) where
+      short-old-paths : not ok ≡ true → false ≡ are_tables m (record { metrics = a; old = o; new = p })
+      unfolding are_tables
+      short-old-paths f = rw (table_true m pm, table_true a pa, sym told ∙ not-true ok f) refl
 
       module _ (t : not ok ≡ false) where
-        last : (r : Bool) → r ≡ arePaths p → r ≡ areTables m (record { metrics = a; old = o; new = p })
-        unfolding areTables
-        last r e = rw (table-true m pm, table-true a pa, sym told ∙ not-false ok t) e
+        last : (r : Bool) → r ≡ are_paths p → r ≡ are_tables m (record { metrics = a; old = o; new = p })
+        unfolding are_tables
+        last r e = rw (table_true m pm, table_true a pa, sym told ∙ not-false ok t) e
 
 returns : tie.Need-returns
 returns c = search short-m

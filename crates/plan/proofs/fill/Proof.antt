@@ -2,8 +2,8 @@
 use mathlib.Core.Path.{◌∙◌}
 use native.Mathlib.Omega.{arith}
 use borrow.Author.Rules.{rules}
-use Rattle.plan.specs.FreshLaws.{plan-root}
-use Rattle.plan.proofs.Recording.{fresh-is}
+use Rattle.plan.specs.FreshLaws.{plan_root}
+use Rattle.plan.proofs.Recording.{fresh_is}
 use Rattle.plan.proofs.fill.Statement.{statement}
 use Rattle.plan.proofs.fill.Tie as tie
 
@@ -18,7 +18,7 @@ fresh-requires c κs =
     let start = asked.before.before.before.before.before.before.before.before in
     let a = start.args in
     let p = start.requires.0 in
-    let c-in = plan-root a.n a.old.now a.list.now p in
+    let c-in = plan_root a.n a.old.now a.list.now p in
     (p.ready.most, omega (arith, c-in, p.ready.most, start.requires.1.0.0))
 
 same_length : tie.Need-same-length
@@ -51,10 +51,10 @@ returns c =
     let a = start.args in
     let p = start.requires.0 in
     let filled = done.topologies.ensures in
-    let root_in = plan-root a.n a.old.now a.list.now p in
+    let root_in = plan_root a.n a.old.now a.list.now p in
     let judged = start.requires.1.0 in (
       c.fresh.ensures
-          ∙ fresh-is a.n a.hold-time a.step-time a.old.now a.list.now p.ready.most root_in
+          ∙ fresh_is a.n a.hold-time a.step-time a.old.now a.list.now p.ready.most root_in
           a.c a.rising _
           judged.0 judged.1 filled,
       filled,

@@ -7,7 +7,7 @@ use Prim.Native.Nat.{ℕ}
 use borrow.Author.Rules.{rules}
 use Rattle.area.specs.Tests.{pick}
 use Rattle.order.specs.declared.Order.{Order}
-use Rattle.order.specs.Order.{order_of, dueTable}
+use Rattle.order.specs.Order.{order_of, due_table}
 use Rattle.plan.specs.Plan.{zeros}
 use Rattle.plan.specs.Parts.{started}
 use Rattle.plan.proofs.fresh.Statement.{statement}
@@ -51,10 +51,10 @@ due-table-requires c κs = search rules
 returns : tie.Need-returns
 returns c =
     let way = c.before.before.before.before in
-    let made = way.before.order-of in
+    let made = way.before.order_of_lem in
     let a = way.before.before.before.before.before.before.args in
-    let order = order_of a.n a.root a.rising a.old-hops.now a.new-hops.now in
-    let due = dueTable a.n a.old-fours.now a.new-fours.now in
+    let order = order_of a.n a.root a.rising a.old_hops_lem.now a.new_hops_lem.now in
+    let due = due_table a.n a.old-fours.now a.new-fours.now in
     started-is a.n a.hold-time a.step-time a.root way.if1.t22 a.rising made.result order
     c.due-table.result due
     made.ensures c.due-table.ensures

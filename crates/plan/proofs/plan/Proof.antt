@@ -10,36 +10,36 @@ use borrow.Author.Rules.{rules}
 use borrow.Author.Tests.{eqb-true, eqb-false, not-true, not-false}
 use lib.Dec.{eqb}
 use Rattle.area.specs.declared.refusal.Verdict.{Verdict}
-use Rattle.area.specs.Refusals.{verdictNumber}
-use Rattle.plan.specs.Plan.{Tables, tablesIn, areTables, planRefusal, isPlanned}
-use Rattle.plan.specs.PlanLaws.{sized_of, planned-is, planned-true, planned-false}
-use Rattle.plan.specs.PlanLaws.{record-planned, record-refused, tables-planned, tables-refused}
+use Rattle.area.specs.Refusals.{verdict_number}
+use Rattle.plan.specs.Plan.{Tables, tables_in, are_tables, plan_refusal, is_planned}
+use Rattle.plan.specs.PlanLaws.{sized_of, planned_is, planned_true, planned_false}
+use Rattle.plan.specs.PlanLaws.{record_planned, record_refused, tables_planned, tables_refused}
 use Rattle.plan.proofs.plan.Statement.{statement}
 use Rattle.plan.proofs.plan.Tie as tie
 
 -- what the calls before a return say of the input
 module _
-    (n s : ℕ) (m l : List ℕ) (t : Tables) (sized : Bool) (told : sized ≡ areTables m t)
-    (v : Verdict) (judged : verdictNumber v ≡ planRefusal n s m l sized) (ok : Bool) (is : ok ≡ eqb (verdictNumber v) 0)
+    (n s : ℕ) (m l : List ℕ) (t : Tables) (sized : Bool) (told : sized ≡ are_tables m t)
+    (v : Verdict) (judged : verdict_number v ≡ plan_refusal n s m l sized) (ok : Bool) (is : ok ≡ eqb (verdict_number v) 0)
   where
-    answered : verdictNumber v ≡ planRefusal n s m l (areTables m t)
-    answered = judged ∙ ap (planRefusal n s m l) told
+    answered : verdict_number v ≡ plan_refusal n s m l (are_tables m t)
+    answered = judged ∙ ap (plan_refusal n s m l) told
 
-    refused : not ok ≡ true → isPlanned n s m l t ≡ false
-    refused h = planned-false n s m l t (λ z. eqb-false (verdictNumber v) 0 (sym is ∙ not-true ok h) (answered ∙ z))
+    refused : not ok ≡ true → is_planned n s m l t ≡ false
+    refused h = planned_false n s m l t (λ z. eqb-false (verdict_number v) 0 (sym is ∙ not-true ok h) (answered ∙ z))
 
     module _ (h : not ok ≡ false) where
-      none : planRefusal n s m l sized ≡ 0
-      none = sym judged ∙ eqb-true (verdictNumber v) 0 (sym is ∙ not-false ok h)
+      none : plan_refusal n s m l sized ≡ 0
+      none = sym judged ∙ eqb-true (verdict_number v) 0 (sym is ∙ not-false ok h)
 
-      planned : isPlanned n s m l t ≡ true
-      planned = planned-true n s m l t (ap (planRefusal n s m l) (sym told) ∙ none)
+      planned : is_planned n s m l t ≡ true
+      planned = planned_true n s m l t (ap (plan_refusal n s m l) (sym told) ∙ none)
 
 -- the tables that were lent
 abbrev lent : tie.Start → Tables
 lent s =
     let a = s.args in
-    tablesIn a.new a.old-dist a.old-hops a.old-fours a.new-dist a.new-hops a.new-fours
+    tables_in a.new a.old-dist a.old_hops_lem a.old-fours a.new-dist a.new_hops_lem a.new-fours
 
 are-tables-requires : tie.Need-are-tables-requires
 are-tables-requires c κs = search rules
@@ -96,7 +96,7 @@ returns c =
     let is-refused = refused n s m l t sized.result sized.ensures judged.result.answer judged.ensures.0 in
     let no = is-refused accepted.result accepted.ensures at.if1.true in (
       told accepted.result accepted.ensures,
-      (c.blank.ensures ∙ sym (record-refused n h s m l t no), sym (tables-refused n s m l t no)),
+      (c.blank.ensures ∙ sym (record_refused n h s m l t no), sym (tables_refused n s m l t no)),
     )
 
 fill-requires : tie.Need-fill-requires
@@ -116,7 +116,7 @@ fill-requires c κs =
     let t = lent start in
     let zero = none n s m l t sized.result sized.ensures judged.result.answer judged.ensures.0 in
     let yes = planned n s m l t sized.result sized.ensures judged.result.answer judged.ensures.0 in
-    let known = (planned-is n s m l t).0 (yes accepted.result accepted.ensures at.if1.false) in
+    let known = (planned_is n s m l t).0 (yes accepted.result accepted.ensures at.if1.false) in
     let found = judged.ensures.1 (zero accepted.result accepted.ensures at.if1.false) in
     (known.2, (found, sized_of m t known.0))
 
@@ -163,7 +163,7 @@ returns-2 c =
     let yes = is-planned accepted.result accepted.ensures at.if1.false in
     let made = filled.fill.ensures in (
       told accepted.result accepted.ensures,
-      (made.0 ∙ sym (record-planned n h s m l t yes), made.1 ∙ sym (tables-planned n s m l t yes)),
+      (made.0 ∙ sym (record_planned n h s m l t yes), made.1 ∙ sym (tables_planned n s m l t yes)),
     )
 
 pub plan-spec : {M : Type 1} → statement M

@@ -3,7 +3,7 @@
 use Prim.Native.Nat.{ℕ, ◌<◌}
 use borrow.Author.Rules.{rules}
 use lib.ListN.{get_or}
-use Rattle.paths.specs.Paths.{pathsIn}
+use Rattle.paths.specs.Paths.{paths_in}
 use Rattle.plan.proofs.Filling.{filled_is}
 use Rattle.plan.proofs.topologies.Statement.{statement}
 use Rattle.plan.proofs.topologies.Tie as tie
@@ -46,8 +46,8 @@ returns c =
     let lists = changed.before.before.before.before.before.before.before.before.before in
     let start = lists.before.before in
     let a = start.args in
-    let old = pathsIn a.old-dist a.old-hops a.old-fours in
-    let new = pathsIn a.new-dist a.new-hops a.new-fours in
+    let old = paths_in a.old-dist a.old_hops_lem a.old-fours in
+    let new = paths_in a.new-dist a.new_hops_lem a.new-fours in
     let z = start.requires.1 in
     let bytes : (k : ℕ) → get_or a.list.now k 0 < 256 = λ k. (lists.shared-slice-known2.given k).fits in
     filled_is a.n a.old.now a.list.now start.requires.0 bytes old new z.old z.new _ _ _

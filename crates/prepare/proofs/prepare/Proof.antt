@@ -1,10 +1,10 @@
 -- What Read gives is what Plan gets: the contents, the table and the part of the file with the changes. So the laws
--- refusal-given, record-given and tables-given (BenchLaws) say what both answers come to.
+-- refusal_given, record_given and tables_given (BenchLaws) say what both answers come to.
 use mathlib.Core.Path.{ap, ◌∙◌}
 use borrow.Author.Rules.{rules}
-use Rattle.plan.specs.Plan.{tablesIn}
+use Rattle.plan.specs.Plan.{tables_in}
 use Rattle.bench_file.specs.declared.Contents.{Contents}
-use Rattle.prepare.specs.BenchLaws.{changes-within, refusal-given, record-given, tables-given}
+use Rattle.prepare.specs.BenchLaws.{changes_within, refusal_given, record_given, tables_given}
 use Rattle.prepare.proofs.prepare.Statement.{statement}
 use Rattle.prepare.proofs.prepare.Tie as tie
 
@@ -15,7 +15,7 @@ changes-requires : tie.Need-changes-requires
 changes-requires c κs =
     let read = c.before.before.before in
     let a = read.before.before.before.before.before.before.before.before.before.before.before.args in
-    changes-within a.file.now a.old.now read.read.result.contents read.read.ensures.1.0
+    changes_within a.file.now a.old.now read.read.result.contents read.read.ensures.1.0
 
 plan-requires : tie.Need-plan-requires
 plan-requires c κs = search rules
@@ -66,13 +66,13 @@ returns c =
     let f = a.file.now in
     let m = a.old.now in
     let t =
-    tablesIn a.new a.old-dist a.old-hops a.old-fours a.new-dist a.new-hops a.new-fours in
+    tables_in a.new a.old-dist a.old_hops_lem a.old-fours a.new-dist a.new_hops_lem a.new-fours in
     let contents = read.result.contents in
     let answer =
-    refusal-given f m t contents said _ old _ list read.ensures.0 plan.ensures.0 both.ensures.0 in
-    let record_is = both.ensures.1.0 ∙ record-given f m t contents said _ old _ list plan.ensures.1.0 in
+    refusal_given f m t contents said _ old _ list read.ensures.0 plan.ensures.0 both.ensures.0 in
+    let record_is = both.ensures.1.0 ∙ record_given f m t contents said _ old _ list plan.ensures.1.0 in
     let steps = both.ensures.1.1 ∙ ap (λ (x : Contents). x.steps) said in
-    let tables = tables-given f m t contents said _ old _ list plan.ensures.1.1 in
+    let tables = tables_given f m t contents said _ old _ list plan.ensures.1.1 in
     (answer, (record_is, (steps, (old, tables))))
 
 pub prepare-spec : {M : Type 1} → statement M

@@ -1,7 +1,7 @@
 -- The first refusal is that of Read, and else that of Plan.
 use mathlib.Core.Path.{refl, ap₂, ◌∙◌}
 use borrow.Author.Rules.{rules}
-use Rattle.area.specs.Tests.{orThen}
+use Rattle.area.specs.Tests.{or_then}
 use Rattle.prepare.proofs.started.Statement.{statement}
 use Rattle.prepare.proofs.started.Tie as tie
 
@@ -16,7 +16,7 @@ first-requires c κs = search rules
 
 returns : tie.Need-returns
 returns c =
-    let both = ap₂ orThen c.before.before.number.ensures c.before.number2.ensures in
+    let both = ap₂ or_then c.before.before.number.ensures c.before.number2.ensures in
     (c.first.ensures ∙ both, (refl, refl))
 
 pub started-spec : {M : Type 1} → statement M

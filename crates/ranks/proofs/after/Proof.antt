@@ -7,9 +7,9 @@ use native.Mathlib.Omega.{arith}
 use lib.ListN.{get_or}
 use Rattle.area.specs.Limits.{width}
 use Rattle.sets.specs.Sets.{bit}
-use Rattle.sets.specs.VisitLaws.{Visited, visit-start, visit-next, visit-end, visit-member, visit-less}
+use Rattle.sets.specs.VisitLaws.{Visited, visit_start, visit_next, visit_end, visit_member, visit_less}
 use Rattle.ranks.specs.Rank.{above}
-use Rattle.ranks.specs.RankLaws.{above-le, above-least}
+use Rattle.ranks.specs.RankLaws.{above_le, above_least}
 use Rattle.ranks.proofs.after.Statement.{statement}
 use Rattle.ranks.proofs.after.Tie as tie
 
@@ -22,7 +22,7 @@ abbrev decreases-loop : tie.decreases-loop
 decreases-loop n set ranks most₀ left₀ most left = left
 
 loop-holds : tie.Need-loop-init invariant-loop decreases-loop
-loop-holds c = (visit-start width c.args.set _ c.ranges.set.fits, omega arith)
+loop-holds c = (visit_start width c.args.set _ c.ranges.set.fits, omega arith)
 
 lowest-requires : tie.Need-lowest-requires invariant-loop decreases-loop
 lowest-requires c κs = omega arith
@@ -42,7 +42,7 @@ rest-requires c κs = omega arith
 loop-less : tie.Need-loop-smaller invariant-loop decreases-loop
 loop-less c =
     let at-loop = c.before.before.before.before.loop in
-    visit-less width at-loop.left _ at-loop.invariant.0.fits c.before.before.before.loop-test.true
+    visit_less width at-loop.left _ at-loop.invariant.0.fits c.before.before.before.loop-test.true
     c.rest.ensures
 
 loop-again : tie.Need-loop-preserved invariant-loop decreases-loop
@@ -56,19 +56,19 @@ loop-again c =
     let f : ℕ → ℕ = λ k. get_or a.ranks.now k 0 in
     let most = c.before.if1.most in
     let in-set : bit a.set s ≡ true =
-    v.part s (visit-member width at-loop.loop.left s v.fits some is).1 in
+    v.part s (visit_member width at-loop.loop.left s v.fits some is).1 in
     let step : (at-loop.loop.most ≤ most) × (s < a.n → f s < most) × (most ≤ above a.n a.set f) =
     ⊎_elim
     (λ w. (
       omega (arith, w.2.taken, w.3),
       λ h. omega (arith, w.3),
-      omega (arith, w.3, above-le a.n a.set f s w.0.taken in-set),
+      omega (arith, w.3, above_le a.n a.set f s w.0.taken in-set),
     ))
     (⊎_elim
     (λ w. (omega (arith, w.3), λ h. omega (arith, w.2.left, w.3), omega (arith, w.3, at-loop.loop.invariant.1)))
     (λ w. (omega (arith, w.1), λ h. omega (arith, w.0.left), omega (arith, w.1, at-loop.loop.invariant.1))))
     c.before.if1.branch in (
-      visit-next _ s _ v some is c.rest.ensures (λ k l h. omega (arith, l h, step.0)) step.1,
+      visit_next _ s _ v some is c.rest.ensures (λ k l h. omega (arith, l h, step.0)) step.1,
       step.2,
     )
 
@@ -81,7 +81,7 @@ returns c =
     omega (
       arith,
       at-loop.loop.invariant.1,
-      above-least a.n a.set f at-loop.loop.most (λ k h e. visit-end v c.loop-test.false k e h),
+      above_least a.n a.set f at-loop.loop.most (λ k h e. visit_end v c.loop-test.false k e h),
     )
 
 pub after-spec : {M : Type 1} → statement M

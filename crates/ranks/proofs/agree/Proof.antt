@@ -7,7 +7,7 @@ use borrow.Author.Count.{below_none, below_more}
 use borrow.Author.Tests.{eq-eqb, ne_eqb}
 use lib.Dec.{eqb}
 use lib.ListN.{get_or}
-use Rattle.area.specs.TestLaws.{all_true, all-false}
+use Rattle.area.specs.TestLaws.{all_true, all_false}
 use Rattle.ranks.proofs.agree.Statement.{statement}
 use Rattle.ranks.proofs.agree.Tie as tie
 
@@ -31,7 +31,7 @@ returns c =
     let at-loop = c.before.before.before.before in
     let args = at-loop.before.args in
     let same : ℕ → Bool = λ k. eqb (get_or args.a.now k 0) (get_or args.b.now k 0) in
-    sym (all-false args.n same at-loop.loop.s (omega arith) (ne_eqb _ _ c.if1.true))
+    sym (all_false args.n same at-loop.loop.s (omega arith) (ne_eqb _ _ c.if1.true))
 
 add-s : tie.Need-overflow-add-s invariant-loop decreases-loop
 add-s c = omega arith

@@ -6,9 +6,9 @@ use borrow.Author.Tests.{eqb-true}
 use lib.Dec.{eqb}
 use lib.ListN.{get_or}
 use Rattle.area.specs.Limits.{width}
-use Rattle.area.specs.TestLaws.{all-at}
+use Rattle.area.specs.TestLaws.{all_at}
 use Rattle.ranks.specs.Rank.{rank}
-use Rattle.ranks.proofs.Rounds.{Made, made_none, made-le, made_more, made-stays}
+use Rattle.ranks.proofs.Rounds.{Made, made_none, made_le, made_more, made_stays}
 use Rattle.ranks.proofs.by_rounds.Statement.{statement}
 use Rattle.ranks.proofs.by_rounds.Tie as tie
 
@@ -27,7 +27,7 @@ longer-requires c κs =
     let at-loop = c.before.before.loop in
     let a = c.before.before.before.args in
     let w : ℕ → ℕ = λ r. get_or a.waiting.now r 0 in
-    let low = made-le width a.n w (omega arith) (at-loop.h - 1) at-loop.ranks at-loop.invariant.2 in
+    let low = made_le width a.n w (omega arith) (at-loop.h - 1) at-loop.ranks at-loop.invariant.2 in
     (omega arith, λ s l. omega (arith, low s l))
 
 agree-requires : tie.Need-agree-requires invariant-loop decreases-loop
@@ -41,9 +41,9 @@ returns c =
     let a = turn.before.before.before.before.args in
     let next = turn.longer.result in
     let agreed = sym c.before.agree.ensures ∙ c.if1.true in
-    let same = all-at a.n (λ s. eqb (get_or at-loop.ranks s 0) (get_or next s 0)) agreed in
+    let same = all_at a.n (λ s. eqb (get_or at-loop.ranks s 0) (get_or next s 0)) agreed in
     let w : ℕ → ℕ = λ r. get_or a.waiting.now r 0 in
-    made-stays width a.n w (omega arith) (at-loop.h - 1) at-loop.ranks at-loop.invariant.2 next
+    made_stays width a.n w (omega arith) (at-loop.h - 1) at-loop.ranks at-loop.invariant.2 next
     turn.longer.ensures (λ s l. eqb-true _ _ (same s l)) (a.n - 1) (omega arith)
 
 add-h : tie.Need-overflow-add-h invariant-loop decreases-loop

@@ -4,7 +4,7 @@ use Prim.Native.Nat.{◌-◌, ◌≤◌}
 use native.Mathlib.Omega.{arith}
 use lib.ListN.{get_or}
 use Rattle.area.specs.Limits.{width}
-use Rattle.area.specs.PerRouterLaws.{Filled, filled_none, filled_more, filled-all}
+use Rattle.area.specs.PerRouterLaws.{Filled, filled_none, filled_more, filled_all}
 use Rattle.ranks.specs.Rank.{above}
 use Rattle.ranks.proofs.longer.Statement.{statement}
 use Rattle.ranks.proofs.longer.Tie as tie
@@ -46,7 +46,7 @@ returns : tie.Need-returns invariant-loop decreases-loop
 returns c =
     let at-loop = c.before.loop in
     let e : at-loop.r ≡ c.before.before.args.n = omega arith in
-    filled-all width _ _ at-loop.out (rw e at at-loop.invariant.1)
+    filled_all width _ _ at-loop.out (rw e at at-loop.invariant.1)
 
 pub longer-spec : {M : Type 1} → statement M
 longer-spec =

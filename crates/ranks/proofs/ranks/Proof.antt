@@ -5,22 +5,22 @@ use Prim.Native.Nat.{ℕ, ◌≤◌, ◌<◌}
 use native.Mathlib.Omega.{arith}
 use lib.ListN.{get_or, replicate}
 use Rattle.area.specs.Limits.{width}
-use Rattle.area.specs.Tables.{perRouter}
-use Rattle.ranks.specs.Rank.{rank, ranksOf}
-use Rattle.ranks.specs.RankLaws.{ranks-in, ranks-beyond}
+use Rattle.area.specs.Tables.{per_router}
+use Rattle.ranks.specs.Rank.{rank, ranks_of}
+use Rattle.ranks.specs.RankLaws.{ranks_in, ranks_beyond}
 use Rattle.ranks.proofs.ranks.Statement.{statement}
 use Rattle.ranks.proofs.ranks.Tie as tie
 
 -- one law for each return
 module _ (n : ℕ) (waiting : List ℕ) where
-  many : width < n → replicate width 0 ≡ ranksOf n waiting
-  many a = sym (ranks-beyond n waiting a)
+  many : width < n → replicate width 0 ≡ ranks_of n waiting
+  many a = sym (ranks_beyond n waiting a)
 
   few :
       n ≤ width → (t : List ℕ)
-      → t ≡ perRouter width n (rank n (λ r. get_or waiting r 0))
-      → t ≡ ranksOf n waiting
-  few a t e = e ∙ sym (ranks-in n waiting a)
+      → t ≡ per_router width n (rank n (λ r. get_or waiting r 0))
+      → t ≡ ranks_of n waiting
+  few a t e = e ∙ sym (ranks_in n waiting a)
 
 returns : tie.Need-returns
 returns c = search many

@@ -1,14 +1,14 @@
--- The output buffer has room for the whole text (rehearsal-room), and what was read of the input decides it
--- (text-first).
+-- The output buffer has room for the whole text (rehearsal_room_lem), and what was read of the input decides it
+-- (text_first).
 use native.Mathlib.Omega.{arith}
 use borrow.Author.Rules.{rules}
 use lib.ListN.{length}
-use Rattle.plan.specs.Plan.{tablesIn}
+use Rattle.plan.specs.Plan.{tables_in}
 use Rattle.report.specs.Report.{rehearsal}
 use Rattle.report.specs.declared.Text.TheVariants.{Rehearsal}
-use Rattle.report.specs.RoomLaws.{rehearsal-room}
-use Rattle.report.specs.FirstBytesLaws.{text-first}
-use Rattle.streams.specs.StreamLaws.{whole-text}
+use Rattle.report.specs.RoomLaws.{rehearsal_room_lem}
+use Rattle.report.specs.FirstBytesLaws.{text_first}
+use Rattle.streams.specs.StreamLaws.{whole_text_lem}
 use Rattle.rehearse.proofs.whole.Statement.{statement}
 use Rattle.rehearse.proofs.whole.Tie as tie
 
@@ -44,18 +44,18 @@ same-length-8 c = search rules
 
 returns : tie.Need-returns
 returns c =
-    let at-end = c.before.before.before.before.before.before.before.before in
-    let called = at-end.before.before.before.before.before.before.before.before in
+    let at_end = c.before.before.before.before.before.before.before.before in
+    let called = at_end.before.before.before.before.before.before.before.before in
     let lent = called.before.before.before.before.before.before.before.before.before.before.before in
     let start = lent.before.before.before.before.before.before.before.before.before in
     let a = start.args in
     let file = a.file.now in
     let m = a.old.now in
     let t =
-    tablesIn a.new a.old-dist a.old-hops a.old-fours a.new-dist a.new-hops a.new-fours in
-    whole-text (λ f. rehearsal f m t) file a.count called.print.ensures.0
-    (λ f. omega (arith, rehearsal-room f m t))
-    (λ f. text-first f m t (length file) (omega arith) Rehearsal)
+    tables_in a.new a.old-dist a.old_hops_lem a.old-fours a.new-dist a.new_hops_lem a.new-fours in
+    whole_text_lem (λ f. rehearsal f m t) file a.count called.print.ensures.0
+    (λ f. omega (arith, rehearsal_room_lem f m t))
+    (λ f. text_first f m t (length file) (omega arith) Rehearsal)
 
 pub whole-spec : {M : Type 1} → statement M
 whole-spec =

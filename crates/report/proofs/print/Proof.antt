@@ -1,6 +1,6 @@
 -- What is printed is what the file gives, and the tables are left as `prepare` leaves them.
 use borrow.Author.Rules.{rules}
-use Rattle.report.specs.ReportLaws.{ready, text-printed}
+use Rattle.report.specs.ReportLaws.{ready, text_printed}
 use Rattle.report.proofs.print.Statement.{statement}
 use Rattle.report.proofs.print.Tie as tie
 
@@ -41,7 +41,7 @@ same-length-9 : tie.Need-same-length-9
 same-length-9 c = search rules
 
 returns : tie.Need-returns
-returns c = (search text-printed, (search rules, search rules))
+returns c = (search text_printed, (search rules, search rules))
 
 pub print-spec : {M : Type 1} → statement M
 print-spec =

@@ -2,7 +2,7 @@
 use mathlib.Core.Path.{◌≡◌}
 use native.Mathlib.Omega.{arith}
 use borrow.Author.Rules.{rules}
-use Rattle.report.specs.ReportLaws.{refused-printed, lines-printed}
+use Rattle.report.specs.ReportLaws.{refused_printed, lines_printed}
 use Rattle.report.proofs.printed.Statement.{statement}
 use Rattle.report.proofs.printed.Tie as tie
 
@@ -13,7 +13,7 @@ same_length : tie.Need-same-length
 same_length c = search rules
 
 returns : tie.Need-returns
-returns c = refused-printed _ _ (λ z. omega arith) c.before.before.refused-line.ensures
+returns c = refused_printed _ _ (λ z. omega arith) c.before.before.refused-line.ensures
 
 step-bytes-requires : tie.Need-step-bytes-requires
 step-bytes-requires c κs =
@@ -33,11 +33,11 @@ same-length-2 c = search rules
 
 returns-2 : tie.Need-returns-2
 returns-2 c =
-    let lines = c.before.before.text-lines in
+    let lines = c.before.before.text_lines in
     let section = c.before.before.before.before in
     let start = section.before.before.before.before.before.before.before.before.before.before.before in
     let z : start.args.start.refusal ≡ 0 = omega arith in
-    lines-printed _ _ z (rw section.step-bytes.ensures at lines.ensures)
+    lines_printed _ _ z (rw section.step-bytes.ensures at lines.ensures)
 
 pub printed-spec : {M : Type 1} → statement M
 printed-spec =

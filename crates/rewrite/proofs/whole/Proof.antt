@@ -1,11 +1,11 @@
--- The output buffer has room for all that is written (written-room), and what was read of the input decides it
--- (written-first).
+-- The output buffer has room for all that is written (written_room), and what was read of the input decides it
+-- (written_first).
 use native.Mathlib.Omega.{arith}
 use borrow.Author.Rules.{rules}
 use lib.ListN.{length}
 use Rattle.rewriting.specs.Rewriting.{written}
-use Rattle.rewriting.specs.RewritingLaws.{written-first, written-room}
-use Rattle.streams.specs.StreamLaws.{whole-text}
+use Rattle.rewriting.specs.RewritingLaws.{written_first, written_room}
+use Rattle.streams.specs.StreamLaws.{whole_text_lem}
 use Rattle.rewrite.proofs.whole.Statement.{statement}
 use Rattle.rewrite.proofs.whole.Tie as tie
 
@@ -23,9 +23,9 @@ returns c =
     let called = c.before.before in
     let a = called.before.before.before.before.before.args in
     let file = a.file.now in
-    whole-text written file a.count called.rewrite.ensures
-    (λ f. omega (arith, written-room f))
-    (λ f. written-first f (length file) (omega arith))
+    whole_text_lem written file a.count called.rewrite.ensures
+    (λ f. omega (arith, written_room f))
+    (λ f. written_first f (length file) (omega arith))
 
 pub whole-spec : {M : Type 1} → statement M
 whole-spec = tie.close (tie.spec slice-aggregate-rewrite rewrite-requires same_length returns)

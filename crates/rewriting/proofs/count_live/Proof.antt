@@ -9,21 +9,21 @@ use borrow.Author.Tests.{eq-eqb, ne_eqb}
 use Rattle.area.specs.Limits.{unused}
 use Rattle.entries.specs.declared.Entry.{Entry}
 use Rattle.entries.specs.Entries.{entry_of, metric}
-use Rattle.entries.specs.EntryLaws.{read-metric}
-use Rattle.rewriting.specs.Live.{liveCount}
-use Rattle.rewriting.specs.LiveLaws.{count_none, count_kept, count-dropped}
+use Rattle.entries.specs.EntryLaws.{read_metric}
+use Rattle.rewriting.specs.Live.{live_count}
+use Rattle.rewriting.specs.LiveLaws.{count_none, count_kept, count_dropped}
 use Rattle.rewriting.proofs.count_live.Statement.{statement}
 use Rattle.rewriting.proofs.count_live.Tie as tie
 
-module _ (l : List ℕ) (e c : ℕ) (is : c ≡ liveCount l e) (x : Entry) (read : x ≡ entry_of l e) where
-  more : x.metric ≢ unused → c + 1 ≡ liveCount l (e + 1)
-  more m = count_kept l e c is (ne_eqb (metric l e) unused (λ q. m (read-metric read ∙ q)))
+module _ (l : List ℕ) (e c : ℕ) (is : c ≡ live_count l e) (x : Entry) (read : x ≡ entry_of l e) where
+  more : x.metric ≢ unused → c + 1 ≡ live_count l (e + 1)
+  more m = count_kept l e c is (ne_eqb (metric l e) unused (λ q. m (read_metric read ∙ q)))
 
-  less : x.metric ≡ unused → c ≡ liveCount l (e + 1)
-  less m = count-dropped l e c is (eq-eqb (metric l e) unused (sym (read-metric read) ∙ m))
+  less : x.metric ≡ unused → c ≡ live_count l (e + 1)
+  less m = count_dropped l e c is (eq-eqb (metric l e) unused (sym (read_metric read) ∙ m))
 
 abbrev invariant-loop : tie.invariant-loop
-invariant-loop list k kept₀ e₀ kept e = (e ≤ k) × (kept ≡ liveCount list e) × (kept ≤ e)
+invariant-loop list k kept₀ e₀ kept e = (e ≤ k) × (kept ≡ live_count list e) × (kept ≤ e)
 
 abbrev decreases-loop : tie.decreases-loop
 decreases-loop list k kept₀ e₀ kept e = k - e

@@ -11,25 +11,25 @@ use lib.ListN.{length, take, drop}
 use Rattle.area.specs.Limits.{unused}
 use Rattle.entries.specs.declared.Entry.{Entry}
 use Rattle.entries.specs.Entries.{entry_of, metric}
-use Rattle.entries.specs.EntryLaws.{read-metric}
+use Rattle.entries.specs.EntryLaws.{read_metric}
 use Rattle.text.specs.Text.{Appended}
-use Rattle.text.specs.TextLaws.{appended-none}
-use Rattle.rewriting.specs.Live.{keptOf}
+use Rattle.text.specs.TextLaws.{appended_none}
+use Rattle.rewriting.specs.Live.{kept_of}
 use Rattle.rewriting.proofs.link.Statement.{statement}
 use Rattle.rewriting.proofs.link.Tie as tie
 
 module _ (l : List ℕ) (e : ℕ) (x : Entry) (is : x ≡ entry_of l e) where
-  dropped : (o : List ℕ) (a : ℕ) → a ≤ length o → x.metric ≡ unused → Appended o a (keptOf l e) o a
-  dropped o a h m = rw (eq-eqb (metric l e) unused (sym (read-metric is) ∙ m)) (appended-none o a h)
+  dropped : (o : List ℕ) (a : ℕ) → a ≤ length o → x.metric ≡ unused → Appended o a (kept_of l e) o a
+  dropped o a h m = rw (eq-eqb (metric l e) unused (sym (read_metric is) ∙ m)) (appended_none o a h)
 
   appended :
       (o p : List ℕ) (a b : ℕ)
       → x.metric ≢ unused
       → Appended o a (take (5 * e + 5 - 5 * e) (drop (5 * e) l)) p b
-      → Appended o a (keptOf l e) p b
+      → Appended o a (kept_of l e) p b
   appended o p a b m y =
       let five : 5 * e + 5 - 5 * e ≡ 5 = omega arith in
-      rw (ne_eqb (metric l e) unused (λ q. m (read-metric is ∙ q)))
+      rw (ne_eqb (metric l e) unused (λ q. m (read_metric is ∙ q)))
       (subst (λ (k : ℕ). Appended o a (take k (drop (5 * e) l)) p b) five y)
 
 decode-requires : tie.Need-decode-requires

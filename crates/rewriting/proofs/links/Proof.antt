@@ -5,7 +5,7 @@ use native.Mathlib.Omega.{arith}
 use lib.ListN.{length}
 use Rattle.text.specs.Text.{Appended}
 use Rattle.rewriting.specs.Live.{live}
-use Rattle.rewriting.specs.LiveLaws.{appended-start, appended-live}
+use Rattle.rewriting.specs.LiveLaws.{appended_start, appended_live}
 use Rattle.rewriting.proofs.links.Statement.{statement}
 use Rattle.rewriting.proofs.links.Tie as tie
 
@@ -19,7 +19,7 @@ abbrev decreases-loop : tie.decreases-loop
 decreases-loop list k out₀ start at₀ e₀ out at e = k - e
 
 loop-holds : tie.Need-loop-init invariant-loop decreases-loop
-loop-holds c = (omega arith, omega arith, appended-start _ _ _ (omega arith))
+loop-holds c = (omega arith, omega arith, appended_start _ _ _ (omega arith))
 
 link-requires : tie.Need-link-requires invariant-loop decreases-loop
 link-requires c κs = omega arith
@@ -31,7 +31,7 @@ loop-less : tie.Need-loop-smaller invariant-loop decreases-loop
 loop-less c = omega arith
 
 loop-again : tie.Need-loop-preserved invariant-loop decreases-loop
-loop-again c = (omega arith, omega arith, search appended-live)
+loop-again c = (omega arith, omega arith, search appended_live)
 
 same_length : tie.Need-same-length invariant-loop decreases-loop
 same_length c = omega arith

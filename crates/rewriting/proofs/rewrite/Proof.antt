@@ -10,20 +10,20 @@ use native.Mathlib.Omega.{arith}
 use borrow.Author.Rules.{rules}
 use borrow.Author.Tests.{eqb-true, eqb-false, not-true, not-false}
 use lib.Dec.{eqb}
-use Rattle.area.specs.Refusals.{verdictNumber}
-use Rattle.area.specs.SizeLaws.{router-count-most}
+use Rattle.area.specs.Refusals.{verdict_number}
+use Rattle.area.specs.SizeLaws.{router_count_most}
 use Rattle.bench_file.specs.declared.BenchFile.{BenchFile}
 use Rattle.bench_file.specs.declared.Contents.{Contents}
 use Rattle.bench_file.specs.declared.Format.TheVariants.{Old}
-use Rattle.bench_file.specs.Sections.{routers, linkCount, changeCount, changesAt, timesAt}
-use Rattle.bench_file.specs.Faults.{fileRefusal}
-use Rattle.bench_file.specs.FaultLaws.{Accepted, accepted-of}
-use Rattle.bench_file.specs.Read.{contents, contentsBy}
-use Rattle.bench_file.specs.ReadLaws.{by-accepted}
-use Rattle.bench_file.specs.FileLaws.{links-most, contents-n, contents-links, contents-changes}
-use Rattle.text.specs.Text.{Appended, refusedLine}
+use Rattle.bench_file.specs.Sections.{routers, link_count, change_count, changes_at, times_at}
+use Rattle.bench_file.specs.Faults.{file_refusal}
+use Rattle.bench_file.specs.FaultLaws.{Accepted, accepted_of}
+use Rattle.bench_file.specs.Read.{contents, contents_by}
+use Rattle.bench_file.specs.ReadLaws.{by_accepted}
+use Rattle.bench_file.specs.FileLaws.{links_most, contents_n, contents_links, contents_changes}
+use Rattle.text.specs.Text.{Appended, refused_line}
 use Rattle.rewriting.specs.Rewriting.{rewritten, written, Counted}
-use Rattle.rewriting.specs.RewritingLaws.{written-refused, written-accepted}
+use Rattle.rewriting.specs.RewritingLaws.{written_refused, written_accepted}
 use Rattle.rewriting.proofs.rewrite.Statement.{statement}
 use Rattle.rewriting.proofs.rewrite.Tie as tie
 
@@ -34,68 +34,68 @@ Small x = (5 * x.contents.changes.count < 65536) × (x.contents.changes.at < 655
 -- x is what `examine` gave, and ok whether that is accepted
 module _
     (f : List ℕ)
-    (x : BenchFile) (told : verdictNumber x.answer ≡ fileRefusal Old f) (said : x.contents ≡ contentsBy Old f)
-    (ok : Bool) (good : ok ≡ eqb (verdictNumber x.answer) 0)
+    (x : BenchFile) (told : verdict_number x.answer ≡ file_refusal Old f) (said : x.contents ≡ contents_by Old f)
+    (ok : Bool) (good : ok ≡ eqb (verdict_number x.answer) 0)
   where
     refused :
         not ok ≡ true
         → (k : ℕ)
-        → k ≡ verdictNumber x.answer
+        → k ≡ verdict_number x.answer
         → {o p : List ℕ} {r : ℕ}
-        → Appended o 0 (refusedLine k) p r
+        → Appended o 0 (refused_line k) p r
         → Appended o 0 (written f) p r
     refused h k e {o} {p} {r} y =
-        let line = ap refusedLine (e ∙ told) ∙ sym (written-refused f some) in
+        let line = ap refused_line (e ∙ told) ∙ sym (written_refused f some) in
         subst (λ (w : List ℕ). Appended o 0 w p r) line y
       where
-        some : fileRefusal Old f ≢ 0
-        some z = eqb-false (verdictNumber x.answer) 0 (sym good ∙ not-true ok h) (told ∙ z)
+        some : file_refusal Old f ≢ 0
+        some z = eqb-false (verdict_number x.answer) 0 (sym good ∙ not-true ok h) (told ∙ z)
 
     module _ (h : not ok ≡ false) where
-      none : fileRefusal Old f ≡ 0
-      none = sym told ∙ eqb-true (verdictNumber x.answer) 0 (sym good ∙ not-false ok h)
+      none : file_refusal Old f ≡ 0
+      none = sym told ∙ eqb-true (verdict_number x.answer) 0 (sym good ∙ not-false ok h)
 
       whole : Accepted Old f
-      whole = accepted-of Old f none
+      whole = accepted_of Old f none
 
       is-contents : x.contents ≡ contents Old f
-      is-contents = said ∙ by-accepted Old f none
+      is-contents = said ∙ by_accepted Old f none
 
-      n-is : x.contents.n ≡ routers f
-      n-is = ap (λ (c : Contents). c.n) is-contents ∙ contents-n Old f
+      n_is : x.contents.n ≡ routers f
+      n_is = ap (λ (c : Contents). c.n) is-contents ∙ contents_n Old f
 
-      links-is : x.contents.links ≡ linkCount f
-      links-is = ap (λ (c : Contents). c.links) is-contents ∙ contents-links Old f
+      links_is : x.contents.links ≡ link_count f
+      links_is = ap (λ (c : Contents). c.links) is-contents ∙ contents_links Old f
 
-      at-is : x.contents.changes.at ≡ changesAt f
-      at-is = ap (λ (c : Contents). c.changes.at) is-contents ∙ (contents-changes Old f).0
+      at_is : x.contents.changes.at ≡ changes_at f
+      at_is = ap (λ (c : Contents). c.changes.at) is-contents ∙ (contents_changes Old f).0
 
-      changes-is : x.contents.changes.count ≡ changeCount f
-      changes-is = ap (λ (c : Contents). c.changes.count) is-contents ∙ (contents-changes Old f).1
+      changes_is : x.contents.changes.count ≡ change_count f
+      changes_is = ap (λ (c : Contents). c.changes.count) is-contents ∙ (contents_changes Old f).1
 
       -- both are small, so the place where the changes end is found without wrapping
       small : Small x
       small =
-          let few-links = links-most f whole.routers-in whole.most-links in
-          let few = whole.most-changes in
-          (omega (arith, changes-is), omega (arith, at-is))
+          let few_links = links_most f whole.routers_in whole.most_links_lem in
+          let few = whole.most_changes_lem in
+          (omega (arith, changes_is), omega (arith, at_is))
 
-      ends : x.contents.changes.at + 5 * x.contents.changes.count ≡ timesAt f
-      ends = omega (arith, at-is, changes-is)
+      ends : x.contents.changes.at + 5 * x.contents.changes.count ≡ times_at f
+      ends = omega (arith, at_is, changes_is)
 
       counted :
           Counted f x.contents.n x.contents.links (x.contents.changes.at + 5 * x.contents.changes.count)
       counted = record {
         size = whole.size;
-        routers-is = n-is;
-        routers-most = omega (arith, n-is, router-count-most (routers f) whole.routers-in);
-        count-is = links-is;
-        count_most = omega (arith, links-is, links-most f whole.routers-in whole.most-links);
-        at-is = ends;
+        routers_is = n_is;
+        routers_most = omega (arith, n_is, router_count_most (routers f) whole.routers_in);
+        count_is = links_is;
+        count_most = omega (arith, links_is, links_most f whole.routers_in whole.most_links_lem);
+        at_is = ends;
       }
 
       passed : {o p : List ℕ} {r : ℕ} → Appended o 0 (rewritten f) p r → Appended o 0 (written f) p r
-      passed {o} {p} {r} y = subst (λ (w : List ℕ). Appended o 0 w p r) (sym (written-accepted f none)) y
+      passed {o} {p} {r} y = subst (λ (w : List ℕ). Appended o 0 w p r) (sym (written_accepted f none)) y
 
 examine-requires : tie.Need-examine-requires
 examine-requires c κs = search rules

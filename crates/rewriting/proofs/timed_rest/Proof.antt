@@ -1,6 +1,6 @@
--- The three parts that are appended make what follows the links: `appended-rest`.
+-- The three parts that are appended make what follows the links: `appended_rest`.
 use borrow.Author.Rules.{rules}
-use Rattle.rewriting.specs.RewritingLaws.{appended-rest}
+use Rattle.rewriting.specs.RewritingLaws.{appended_rest}
 use Rattle.rewriting.proofs.timed_rest.Statement.{statement}
 use Rattle.rewriting.proofs.timed_rest.Tie as tie
 
@@ -38,7 +38,7 @@ same_length : tie.Need-same-length
 same_length c = search rules
 
 returns : tie.Need-returns
-returns c = search appended-rest
+returns c = search appended_rest
 
 pub timed-rest-spec : {M : Type 1} → statement M
 timed-rest-spec =

@@ -1,6 +1,6 @@
--- The three parts that are appended make the rewritten file: `appended-file`.
+-- The three parts that are appended make the rewritten file: `appended_file`.
 use borrow.Author.Rules.{rules}
-use Rattle.rewriting.specs.RewritingLaws.{appended-file}
+use Rattle.rewriting.specs.RewritingLaws.{appended_file}
 use Rattle.rewriting.proofs.whole.Statement.{statement}
 use Rattle.rewriting.proofs.whole.Tie as tie
 
@@ -44,7 +44,7 @@ same_length : tie.Need-same-length
 same_length c = search rules
 
 returns : tie.Need-returns
-returns c = search appended-file
+returns c = search appended_file
 
 pub whole-spec : {M : Type 1} → statement M
 whole-spec =

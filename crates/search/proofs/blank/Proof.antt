@@ -2,7 +2,7 @@
 use Prim.Native.Nat.{◌-◌, ◌≤◌}
 use native.Mathlib.Omega.{arith}
 use Rattle.area.specs.Limits.{width, unreached}
-use Rattle.search.proofs.Sweep.{Blanked, blanked-none, blanked-more}
+use Rattle.search.proofs.Sweep.{Blanked, blanked_none, blanked_more}
 use Rattle.search.proofs.blank.Statement.{statement}
 use Rattle.search.proofs.blank.Tie as tie
 
@@ -13,7 +13,7 @@ abbrev decreases-loop : tie.decreases-loop
 decreases-loop dist₀ hops₀ j₀ dist hops j = width - j
 
 loop-holds : tie.Need-loop-init invariant-loop decreases-loop
-loop-holds c = (omega arith, blanked-none _ _ c.requires.0, blanked-none _ _ c.requires.1)
+loop-holds c = (omega arith, blanked_none _ _ c.requires.0, blanked_none _ _ c.requires.1)
 
 mul-dist : tie.Need-overflow-mul-dist invariant-loop decreases-loop
 mul-dist c = omega arith
@@ -36,7 +36,7 @@ loop-less c = omega arith
 loop-again : tie.Need-loop-preserved invariant-loop decreases-loop
 loop-again c =
     let inv = c.before.loop.invariant in
-    (omega arith, blanked-more _ _ _ inv.1 (omega arith), blanked-more _ _ _ inv.2 (omega arith))
+    (omega arith, blanked_more _ _ _ inv.1 (omega arith), blanked_more _ _ _ inv.2 (omega arith))
 
 same_length : tie.Need-same-length invariant-loop decreases-loop
 same_length c = omega arith

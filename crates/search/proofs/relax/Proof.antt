@@ -6,17 +6,17 @@ use Prim.Native.Nat.{◌-◌, ◌≤◌}
 use native.Mathlib.Omega.{arith}
 use native.Mathlib.Decide.{dec_lt}
 use Rattle.topology.specs.Topology.{topology}
-use Rattle.topology.specs.TopologyLaws.{metric-link, usable-is}
-use Rattle.search.specs.Offers.{firstHop}
-use Rattle.search.specs.Search.{Relaxed, no-link, linked}
-use Rattle.search.proofs.Sweep.{Swept, swept_none, swept-more, swept_same}
+use Rattle.topology.specs.TopologyLaws.{metric_link, usable_is}
+use Rattle.search.specs.Offers.{first_hop}
+use Rattle.search.specs.Search.{Relaxed, no_link, linked}
+use Rattle.search.proofs.Sweep.{Swept, swept_none, swept_more, swept_same}
 use Rattle.search.proofs.relax.Statement.{statement}
 use Rattle.search.proofs.relax.Tie as tie
 
 abbrev invariant-loop : tie.invariant-loop
 invariant-loop n metric source q dist₀ hops₀ base own j₀ dist hops j =
     (j ≤ n)
-    × Swept (λ k. Relaxed base (topology n metric q k) (firstHop source q own k)) dist₀ hops₀ dist hops j
+    × Swept (λ k. Relaxed base (topology n metric q k) (first_hop source q own k)) dist₀ hops₀ dist hops j
 
 abbrev decreases-loop : tie.decreases-loop
 decreases-loop n metric source q dist₀ hops₀ base own j₀ dist hops j = n - j
@@ -60,7 +60,7 @@ loop-again c =
     let at = at-loop.loop in
     let s = at.invariant.1 in
     let a = at-loop.before.before.before.before.before.before.args in
-    let is-topology = usable-is a.n a.metric.now a.q at.j (omega arith) (omega arith) in
+    let is-topology = usable_is a.n a.metric.now a.q at.j (omega arith) (omega arith) in
     let is-link = c.before.usable.ensures ∙ is-topology in (
       omega arith,
       ⊎_elim
@@ -70,11 +70,11 @@ loop-again c =
           let kept = o.kept.1.1.1 in
           let is-offer = rw (is-link, w.1.ensures) at o.ensures.offered in
           rw (w.9, w.10)
-          (swept-more _ _ _ at.dist at.hops l.0 l.1.0 at.j s kept.0 kept.1.0
+          (swept_more _ _ _ at.dist at.hops l.0 l.1.0 at.j s kept.0 kept.1.0
           (linked (omega (arith, is-link, w.0.taken)) is-offer)
           o.ensures.others))
           (λ w.
-          let none = no-link (λ u. omega (arith, is-link, w.0.left)) refl refl in
+          let none = no_link (λ u. omega (arith, is-link, w.0.left)) refl refl in
           rw (w.1, w.2) (swept_same _ _ _ _ _ _ s none))
           c.if1.branch,
     )
@@ -95,7 +95,7 @@ returns c =
           let g : start.args.n ≤ j = omega arith in
           let e = s.rest j (omega arith) in
           let a = start.args in
-          no-link (λ u. let x = (metric-link a.n a.metric.now a.q j u).to in omega arith) e.0 e.1
+          no_link (λ u. let x = (metric_link a.n a.metric.now a.q j u).to in omega arith) e.0 e.1
     ]
 
 pub relax-spec : {M : Type 1} → statement M

@@ -5,9 +5,9 @@ use mathlib.Core.Logic.{inl}
 use native.Mathlib.Omega.{arith}
 use borrow.Author.Rules.{rules}
 use Rattle.area.specs.Limits.{width}
-use Rattle.area.specs.TableLaws.{is-build}
-use Rattle.topology.specs.Cells.{distanceCell, hopCell}
-use Rattle.topology.specs.CellLaws.{distance-out, hops-out}
+use Rattle.area.specs.TableLaws.{is_build}
+use Rattle.topology.specs.Cells.{distance_cell, hop_cell}
+use Rattle.topology.specs.CellLaws.{distance_out, hops_out}
 use Rattle.search.proofs.rows.Statement.{statement}
 use Rattle.search.proofs.rows.Tie as tie
 
@@ -44,10 +44,10 @@ returns-2 c =
     let n = a.args.n in
     let m = a.args.metric.now in
     let s = a.args.source in (
-      is-build width (distanceCell n m s) blank.new.0 (blank.auto.0 ∙ a.requires.1.0)
-          (λ j l. blank.ensures.0 j l ∙ sym (distance-out n m s j (inl c.if1.false))),
-      is-build width (hopCell n m s) blank.new.1.0 (blank.auto.1.0 ∙ a.requires.1.1)
-          (λ j l. blank.ensures.1 j l ∙ sym (hops-out n m s j (inl c.if1.false))),
+      is_build width (distance_cell n m s) blank.new.0 (blank.auto.0 ∙ a.requires.1.0)
+          (λ j l. blank.ensures.0 j l ∙ sym (distance_out n m s j (inl c.if1.false))),
+      is_build width (hop_cell n m s) blank.new.1.0 (blank.auto.1.0 ∙ a.requires.1.1)
+          (λ j l. blank.ensures.1 j l ∙ sym (hops_out n m s j (inl c.if1.false))),
     )
 
 pub rows-spec : {M : Type 1} → statement M

@@ -7,25 +7,25 @@ use borrow.Author.Rules.{rules}
 use lib.ListN.{length}
 use Rattle.area.specs.Limits.{width}
 use Rattle.area.specs.Tables.{build}
-use Rattle.topology.specs.Cells.{distanceCell, hopCell}
-use Rattle.search.specs.Rows.{areSizes, distanceRow, hopRow}
-use Rattle.search.specs.RowsLaws.{sizes-are, distances-row, hops-row, distances-left, hops-left}
+use Rattle.topology.specs.Cells.{distance_cell, hop_cell}
+use Rattle.search.specs.Rows.{are_sizes, distance_row, hop_row}
+use Rattle.search.specs.RowsLaws.{sizes_are, distances_row, hops_row, distances_left, hops_left}
 use Rattle.search.proofs.search.Statement.{statement}
 use Rattle.search.proofs.search.Tie as tie
 
 module _
     (n : ℕ) (m : List ℕ) (s : ℕ) (d h : List ℕ)
-    (right : Bool) (told : right ≡ areSizes n (length m) (length d) (length h)) where
+    (right : Bool) (told : right ≡ are_sizes n (length m) (length d) (length h)) where
   filled :
       {d' h' : List ℕ}
       → right ≡ true
-      → d' ≡ build width (distanceCell n m s)
-      → h' ≡ build width (hopCell n m s)
-      → (d' ≡ distanceRow n m s d h) × (h' ≡ hopRow n m s d h)
-  filled e a b = (a ∙ sym (distances-row n m s d h (sym told ∙ e)), b ∙ sym (hops-row n m s d h (sym told ∙ e)))
+      → d' ≡ build width (distance_cell n m s)
+      → h' ≡ build width (hop_cell n m s)
+      → (d' ≡ distance_row n m s d h) × (h' ≡ hop_row n m s d h)
+  filled e a b = (a ∙ sym (distances_row n m s d h (sym told ∙ e)), b ∙ sym (hops_row n m s d h (sym told ∙ e)))
 
-  left : right ≡ false → (d ≡ distanceRow n m s d h) × (h ≡ hopRow n m s d h)
-  left e = (sym (distances-left n m s d h (sym told ∙ e)), sym (hops-left n m s d h (sym told ∙ e)))
+  left : right ≡ false → (d ≡ distance_row n m s d h) × (h ≡ hop_row n m s d h)
+  left e = (sym (distances_left n m s d h (sym told ∙ e)), sym (hops_left n m s d h (sym told ∙ e)))
 
 are-sizes-requires : tie.Need-are-sizes-requires
 are-sizes-requires c κs = search rules
@@ -33,8 +33,8 @@ are-sizes-requires c κs = search rules
 rows-requires : tie.Need-rows-requires
 rows-requires c κs =
     let at = c.before.before in
-    let s = sizes-are _ _ _ _ (sym at.before.are-sizes.ensures ∙ at.if1.true) in
-    ((s.most, s.table), (s.row, s.row-h))
+    let s = sizes_are _ _ _ _ (sym at.before.are-sizes.ensures ∙ at.if1.true) in
+    ((s.most, s.table), (s.row, s.row_h))
 
 same_length : tie.Need-same-length
 same_length c = search rules

@@ -57,7 +57,7 @@ returns c =
     let source = a.requires.1.0.0 in
     let near = c.before.nearest.ensures in
     let f = at.loop.invariant in
-    (S.distance-row most source f near c.if1.true, S.hop-row most source f near c.if1.true)
+    (S.distance_row_lem most source f near c.if1.true, S.hop_row_lem most source f near c.if1.true)
 
 add-requires : tie.Need-add-requires invariant-loop decreases-loop
 add-requires c κs = omega arith
@@ -68,7 +68,7 @@ relax-requires c κs =
     let a = start e in
     let f = e.before.before.before.loop.invariant in
     let room = S.room a.pre.0.0 a.pre.1.0.0 f e.before.nearest.ensures (within e) in
-    (a.pre.0, ((f.len, f.len-h), (within e, room)))
+    (a.pre.0, ((f.len, f.len_h), (within e, room)))
 
 loop-less : tie.Need-loop-smaller invariant-loop decreases-loop
 loop-less c =
@@ -87,7 +87,7 @@ loop-again c =
     let kept = turn.auto.1.1.1.1 in
     rw c.before.before.before.before.before.before.before.add.ensures
     (S.more a.pre.0.0 a.pre.1.0.0 f e.before.nearest.ensures (within e)
-    (kept.0 ∙ f.len) (kept.1.0 ∙ f.len-h)
+    (kept.0 ∙ f.len) (kept.1.0 ∙ f.len_h)
     (λ j. (c.slice-known4.given j).fits)
     turn.ensures)
 

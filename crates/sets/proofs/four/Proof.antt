@@ -4,7 +4,7 @@ use borrow.Author.Rules.{rules}
 use Prim.Native.Nat.{ℕ, suc}
 use Rattle.sets.specs.Sets.{without}
 use Rattle.sets.specs.Four.{four, beyond}
-use Rattle.sets.specs.FourLaws.{beyond-next, beyond-four}
+use Rattle.sets.specs.FourLaws.{beyond_next, beyond_four}
 use Rattle.sets.proofs.four.Statement.{statement}
 use Rattle.sets.proofs.four.Tie as tie
 
@@ -19,9 +19,9 @@ taken :
     → r ≡ four w s
 taken w s a b c d r p q t u e =
     let next : (i x y : ℕ) → x ≡ beyond w i s → y ≡ beyond w 1 x → y ≡ beyond w (suc i) s =
-    λ i x y f g. g ∙ ap (beyond w 1) f ∙ beyond-next w s i in
+    λ i x y f g. g ∙ ap (beyond w 1) f ∙ beyond_next w s i in
     let all = next 3 c d (next 2 b c (next 1 a b p q) t) u in
-    e ∙ ap (without w s) all ∙ beyond-four w s
+    e ∙ ap (without w s) all ∙ beyond_four w s
 
 rest-requires : tie.Need-rest-requires
 rest-requires c κs = search rules

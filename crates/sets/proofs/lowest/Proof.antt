@@ -2,7 +2,7 @@
 use native.Mathlib.Omega.{arith}
 use lib.Count.{trailing_le}
 use Rattle.area.specs.Limits.{width}
-use Rattle.sets.specs.VisitLaws.{trailing-is}
+use Rattle.sets.specs.VisitLaws.{trailing_is}
 use Rattle.sets.proofs.lowest.Statement.{statement}
 use Rattle.sets.proofs.lowest.Tie as tie
 
@@ -10,7 +10,7 @@ cast-result : tie.Need-overflow-cast-result
 cast-result c = omega (arith, trailing_le width c.args.s)
 
 returns : tie.Need-returns
-returns c = trailing-is width c.args.s
+returns c = trailing_is width c.args.s
 
 pub lowest-spec : {M : Type 1} → statement M
 lowest-spec = tie.close (tie.spec cast-result returns)

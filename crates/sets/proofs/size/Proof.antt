@@ -5,7 +5,7 @@ use native.Mathlib.Omega.{arith}
 use Rattle.area.specs.Limits.{width}
 use Rattle.sets.specs.Sets.{num}
 use Rattle.sets.specs.Counts.{size}
-use Rattle.sets.specs.CountLaws.{size-start, size-found}
+use Rattle.sets.specs.CountLaws.{size_start, size_found}
 use Rattle.sets.proofs.size.Statement.{statement}
 use Rattle.sets.proofs.size.Tie as tie
 
@@ -16,7 +16,7 @@ abbrev decreases-loop : tie.decreases-loop
 decreases-loop s count₀ k₀ count k = width - k
 
 loop-holds : tie.Need-loop-init invariant-loop decreases-loop
-loop-holds c = (omega arith, omega arith, size-start _)
+loop-holds c = (omega arith, omega arith, size_start _)
 
 member-requires : tie.Need-member-requires invariant-loop decreases-loop
 member-requires c κs = omega arith
@@ -38,7 +38,7 @@ loop-again c =
     let at-loop = c.before.before.before.loop in
     let s = c.before.before.before.before.args.s in
     let one = c.one-if.ensures.1 ∙ ap num c.before.member.ensures in
-    (omega arith, omega arith, size-found at-loop.k s at-loop.count c.one-if.result at-loop.invariant.2 one)
+    (omega arith, omega arith, size_found at-loop.k s at-loop.count c.one-if.result at-loop.invariant.2 one)
 
 returns : tie.Need-returns invariant-loop decreases-loop
 returns c =

@@ -6,9 +6,9 @@ use native.Mathlib.Omega.{arith}
 use native.Mathlib.Numerals.{add-one}
 use lib.ListN.{get_or, set, replicate}
 use Rattle.area.specs.Limits.{width}
-use Rattle.area.specs.PerRouterLaws.{Filled, filled_none, filled_more, filled-all}
+use Rattle.area.specs.PerRouterLaws.{Filled, filled_none, filled_more, filled_all}
 use Rattle.sets.specs.Sets.{added}
-use Rattle.sheet.specs.Sheet.{nextAfter, placed, placeAt}
+use Rattle.sheet.specs.Sheet.{next_after, placed, place_at}
 use Rattle.sheet.proofs.by_turns.Statement.{statement}
 use Rattle.sheet.proofs.by_turns.Tie as tie
 
@@ -16,7 +16,7 @@ use Rattle.sheet.proofs.by_turns.Tie as tie
 record Turned (n : ℕ) (w : ℕ → ℕ) (k members : ℕ) (routers : List ℕ) : Type 0 where
   places : k ≤ n
   are : members ≡ placed n w k
-  filled : Filled width k (placeAt n w) routers
+  filled : Filled width k (place_at n w) routers
 
 module _ (n : ℕ) (w : ℕ → ℕ) where
   turned_none : Turned n w 0 0 (replicate width 0)
@@ -27,16 +27,16 @@ module _ (n : ℕ) (w : ℕ → ℕ) where
       (k members : ℕ) (routers : List ℕ)
       → Turned n w k members routers
       → k < n → n ≤ width
-      → (next : ℕ) → next ≡ nextAfter n w members
+      → (next : ℕ) → next ≡ next_after n w members
       → (more : ℕ) → more ≡ added width members next
       → Turned n w (k + 1) more (set routers k next)
   unfolding placed
   turned_more k members routers t a b next e more f =
-      let at : next ≡ placeAt n w k = e ∙ ap (nextAfter n w) t.are in
+      let at : next ≡ place_at n w k = e ∙ ap (next_after n w) t.are in
       record {
         places = omega arith;
         are = rw (add-one k) (f ∙ ap₂ (added width) t.are at);
-        filled = filled_more width k (placeAt n w) routers next t.filled (omega arith) at;
+        filled = filled_more width k (place_at n w) routers next t.filled (omega arith) at;
       }
 
 abbrev invariant-loop : tie.invariant-loop
@@ -77,7 +77,7 @@ returns : tie.Need-returns invariant-loop decreases-loop
 returns c =
     let at-loop = c.before.loop in
     let e : at-loop.k ≡ c.before.before.args.n = omega (arith, at-loop.invariant.places) in
-    filled-all width _ _ at-loop.routers (rw e at at-loop.invariant.filled)
+    filled_all width _ _ at-loop.routers (rw e at at-loop.invariant.filled)
 
 pub by-turns-spec : {M : Type 1} → statement M
 by-turns-spec =

@@ -8,16 +8,16 @@ use Rattle.sets.specs.Sets.{bit, subset}
 use Rattle.sheet.proofs.could_come.Statement.{statement}
 use Rattle.sheet.proofs.could_come.Tie as tie
 
-module _ (waits placed r : ℕ) (is-placed : Bool) (e : is-placed ≡ bit placed r) where
-  already : is-placed ≡ true → false ≡ (not (bit placed r) && subset width waits placed)
+module _ (waits placed r : ℕ) (is_placed : Bool) (e : is_placed ≡ bit placed r) where
+  already : is_placed ≡ true → false ≡ (not (bit placed r) && subset width waits placed)
   already t = rw (sym e ∙ t) refl
 
-  by-waiting :
-      is-placed ≡ false
+  by_waiting :
+      is_placed ≡ false
       → (b : Bool)
       → b ≡ subset width waits placed
       → b ≡ (not (bit placed r) && subset width waits placed)
-  by-waiting f b is = rw (sym e ∙ f) is
+  by_waiting f b is = rw (sym e ∙ f) is
 
 member-requires : tie.Need-member-requires
 member-requires c κs = search rules
@@ -29,7 +29,7 @@ is-subset-requires : tie.Need-is-subset-requires
 is-subset-requires c κs = search rules
 
 returns-2 : tie.Need-returns-2
-returns-2 c = search by-waiting
+returns-2 c = search by_waiting
 
 pub could-come-spec : {M : Type 1} → statement M
 could-come-spec = tie.close (tie.spec member-requires returns is-subset-requires returns-2)

@@ -7,24 +7,24 @@ use borrow.Author.Rules.{rules}
 use borrow.Author.Tests.{le-leb, lt-leb}
 use lib.ListN.{replicate}
 use Rattle.area.specs.Limits.{width}
-use Rattle.area.specs.Tables.{perRouter}
+use Rattle.area.specs.Tables.{per_router}
 use Rattle.plan.specs.declared.Record.{Record}
-use Rattle.machine.specs.Machine.{waitingOf}
-use Rattle.sheet.specs.Sheet.{placeAt, sheetOf}
+use Rattle.machine.specs.Machine.{waiting_of}
+use Rattle.sheet.specs.Sheet.{place_at, sheet_of}
 use Rattle.sheet.proofs.in_turn.Statement.{statement}
 use Rattle.sheet.proofs.in_turn.Tie as tie
 
 -- one law for each return
 module _ (r : Record) where
-  many : width < r.n → replicate width 0 ≡ sheetOf r
-  unfolding sheetOf
+  many : width < r.n → replicate width 0 ≡ sheet_of r
+  unfolding sheet_of
   many a = rw (lt-leb r.n width a) refl
 
   few :
       r.n ≤ width → (t : List ℕ)
-      → t ≡ perRouter width r.n (placeAt r.n (waitingOf r))
-      → t ≡ sheetOf r
-  unfolding sheetOf
+      → t ≡ per_router width r.n (place_at r.n (waiting_of r))
+      → t ≡ sheet_of r
+  unfolding sheet_of
   few a t e = rw (le-leb r.n width a) e
 
 cast-n : tie.Need-overflow-cast-n

@@ -4,13 +4,13 @@ use Prim.Native.Nat.{◌-◌}
 use native.Mathlib.Omega.{arith}
 use lib.ListN.{get_or}
 use Rattle.area.specs.Tests.{lowest}
-use Rattle.area.specs.LowestLaws.{lowest_start, lowest-skip, lowest-hit, lowest-out}
-use Rattle.sheet.specs.Sheet.{couldCome}
+use Rattle.area.specs.LowestLaws.{lowest_start, lowest_skip, lowest_hit, lowest_out}
+use Rattle.sheet.specs.Sheet.{could_come}
 use Rattle.sheet.proofs.next_after.Statement.{statement}
 use Rattle.sheet.proofs.next_after.Tie as tie
 
 abbrev invariant-loop : tie.invariant-loop
-invariant-loop n placed waiting r₀ r = r ≡ lowest r (couldCome (λ k. get_or waiting k 0) placed)
+invariant-loop n placed waiting r₀ r = r ≡ lowest r (could_come (λ k. get_or waiting k 0) placed)
 
 abbrev decreases-loop : tie.decreases-loop
 decreases-loop n placed waiting r₀ r = n - r
@@ -30,8 +30,8 @@ could-come-requires c κs = omega arith
 returns : tie.Need-returns invariant-loop decreases-loop
 returns c =
     let at-loop = c.before.before.before in
-    let tested = c.before.could-come.ensures in
-    (omega arith, lowest-hit _ _ _ (omega arith) at-loop.loop.invariant (sym tested ∙ c.if1.true))
+    let tested = c.before.could_come_lem.ensures in
+    (omega arith, lowest_hit _ _ _ (omega arith) at-loop.loop.invariant (sym tested ∙ c.if1.true))
 
 add_r : tie.Need-overflow-add-r invariant-loop decreases-loop
 add_r c = omega arith
@@ -42,13 +42,13 @@ loop-less c = omega arith
 loop-again : tie.Need-loop-preserved invariant-loop decreases-loop
 loop-again c =
     let at-loop = c.before.before.before in
-    let tested = c.before.could-come.ensures in
-    lowest-skip _ _ at-loop.loop.invariant (sym tested ∙ c.if1.false)
+    let tested = c.before.could_come_lem.ensures in
+    lowest_skip _ _ at-loop.loop.invariant (sym tested ∙ c.if1.false)
 
 returns-2 : tie.Need-returns-2 invariant-loop decreases-loop
 returns-2 c =
     let at-loop = c.before.loop in
-    (omega arith, lowest-out _ _ at-loop.r (omega arith) at-loop.invariant)
+    (omega arith, lowest_out _ _ at-loop.r (omega arith) at-loop.invariant)
 
 pub next-after-spec : {M : Type 1} → statement M
 next-after-spec =

@@ -1,7 +1,7 @@
 -- Answer and tables are Plan's, and the routers are the sheet of the record that Plan handed back.
 use mathlib.Core.Path.{ap, ◌∙◌}
 use borrow.Author.Rules.{rules}
-use Rattle.sheet.specs.Sheet.{sheetOf}
+use Rattle.sheet.specs.Sheet.{sheet_of}
 use Rattle.sheet.proofs.sheet.Statement.{statement}
 use Rattle.sheet.proofs.sheet.Tie as tie
 
@@ -36,7 +36,7 @@ returns : tie.Need-returns
 returns c =
     let tables = c.before.before.before.before.before.before.before.before.before in
     let plan = tables.before.before.before.before.before.before.before.plan in
-    (plan.ensures.0, (c.in-turn.ensures ∙ ap sheetOf plan.ensures.1.0, plan.ensures.1.1))
+    (plan.ensures.0, (c.in-turn.ensures ∙ ap sheet_of plan.ensures.1.0, plan.ensures.1.1))
 
 pub sheet-spec : {M : Type 1} → statement M
 sheet-spec =

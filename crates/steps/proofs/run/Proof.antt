@@ -1,5 +1,5 @@
 -- Between two steps, the record at hand and the bytes that are left lead to the same last record as the first record
--- and all bytes (`Left`). A step keeps this (`left-more`); where no call is left, the record at hand is the last one.
+-- and all bytes (`Left`). A step keeps this (`left_more`); where no call is left, the record at hand is the last one.
 use mathlib.Core.Path.{◌≡◌, refl, sym, ◌∙◌}
 use mathlib.Core.List.{List}
 use Prim.Native.Nat.{ℕ, ◌+◌, ◌-◌, ◌<◌, ◌≤◌}
@@ -8,30 +8,30 @@ use borrow.Author.Rules.{rules}
 use lib.ListN.{length, get_or, drop}
 use Rattle.plan.specs.declared.Record.{Record}
 use Rattle.machine.specs.Answers.{Outcome}
-use Rattle.machine.specs.Machine.{withTables, withTimes, step_of}
+use Rattle.machine.specs.Machine.{with_tables, with_times, step_of}
 use Rattle.machine.specs.Run.{run, calls_of}
-use Rattle.machine.specs.CallLaws.{run_none, run-next}
+use Rattle.machine.specs.CallLaws.{run_none, run_next}
 use Rattle.steps.proofs.run.Statement.{statement}
 use Rattle.steps.proofs.run.Tie as tie
 
 -- ---- the record at hand
 abbrev atHand : (first : Record) (waiting states written : List ℕ) (clock : ℕ) (learned : List ℕ) → Record
 atHand first waiting states written clock learned =
-    withTables (withTimes first clock learned) waiting states written
+    with_tables (with_times first clock learned) waiting states written
 
 module _ (first : Record) (l : List ℕ) where
   abbrev Left : Record → ℕ → Type 0
   Left r i = run first (calls_of l) ≡ run r (calls_of (drop i l))
 
-  left-more : (r : Record) (i : ℕ) (o : Outcome)
+  left_more : (r : Record) (i : ℕ) (o : Outcome)
       → Left r i
       → i + 2 < length l
       → o ≡ step_of r (get_or l i 0) (get_or l (i + 1) 0) (get_or l (i + 2) 0)
       → Left o.next (i + 3)
-  left-more r i o e h s = e ∙ run-next l i r o s h
+  left_more r i o e h s = e ∙ run_next l i r o s h
 
-  left-none : (r : Record) (i : ℕ) → Left r i → length l ≤ i + 2 → r ≡ run first (calls_of l)
-  left-none r i e h = sym (e ∙ run_none l i r h)
+  left_none : (r : Record) (i : ℕ) → Left r i → length l ≤ i + 2 → r ≡ run first (calls_of l)
+  left_none r i e h = sym (e ∙ run_none l i r h)
 
 abbrev invariant-loop : tie.invariant-loop
 invariant-loop first bytes n ranks waiting₀ telling due states₀ written₀ hold step clock₀ learned₀ at₀
@@ -83,7 +83,7 @@ loop-again c =
     at-loop.learn-times in
     let outcome = c.step.ensures start.first in
     let left = at-loop.invariant.1 in
-    (omega arith, left-more start.first start.bytes.now r at-loop.at _ left (omega arith) outcome)
+    (omega arith, left_more start.first start.bytes.now r at-loop.at _ left (omega arith) outcome)
 
 returns : tie.Need-returns invariant-loop decreases-loop
 returns c =
@@ -91,7 +91,7 @@ returns c =
     let at-loop = c.before.loop in
     let r = atHand start.first at-loop.waiting at-loop.states at-loop.written at-loop.clock
     at-loop.learn-times in
-    left-none start.first start.bytes.now r at-loop.at at-loop.invariant.1 (omega arith)
+    left_none start.first start.bytes.now r at-loop.at at-loop.invariant.1 (omega arith)
 
 pub run_spec : {M : Type 1} → statement M
 run_spec =

@@ -4,10 +4,10 @@ use Rattle.steps_test.proofs.run.Statement.{statement}
 use Rattle.steps_test.proofs.run.Tie as tie
 
 abbrev invariant-loop : tie.invariant-loop
-invariant-loop text left₀ at₀ at-end left at = at ≤ length text
+invariant-loop text left₀ at₀ at_end left at = at ≤ length text
 
 abbrev decreases-loop : tie.decreases-loop
-decreases-loop text left₀ at₀ at-end left at = length text - at
+decreases-loop text left₀ at₀ at_end left at = length text - at
 
 pub run_spec : {M : Type 1} → statement M
 run_spec =

@@ -5,7 +5,7 @@ use native.Mathlib.Omega.{arith}
 use native.Mathlib.Numerals.{add-one}
 use lib.ListN.{length, length-set}
 use lib.Seq.{paste, paste-zero, paste-suc}
-use Rattle.text.proofs.Copying.{appended-copy}
+use Rattle.text.proofs.Copying.{appended_copy}
 use Rattle.text.proofs.append.Statement.{statement}
 use Rattle.text.proofs.append.Tie as tie
 
@@ -65,7 +65,7 @@ returns c =
     let from = c.before.before.before.least.result in
     let count = c.before.before.least2.result in
     let e : at-loop.i ≡ count = omega arith in
-    let all = appended-copy a.out.now a.bytes.now a.at from count (omega arith) (omega arith) in
+    let all = appended_copy a.out.now a.bytes.now a.at from count (omega arith) (omega arith) in
     rw (at-loop.invariant.1, e) all
 
 pub append-spec : {M : Type 1} → statement M

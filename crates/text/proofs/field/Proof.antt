@@ -1,6 +1,6 @@
--- The name is appended, and then the number: together they are the field (appended-field).
+-- The name is appended, and then the number: together they are the field (appended_field).
 use borrow.Author.Rules.{rules}
-use Rattle.text.specs.TextLaws.{appended-field}
+use Rattle.text.specs.TextLaws.{appended_field}
 use Rattle.text.proofs.field.Statement.{statement}
 use Rattle.text.proofs.field.Tie as tie
 
@@ -14,7 +14,7 @@ same_length : tie.Need-same-length
 same_length c = search rules
 
 returns : tie.Need-returns
-returns c = search appended-field
+returns c = search appended_field
 
 pub field-spec : {M : Type 1} → statement M
 field-spec = tie.close (tie.spec append-requires number-requires same_length returns)

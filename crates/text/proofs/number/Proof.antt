@@ -1,6 +1,6 @@
 -- The part from the first digit on is the whole number.
 use borrow.Author.Rules.{rules}
-use Rattle.text.proofs.Spelling.{appended-rest}
+use Rattle.text.proofs.Spelling.{appended_rest}
 use Rattle.text.proofs.number.Statement.{statement}
 use Rattle.text.proofs.number.Tie as tie
 
@@ -29,7 +29,7 @@ returns : tie.Need-returns
 returns c =
     let spelled = c.before.before.before.before.before.before.before.spell in
     let appended = c.before.before.append.ensures in
-    appended-rest spelled.new.1.0 spelled.result spelled.auto.1.0 spelled.ensures.1 appended
+    appended_rest spelled.new.1.0 spelled.result spelled.auto.1.0 spelled.ensures.1 appended
 
 pub number-spec : {M : Type 1} → statement M
 number-spec =

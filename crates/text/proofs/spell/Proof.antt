@@ -3,7 +3,7 @@ use mathlib.Core.Path.{sym, ◌∙◌}
 use native.Mathlib.Omega.{arith}
 use borrow.Author.Rules.{rules}
 use lib.ListN.{length-set}
-use Rattle.text.proofs.Spelling.{Spelled, spelled_none, spelled-some, spelled-more, spelled-done}
+use Rattle.text.proofs.Spelling.{Spelled, spelled_none, spelled_some, spelled_more, spelled_done}
 use Rattle.text.proofs.spell.Statement.{statement}
 use Rattle.text.proofs.spell.Tie as tie
 
@@ -26,13 +26,13 @@ slice-write-digits : tie.Need-slice-write-digits invariant-loop decreases-loop
 slice-write-digits c = omega arith
 
 sub-from : tie.Need-overflow-sub-from invariant-loop decreases-loop
-sub-from c = spelled-some c.before.loop.invariant c.loop-test.true
+sub-from c = spelled_some c.before.loop.invariant c.loop-test.true
 
 loop-less : tie.Need-loop-smaller invariant-loop decreases-loop
-loop-less c = omega (arith, spelled-some c.before.loop.invariant c.loop-test.true)
+loop-less c = omega (arith, spelled_some c.before.loop.invariant c.loop-test.true)
 
 loop-again : tie.Need-loop-preserved invariant-loop decreases-loop
-loop-again c = spelled-more c.before.loop.invariant c.loop-test.true
+loop-again c = spelled_more c.before.loop.invariant c.loop-test.true
 
 cast-digits-2 : tie.Need-overflow-cast-digits-2 invariant-loop decreases-loop
 cast-digits-2 c = omega arith
@@ -47,7 +47,7 @@ same_length : tie.Need-same-length invariant-loop decreases-loop
 same_length c = simp length-set (c.before.loop.invariant.size ∙ sym c.before.before.requires)
 
 returns : tie.Need-returns invariant-loop decreases-loop
-returns c = (omega arith, spelled-done c.before.loop.invariant (omega arith))
+returns c = (omega arith, spelled_done c.before.loop.invariant (omega arith))
 
 pub spell-spec : {M : Type 1} → statement M
 spell-spec =

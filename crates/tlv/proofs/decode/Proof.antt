@@ -1,17 +1,17 @@
 -- A law for each return.
 use borrow.Author.Rules.{rules}
-use Rattle.tlv.specs.ItemLaws.{item-end, item-short, item-past, item-long, item-entry}
+use Rattle.tlv.specs.ItemLaws.{item_end, item_short, item_past, item_long, item_entry}
 use Rattle.tlv.proofs.decode.Statement.{statement}
 use Rattle.tlv.proofs.decode.Tie as tie
 
 returns : tie.Need-returns
-returns c = search item-end
+returns c = search item_end
 
 sub-left : tie.Need-overflow-sub-left
 sub-left c = search rules
 
 returns-2 : tie.Need-returns-2
-returns-2 c = search item-short
+returns-2 c = search item_short
 
 add_wide : tie.Need-overflow-add-wide
 add_wide c = search rules
@@ -26,10 +26,10 @@ add-if3 : tie.Need-overflow-add-if3
 add-if3 c = search rules
 
 returns-3 : tie.Need-returns-3
-returns-3 c = search item-past
+returns-3 c = search item_past
 
 returns-4 : tie.Need-returns-4
-returns-4 c = search item-long
+returns-4 c = search item_long
 
 seven-requires : tie.Need-seven-requires
 seven-requires c κs = search rules
@@ -47,7 +47,7 @@ add-t15 : tie.Need-overflow-add-t15
 add-t15 c = search rules
 
 returns-5 : tie.Need-returns-5
-returns-5 c = search item-entry
+returns-5 c = search item_entry
 
 pub decode-spec : {M : Type 1} → statement M
 decode-spec =

@@ -23,8 +23,8 @@ use denote.Triple.Statement.{Contract, Triple}
 use denote.Triple.Table.{cited}
 use denote.Triple.Walked.{says, ends_at}
 use Rattle.tlv.specs.Items.{item_at}
-use Rattle.tlv.proofs.Walking.{Fields, apart-vals, Apart, apart, the-reader, token, Asks, asked, asked-reader}
-use Rattle.tlv.proofs.Walking.{apart-typed, reader-typed, item-typed, freed, Met, calls-for, Run, walk-enters}
+use Rattle.tlv.proofs.Walking.{Fields, apart_vals, Apart, apart, the_reader, token, Asks, asked, asked_reader}
+use Rattle.tlv.proofs.Walking.{apart_typed, reader_typed, item_typed, freed, Met, calls_for, Run, walk_enters}
 use Rattle.tlv.specs.contracts.new as new
 use Rattle.tlv.proofs.new.Symbol as new-def
 use Rattle.tlv.proofs.new.Symbol.{name as #tlv·new}
@@ -55,37 +55,37 @@ module _ {M : Type 1} {𝓤 : Ura M} (𝓛 : Logic 𝓤) (mem : Memory → SProp
         qed 𝓛 (raw (token 𝓛 κ q) ∷ ‵ (Apart κ x) ∷ []) ∵ enter ! C Λ code.function _ _ $
         -- the locals get room, and the parameters are stored
         alloc1 ! (λ l₀. alloc1 ! (λ l₁. alloc1 ! (λ l₂. alloc1 ! (λ l₃. alloc0 ! $ params1 ! $
-        pass1 ! (init ! 4 refl (apart-typed 𝓛 κ x are).0.0) $
-        pass1 ! (init ! 2 refl (apart-typed 𝓛 κ x are).1.0) $ pass0 ! $
+        pass1 ! (init ! 4 refl (apart_typed 𝓛 κ x are).0.0) $
+        pass1 ! (init ! 2 refl (apart_typed 𝓛 κ x are).1.0) $ pass0 ! $
         -- [room for _3; …; _2; …; _1; …; room for _0; …; the token; what the parameters own]
         -- `new` is called with _1 and _2
         move ! (8 ∷ 9 ∷ []) $ use2 𝓛 (raw (Asks 𝓛 κ q (Apart κ x)) ⊛ ‵ (Apart κ x)) (asked 𝓛 κ q x) $
         split ! $
-        calls-for 𝓛 new.ended (new.clauses 𝓛 mem run) (((κ, tt), (q, tt), tt, x, apart-vals x), tt) ! fm
+        calls_for 𝓛 new.ended (new.clauses 𝓛 mem run) (((κ, tt), (q, tt), tt, x, apart_vals x), tt) ! fm
         known-new (λ d. (d.bytes ≡ x.0) × (d.at ≡ x.1.0)) (λ d ws. refl)
         (and_then ! (load ! (from ! (stop !)) (look ! 6 refl))
         (and_then ! (load ! (from ! (stop !)) (look ! 4 refl)) (no_more !))) (λ v d e is.
         -- [what the reader owns; the token; what the parameters own; room for _3; …; _2; …; _1; …; room for _0; …]
         -- the reader lands in _3, and `item` is called with it
-        land ! (from ! (stop !)) (init ! 3 refl (reader-typed 𝓛 κ d v is erased)) $
-        use2 𝓛 (raw (Asks 𝓛 κ q (owns (the-reader (κ, tt) ∷ []) (d, tt) (v ∷ [], tt))))
-        (asked-reader 𝓛 κ q d v) $
-        calls-for 𝓛 item.ended (item.clauses 𝓛 mem run) (((κ, tt), (q, tt), tt, (d, tt), (v ∷ [], tt)), tt) ! fm
+        land ! (from ! (stop !)) (init ! 3 refl (reader_typed 𝓛 κ d v is erased)) $
+        use2 𝓛 (raw (Asks 𝓛 κ q (owns (the_reader (κ, tt) ∷ []) (d, tt) (v ∷ [], tt))))
+        (asked_reader 𝓛 κ q d v) $
+        calls_for 𝓛 item.ended (item.clauses 𝓛 mem run) (((κ, tt), (q, tt), tt, (d, tt), (v ∷ [], tt)), tt) ! fm
         known-item (λ r. r ≡ item_at d.bytes.now d.at) (λ r ws. refl)
         (and_then ! (load ! (from ! (stop !)) (look ! 2 refl)) (no_more !)) (λ u r e' is-r.
         -- [what the item owns; the token; what the parameters own; _3; …; _2; …; _1; …; room for _0; …]
         -- the item lands in _0 and is read, and the locals are freed, _0 first
-        land ! (from ! (stop !)) (init ! 9 refl (item-typed 𝓛 κ r u is-r)) $ returns ! (look ! 9 refl) $
+        land ! (from ! (stop !)) (init ! 9 refl (item_typed 𝓛 κ r u is-r)) $ returns ! (look ! 9 refl) $
         move ! (9 ∷ 10 ∷ 7 ∷ 8 ∷ 5 ∷ 6 ∷ 3 ∷ 4 ∷ []) $ freed ! $ freed ! $ freed ! $ freed ! $ free0 ! $
         -- [what the item owns; the token; what the parameters own]: by what is known of the reader, r is what is asked
         suffices ! _ (ends_at 𝓛 item-at.ended apart.stay (item-at.clauses 𝓛 mem run)
-        (((κ, tt), (q, tt), tt, x, apart-vals x), tt) u r (tt, (tt, tt)) (tt, (tt, tt))) $
+        (((κ, tt), (q, tt), tt, x, apart_vals x), tt) u r (tt, (tt, tt)) (tt, (tt, tt))) $
         says ! (e' ∙ (λ i. item_at (e.0 i).now (e.1 i))) $ move ! (1 ∷ 2 ∷ 0 ∷ []) $ done !))))))
 
 pub item-at-spec : {M : Type 1} → stated.statement M
 unfolding code.routine
 item-at-spec 𝓤 𝓛 𝓜 𝓡 =
-    walk-enters 𝓛 𝓜 𝓡 code.env item-at.ended apart (item-at.clauses 𝓛 𝓜.mem 𝓡.run)
+    walk_enters 𝓛 𝓜 𝓡 code.env item-at.ended apart (item-at.clauses 𝓛 𝓜.mem 𝓡.run)
     #tlv·item-at code.function (code.unfolded 𝓤 𝓛.H 𝓜 𝓡) (λ fm κs qs bounds x g.
     walk 𝓛 𝓜.mem 𝓡.run _ _ fm
     (cited 𝓤 𝓛.H (New 𝓛 𝓜.mem 𝓡.run) 𝓜 𝓡 code.env #tlv·new

@@ -1,6 +1,6 @@
 -- A law for each return.
 use borrow.Author.Rules.{rules}
-use Rattle.tlv.specs.ItemLaws.{after-entry, after-end, after-refused}
+use Rattle.tlv.specs.ItemLaws.{after_entry, after_end, after_refused}
 use Rattle.tlv.proofs.place_after.Statement.{statement}
 use Rattle.tlv.proofs.place_after.Tie as tie
 
@@ -17,13 +17,13 @@ enum-told-2 : tie.Need-enum-told-2
 enum-told-2 c = search rules
 
 returns : tie.Need-returns
-returns c = search after-entry
+returns c = search after_entry
 
 returns-2 : tie.Need-returns-2
-returns-2 c = search after-end
+returns-2 c = search after_end
 
 returns-3 : tie.Need-returns-3
-returns-3 c = search after-refused
+returns-3 c = search after_refused
 
 pub place-after-spec : {M : Type 1} → statement M
 place-after-spec =

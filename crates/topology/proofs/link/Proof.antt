@@ -10,50 +10,50 @@ use borrow.Author.Rules.{rules}
 use borrow.Author.Tests.{not-true, not-false}
 use Rattle.area.specs.Limits.{width, unused}
 use Rattle.area.specs.Tables.{cell}
-use Rattle.topology.specs.Topology.{isUsed, topology}
-use Rattle.topology.specs.TopologyLaws.{Link, used-true, true-used, link-metric, no-link}
+use Rattle.topology.specs.Topology.{is_used, topology}
+use Rattle.topology.specs.TopologyLaws.{Link, used_true, true_used, link_metric, no_link}
 use Rattle.topology.proofs.link.Statement.{statement}
 use Rattle.topology.proofs.link.Tie as tie
 
 module _ (n : ℕ) (m : List ℕ) (i j : ℕ) where
   from_out : n ≤ i → unused ≡ topology n m i j
-  from_out h = sym (no-link n m i j (λ l. omega (arith, l.from)))
+  from_out h = sym (no_link n m i j (λ l. omega (arith, l.from)))
 
   to_out : n ≤ j → unused ≡ topology n m i j
-  to_out h = sym (no-link n m i j (λ l. omega (arith, l.to)))
+  to_out h = sym (no_link n m i j (λ l. omega (arith, l.to)))
 
   itself : i ≡ j → unused ≡ topology n m i j
-  itself e = sym (no-link n m i j (λ l. l.other e))
+  itself e = sym (no_link n m i j (λ l. l.other e))
 
   -- a test that fails
-  not_there : {t : Bool} → t ≡ isUsed (cell width m i j) → not t ≡ true → unused ≡ topology n m i j
+  not_there : {t : Bool} → t ≡ is_used (cell width m i j) → not t ≡ true → unused ≡ topology n m i j
   not_there {t} e f =
-      sym (no-link n m i j
-      (λ l. false≢true (sym (not-true t f) ∙ e ∙ true-used (cell width m i j) l.positive l.used)))
+      sym (no_link n m i j
+      (λ l. false≢true (sym (not-true t f) ∙ e ∙ true_used (cell width m i j) l.positive l.used)))
 
-  not_back : {t : Bool} → t ≡ isUsed (cell width m j i) → not t ≡ true → unused ≡ topology n m i j
+  not_back : {t : Bool} → t ≡ is_used (cell width m j i) → not t ≡ true → unused ≡ topology n m i j
   not_back {t} e f =
-      sym (no-link n m i j
-      (λ l. false≢true (sym (not-true t f) ∙ e ∙ true-used (cell width m j i) l.back-positive l.back-used)))
+      sym (no_link n m i j
+      (λ l. false≢true (sym (not-true t f) ∙ e ∙ true_used (cell width m j i) l.back_positive l.back_used)))
 
   -- all pass
   both_ways :
       {t u : Bool}
       → i < n → j < n → i ≢ j
-      → t ≡ isUsed (cell width m i j) → not t ≡ false
-      → u ≡ isUsed (cell width m j i) → not u ≡ false
+      → t ≡ is_used (cell width m i j) → not t ≡ false
+      → u ≡ is_used (cell width m j i) → not u ≡ false
       → cell width m i j ≡ topology n m i j
   both_ways {t} {u} a b f there t_true back u-true =
-      let x = used-true (cell width m i j) (sym there ∙ not-false t t_true) in
-      let y = used-true (cell width m j i) (sym back ∙ not-false u u-true) in
-      sym (link-metric (record {
+      let x = used_true (cell width m i j) (sym there ∙ not-false t t_true) in
+      let y = used_true (cell width m j i) (sym back ∙ not-false u u-true) in
+      sym (link_metric (record {
         from = a;
         to = b;
         other = f;
         positive = x.0;
         used = x.1;
-        back-positive = y.0;
-        back-used = y.1;
+        back_positive = y.0;
+        back_used = y.1;
       }))
 
 returns : tie.Need-returns

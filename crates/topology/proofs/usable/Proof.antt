@@ -9,19 +9,19 @@ use lib.ListN.{length}
 use Rattle.area.specs.Limits.{width, unused}
 use Rattle.topology.specs.Topology.{topology}
 use Rattle.topology.specs.Usable.{usable}
-use Rattle.topology.specs.TopologyLaws.{usable-many, usable-sized, usable-is}
+use Rattle.topology.specs.TopologyLaws.{usable_many, usable_sized, usable_is}
 use Rattle.topology.proofs.usable.Statement.{statement}
 use Rattle.topology.proofs.usable.Tie as tie
 
 module _ (n : ℕ) (m : List ℕ) (i j : ℕ) where
   many : width < n → unused ≡ usable n m i j
-  many a = sym (usable-many n m i j a)
+  many a = sym (usable_many n m i j a)
 
   sized : length m ≢ width * width → unused ≡ usable n m i j
-  sized a = sym (usable-sized n m i j a)
+  sized a = sym (usable_sized n m i j a)
 
   is : n ≤ width → length m ≡ width * width → (x : ℕ) → x ≡ topology n m i j → x ≡ usable n m i j
-  is a b x e = e ∙ sym (usable-is n m i j a b)
+  is a b x e = e ∙ sym (usable_is n m i j a b)
 
 returns : tie.Need-returns
 returns c = search many

@@ -4,7 +4,7 @@ use mathlib.Core.Path.{◌≡◌, refl, ◌∙◌}
 use native.Mathlib.Omega.{arith}
 use lib.ListN.{length, length-set}
 use Rattle.area.specs.Limits.{width, unreached}
-use Rattle.area.specs.TableLaws.{Front, front-none, front-more}
+use Rattle.area.specs.TableLaws.{Front, front_none, front_more}
 use Rattle.trees.proofs.blank.Statement.{statement}
 use Rattle.trees.proofs.blank.Tie as tie
 
@@ -22,7 +22,7 @@ decreases-loop dist₀ hops₀ k₀ dist hops k = width * width - k
 loop-holds : tie.Need-loop-init invariant-loop decreases-loop
 loop-holds c =
     let a = c.args in
-    (omega arith, omega arith, omega arith, front-none _ a.dist.now, front-none _ a.hops.now)
+    (omega arith, omega arith, omega arith, front_none _ a.dist.now, front_none _ a.hops.now)
 
 mul-dist : tie.Need-overflow-mul-dist invariant-loop decreases-loop
 mul-dist c = omega arith
@@ -48,8 +48,8 @@ loop-again c =
       omega arith,
       length-set at.dist at.k unreached ∙ at.invariant.1,
       length-set at.hops at.k 0 ∙ at.invariant.2,
-      front-more at.k _ at.dist unreached at.invariant.3 (omega arith) refl,
-      front-more at.k _ at.hops 0 at.invariant.4 (omega arith) refl,
+      front_more at.k _ at.dist unreached at.invariant.3 (omega arith) refl,
+      front_more at.k _ at.hops 0 at.invariant.4 (omega arith) refl,
     )
 
 same_length : tie.Need-same-length invariant-loop decreases-loop

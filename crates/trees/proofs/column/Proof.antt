@@ -4,8 +4,8 @@ use native.Mathlib.Omega.{arith}
 use borrow.Author.Rules.{rules}
 use lib.ListN.{get_or-replicate}
 use Rattle.area.specs.Limits.{width, unreached}
-use Rattle.area.specs.ColumnLaws.{column-built}
-use Rattle.topology.specs.Cells.{distanceCell, hopCell}
+use Rattle.area.specs.ColumnLaws.{column_built}
+use Rattle.topology.specs.Cells.{distance_cell, hop_cell}
 use Rattle.trees.proofs.column.Statement.{statement}
 use Rattle.trees.proofs.column.Tie as tie
 
@@ -53,10 +53,10 @@ returns c =
     let m = a.metric.now in
     let d = a.d in (
       put.0
-          ∙ column-built width a.dist.now d (λ i. distanceCell n m i d) last.0 (omega arith)
+          ∙ column_built width a.dist.now d (λ i. distance_cell n m i d) last.0 (omega arith)
           at.tree.ensures.0,
       put.1
-          ∙ column-built width a.hops.now d (λ i. hopCell n m i d) last.1.0 (omega arith)
+          ∙ column_built width a.hops.now d (λ i. hop_cell n m i d) last.1.0 (omega arith)
           at.tree.ensures.1,
     )
 

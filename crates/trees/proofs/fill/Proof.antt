@@ -5,17 +5,17 @@ use mathlib.Core.Logic.{inr}
 use native.Mathlib.Omega.{arith}
 use Rattle.area.specs.Limits.{width, unreached}
 use Rattle.area.specs.TableLaws.{cell_in}
-use Rattle.area.specs.ColumnLaws.{Columns, columns-start, columns-more, columns-all}
-use Rattle.topology.specs.Cells.{distanceCell, hopCell}
-use Rattle.topology.specs.CellLaws.{distance-out, hops-out}
+use Rattle.area.specs.ColumnLaws.{Columns, columns_start, columns_more, columns_all}
+use Rattle.topology.specs.Cells.{distance_cell, hop_cell}
+use Rattle.topology.specs.CellLaws.{distance_out, hops_out}
 use Rattle.trees.proofs.fill.Statement.{statement}
 use Rattle.trees.proofs.fill.Tie as tie
 
 abbrev invariant-loop : tie.invariant-loop
 invariant-loop n metric dist₀ hops₀ links d₀ dist hops d =
     (d ≤ n)
-    × Columns width (distanceCell n metric) (λ _ _. unreached) d dist
-    × Columns width (hopCell n metric) (λ _ _. 0) d hops
+    × Columns width (distance_cell n metric) (λ _ _. unreached) d dist
+    × Columns width (hop_cell n metric) (λ _ _. 0) d hops
 
 abbrev decreases-loop : tie.decreases-loop
 decreases-loop n metric dist₀ hops₀ links d₀ dist hops d = n - d
@@ -30,9 +30,9 @@ loop-holds : tie.Need-loop-init invariant-loop decreases-loop
 loop-holds c =
     let blank = c.before.before.before.before.before.blank in (
       omega arith,
-      columns-start width _ _ blank.new.0 (omega arith)
+      columns_start width _ _ blank.new.0 (omega arith)
           (λ i j a b. blank.ensures.0 _ (cell_in width i j a b)),
-      columns-start width _ _ blank.new.1.0 (omega arith)
+      columns_start width _ _ blank.new.1.0 (omega arith)
           (λ i j a b. blank.ensures.1 _ (cell_in width i j a b)),
     )
 
@@ -57,8 +57,8 @@ loop-again c =
     let column = c.before.before.before.before.column.ensures in
     let at = c.before.before.before.before.before.before.before.before.before.loop in (
       omega arith,
-      columns-more width _ _ at.d at.dist _ at.invariant.1 (omega arith) column.0,
-      columns-more width _ _ at.d at.hops _ at.invariant.2 (omega arith) column.1,
+      columns_more width _ _ at.d at.dist _ at.invariant.1 (omega arith) column.0,
+      columns_more width _ _ at.d at.hops _ at.invariant.2 (omega arith) column.1,
     )
 
 same_length : tie.Need-same-length invariant-loop decreases-loop
@@ -74,9 +74,9 @@ returns c =
     let n = a.n in
     let m = a.metric.now in
     let e : at.d ≡ n = omega arith in (
-      columns-all width _ _ n at.dist (omega arith) (rw e at at.invariant.1)
-          (λ i j l. sym (distance-out n m i j (inr l))),
-      columns-all width _ _ n at.hops (omega arith) (rw e at at.invariant.2) (λ i j l. sym (hops-out n m i j (inr l))),
+      columns_all width _ _ n at.dist (omega arith) (rw e at at.invariant.1)
+          (λ i j l. sym (distance_out n m i j (inr l))),
+      columns_all width _ _ n at.hops (omega arith) (rw e at at.invariant.2) (λ i j l. sym (hops_out n m i j (inr l))),
     )
 
 pub fill_spec : {M : Type 1} → statement M

@@ -3,7 +3,7 @@ use Prim.Native.Nat.{◌-◌, ◌≤◌}
 use mathlib.Core.Path.{◌≡◌, refl}
 use native.Mathlib.Omega.{arith}
 use Rattle.area.specs.Limits.{width}
-use Rattle.area.specs.ColumnLaws.{ColumnTo, column-start, column-more, column-all}
+use Rattle.area.specs.ColumnLaws.{ColumnTo, column_start, column_more, column_all}
 use Rattle.trees.specs.Turns.{entry}
 use Rattle.trees.proofs.put.Statement.{statement}
 use Rattle.trees.proofs.put.Tie as tie
@@ -16,7 +16,7 @@ abbrev decreases-loop : tie.decreases-loop
 decreases-loop d found by dist₀ hops₀ i₀ dist hops i = width - i
 
 loop-holds : tie.Need-loop-init invariant-loop decreases-loop
-loop-holds c = (omega arith, column-start width _ _ _ (omega arith), column-start width _ _ _ (omega arith))
+loop-holds c = (omega arith, column_start width _ _ _ (omega arith), column_start width _ _ _ (omega arith))
 
 mul_at : tie.Need-overflow-mul-at invariant-loop decreases-loop
 mul_at c = omega arith
@@ -58,8 +58,8 @@ loop-again : tie.Need-loop-preserved invariant-loop decreases-loop
 loop-again c =
     let inv = c.before.before.before.loop.invariant in (
       omega arith,
-      column-more width _ _ _ _ _ inv.1 _ (omega arith) (omega arith) refl,
-      column-more width _ _ _ _ _ inv.2 _ (omega arith) (omega arith) refl,
+      column_more width _ _ _ _ _ inv.1 _ (omega arith) (omega arith) refl,
+      column_more width _ _ _ _ _ inv.2 _ (omega arith) (omega arith) refl,
     )
 
 same_length : tie.Need-same-length invariant-loop decreases-loop
@@ -72,8 +72,8 @@ returns : tie.Need-returns invariant-loop decreases-loop
 returns c =
     let at = c.before.loop in
     let e : at.i ≡ width = omega arith in (
-      column-all width _ _ _ _ (omega arith) (rw e at at.invariant.1),
-      column-all width _ _ _ _ (omega arith) (rw e at at.invariant.2),
+      column_all width _ _ _ _ (omega arith) (rw e at at.invariant.1),
+      column_all width _ _ _ _ (omega arith) (rw e at at.invariant.2),
     )
 
 pub put_spec : {M : Type 1} → statement M

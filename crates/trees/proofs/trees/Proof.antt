@@ -7,26 +7,26 @@ use borrow.Author.Rules.{rules}
 use lib.ListN.{length}
 use Rattle.area.specs.Limits.{width}
 use Rattle.area.specs.Tables.{tabulate}
-use Rattle.topology.specs.Cells.{distanceCell, hopCell}
-use Rattle.trees.specs.Trees.{areSizes, distanceTable, hopTable}
-use Rattle.trees.specs.TreesLaws.{sizes-are, distances-filled, hops-filled, distances-left, hops-left}
+use Rattle.topology.specs.Cells.{distance_cell, hop_cell}
+use Rattle.trees.specs.Trees.{are_sizes, distance_table, hop_table}
+use Rattle.trees.specs.TreesLaws.{sizes_are, distances_filled, hops_filled, distances_left, hops_left}
 use Rattle.trees.proofs.trees.Statement.{statement}
 use Rattle.trees.proofs.trees.Tie as tie
 
 module _
     (n : ℕ) (m d h : List ℕ)
-    (right : Bool) (told : right ≡ areSizes n (length m) (length d) (length h)) where
+    (right : Bool) (told : right ≡ are_sizes n (length m) (length d) (length h)) where
   filled :
       {d' h' : List ℕ}
       → right ≡ true
-      → d' ≡ tabulate width (distanceCell n m)
-      → h' ≡ tabulate width (hopCell n m)
-      → (d' ≡ distanceTable n m d h) × (h' ≡ hopTable n m d h)
+      → d' ≡ tabulate width (distance_cell n m)
+      → h' ≡ tabulate width (hop_cell n m)
+      → (d' ≡ distance_table n m d h) × (h' ≡ hop_table n m d h)
   filled e a b =
-      (a ∙ sym (distances-filled n m d h (sym told ∙ e)), b ∙ sym (hops-filled n m d h (sym told ∙ e)))
+      (a ∙ sym (distances_filled n m d h (sym told ∙ e)), b ∙ sym (hops_filled n m d h (sym told ∙ e)))
 
-  left : right ≡ false → (d ≡ distanceTable n m d h) × (h ≡ hopTable n m d h)
-  left e = (sym (distances-left n m d h (sym told ∙ e)), sym (hops-left n m d h (sym told ∙ e)))
+  left : right ≡ false → (d ≡ distance_table n m d h) × (h ≡ hop_table n m d h)
+  left e = (sym (distances_left n m d h (sym told ∙ e)), sym (hops_left n m d h (sym told ∙ e)))
 
 are-sizes-requires : tie.Need-are-sizes-requires
 are-sizes-requires c κs = search rules
@@ -34,7 +34,7 @@ are-sizes-requires c κs = search rules
 fill-requires : tie.Need-fill-requires
 fill-requires c κs =
     let at = c.before.before in
-    let s = sizes-are _ _ _ _ (sym at.before.are-sizes.ensures ∙ at.if1.true) in
+    let s = sizes_are _ _ _ _ (sym at.before.are-sizes.ensures ∙ at.if1.true) in
     ((s.most, s.metrics), (s.distances, s.hops))
 
 same_length : tie.Need-same-length

@@ -1,5 +1,5 @@
--- Text or not, what is written for the bytes that were read is what is written for the input (written-first,
--- error-first), and `out` has room for it (written-room).
+-- Text or not, what is written for the bytes that were read is what is written for the input (written_first,
+-- error_first), and `out` has room for it (written_room).
 use Prim.Native.Nat.{ℕ, ◌+◌, ◌≤◌}
 use mathlib.Core.Path.{◌≡◌, sym, ap, ◌∙◌}
 use mathlib.Core.Bool.{Bool}
@@ -11,10 +11,10 @@ use Rattle.io.specs.Counts.{IsPrefixLen}
 use Rattle.text.specs.Text.{Appended}
 use Rattle.hex.specs.Hex.{most}
 use Rattle.streams.specs.Streams.{ReadOf}
-use Rattle.streams.specs.StreamLaws.{whole-text}
-use Rattle.unhex.specs.Unhex.{written, isError}
-use Rattle.unhex.specs.UnhexLaws.{text-written, text-error, binary-written, binary-error}
-use Rattle.unhex.specs.UnhexLaws.{written-first, error-first, written-room}
+use Rattle.streams.specs.StreamLaws.{whole_text_lem}
+use Rattle.unhex.specs.Unhex.{written, is_error}
+use Rattle.unhex.specs.UnhexLaws.{text_written, text_error, binary_written, binary_error}
+use Rattle.unhex.specs.UnhexLaws.{written_first, error_first, written_room}
 use Rattle.unhex.proofs.whole.Statement.{statement}
 use Rattle.unhex.proofs.whole.Tie as tie
 
@@ -27,16 +27,16 @@ module _ (buffer : List ℕ) (n : ℕ) (size : length buffer ≡ most + 1) where
       {o w p : List ℕ} {r : ℕ} {f : Bool}
       → Appended o 0 w p r
       → written (take n buffer) ≡ w
-      → f ≡ isError (take n buffer)
+      → f ≡ is_error (take n buffer)
       → most + 1 ≤ length o
       → IsPrefixLen r p
       × (((input : List ℕ) → ReadOf input buffer n → take r p ≡ written input)
-      × ((input : List ℕ) → ReadOf input buffer n → f ≡ isError input))
+      × ((input : List ℕ) → ReadOf input buffer n → f ≡ is_error input))
   whole-output {o} {w} {p} {r} {f} x is e fits =
       let done : Appended o 0 (written (take n buffer)) p r = rw is x in
       let text =
-      whole-text written buffer n done (λ l. omega (arith, written-room l)) (λ l. rw size (written-first l)) in
-      (text.0, (text.1, λ input from. e ∙ ap isError from ∙ rw size (error-first input)))
+      whole_text_lem written buffer n done (λ l. omega (arith, written_room l)) (λ l. rw size (written_first l)) in
+      (text.0, (text.1, λ input from. e ∙ ap is_error from ∙ rw size (error_first input)))
 
 slice-aggregate-input : tie.Need-slice-aggregate-input
 slice-aggregate-input c = omega arith
@@ -59,8 +59,8 @@ returns c =
     let size : length a.buffer.now ≡ most + 1 = omega arith in
     let few = short a.buffer.now a.count size in
     let done = called.unhex.ensures in
-    let answer = done.1 ∙ sym (text-error _ few is) in
-    whole-output a.buffer.now a.count size done.0 (text-written _ few is) answer (omega arith)
+    let answer = done.1 ∙ sym (text_error _ few is) in
+    whole-output a.buffer.now a.count size done.0 (text_written _ few is) answer (omega arith)
 
 append-requires : tie.Need-append-requires
 append-requires c κs = search rules
@@ -76,8 +76,8 @@ returns-2 c =
     let none = sym branch.before.is-text.ensures ∙ branch.if1.false in
     let size : length a.buffer.now ≡ most + 1 = omega arith in
     let few = short a.buffer.now a.count size in
-    whole-output a.buffer.now a.count size called.append.ensures (binary-written _ few none)
-    (sym (binary-error _ few none)) (omega arith)
+    whole-output a.buffer.now a.count size called.append.ensures (binary_written _ few none)
+    (sym (binary_error _ few none)) (omega arith)
 
 pub whole-spec : {M : Type 1} → statement M
 whole-spec =

@@ -1,13 +1,13 @@
 use native.Mathlib.Omega.{arith}
 use borrow.Author.Rules.{rules}
-use Rattle.area.specs.ByteLaws.{byte-missing}
+use Rattle.area.specs.ByteLaws.{byte_missing}
 use Rattle.area.proofs.bytes.byte.Statement.{statement}
 use Rattle.area.proofs.bytes.byte.Tie as tie
 
 returns : tie.Need-returns
 returns c =
     let a = c.before.before.args in
-    (byte-missing a.list.now a.at (omega arith), omega arith)
+    (byte_missing a.list.now a.at (omega arith), omega arith)
 
 shared-slice-read-wide : tie.Need-shared-slice-read-wide
 shared-slice-read-wide c = search rules

@@ -1,13 +1,13 @@
 use native.Mathlib.Omega.{arith}
 use borrow.Author.Rules.{rules}
-use Rattle.area.specs.ByteLaws.{two-missing}
+use Rattle.area.specs.ByteLaws.{two_missing}
 use Rattle.area.proofs.bytes.two.Statement.{statement}
 use Rattle.area.proofs.bytes.two.Tie as tie
 
 returns : tie.Need-returns
 returns c =
     let a = c.before.before.args in
-    (two-missing a.list.now a.at (omega arith), omega arith)
+    (two_missing a.list.now a.at (omega arith), omega arith)
 
 byte-requires : tie.Need-byte-requires
 byte-requires c κs = search rules

@@ -4,7 +4,7 @@ use Prim.Native.Nat.{◌-◌, ◌≤◌}
 use native.Mathlib.Omega.{arith}
 use lib.ListN.{length, length-set}
 use Rattle.area.specs.Limits.{unused}
-use Rattle.area.specs.TableLaws.{Front, front-none, front-more, is-build}
+use Rattle.area.specs.TableLaws.{Front, front_none, front_more, is_build}
 use Rattle.area.proofs.metrics.clear.Statement.{statement}
 use Rattle.area.proofs.metrics.clear.Tie as tie
 
@@ -16,7 +16,7 @@ abbrev decreases-loop : tie.decreases-loop
 decreases-loop table₀ k₀ k-end table k = length table₀ - k
 
 loop-holds : tie.Need-loop-init invariant-loop decreases-loop
-loop-holds c = (omega arith, refl, refl, front-none _ c.args.table.now)
+loop-holds c = (omega arith, refl, refl, front_none _ c.args.table.now)
 
 mul-table : tie.Need-overflow-mul-table invariant-loop decreases-loop
 mul-table c = omega arith
@@ -33,7 +33,7 @@ loop-less c = omega arith
 loop-again : tie.Need-loop-preserved invariant-loop decreases-loop
 loop-again c =
     let at-loop = c.before.loop in
-    let front = front-more at-loop.k _ at-loop.table _ at-loop.invariant.3 (omega arith) refl in
+    let front = front_more at-loop.k _ at-loop.table _ at-loop.invariant.3 (omega arith) refl in
     (omega arith, at-loop.invariant.1, simp length-set at-loop.invariant.2, front)
 
 same_length : tie.Need-same-length invariant-loop decreases-loop
@@ -42,7 +42,7 @@ same_length c = omega arith
 returns : tie.Need-returns invariant-loop decreases-loop
 returns c =
     let at-loop = c.before.loop in
-    is-build (length c.before.before.args.table.now) (λ _. unused) at-loop.table at-loop.invariant.2
+    is_build (length c.before.before.args.table.now) (λ _. unused) at-loop.table at-loop.invariant.2
     (λ i h. at-loop.invariant.3 i (omega arith))
 
 pub clear_spec : {M : Type 1} → statement M

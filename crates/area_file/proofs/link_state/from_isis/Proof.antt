@@ -1,6 +1,6 @@
 -- What is printed for the parts of the stream is what is printed for the stream.
 use borrow.Author.Rules.{rules}
-use Rattle.area_file.specs.FromIsisLaws.{isis-is, isis-table}
+use Rattle.area_file.specs.FromIsisLaws.{isis_is, isis_table_lem}
 use Rattle.area_file.proofs.link_state.from_isis.Statement.{statement}
 use Rattle.area_file.proofs.link_state.from_isis.Tie as tie
 
@@ -44,7 +44,7 @@ same-length-2 : tie.Need-same-length-2
 same-length-2 c = search rules
 
 returns : tie.Need-returns
-returns c = (search isis-is, search isis-table)
+returns c = (search isis_is, search isis_table_lem)
 
 pub from-isis-spec : {M : Type 1} → statement M
 from-isis-spec =

@@ -1,7 +1,7 @@
 -- One law for each return: the lists are too long, they are refused, or their area is printed.
 use borrow.Author.Rules.{rules}
-use Rattle.area_file.specs.FromIsisLaws.{table-long, long-appended, table_filled}
-use Rattle.area_file.specs.FromIsisLaws.{refused-appended, accepted-appended}
+use Rattle.area_file.specs.FromIsisLaws.{table_long, long_appended, table_filled}
+use Rattle.area_file.specs.FromIsisLaws.{refused_appended, accepted_appended}
 use Rattle.area_file.proofs.link_state.of_lists.Statement.{statement}
 use Rattle.area_file.proofs.link_state.of_lists.Tie as tie
 
@@ -15,7 +15,7 @@ same_length : tie.Need-same-length
 same_length c = search rules
 
 returns : tie.Need-returns
-returns c = (search long-appended, search table-long)
+returns c = (search long_appended, search table_long)
 
 count-requires : tie.Need-count-requires
 count-requires c κs = search rules
@@ -39,7 +39,7 @@ same-length-3 : tie.Need-same-length-3
 same-length-3 c = search rules
 
 returns-2 : tie.Need-returns-2
-returns-2 c = (search refused-appended, search table_filled)
+returns-2 c = (search refused_appended, search table_filled)
 
 append-area-requires : tie.Need-append-area-requires
 append-area-requires c κs = search rules
@@ -51,7 +51,7 @@ same-length-5 : tie.Need-same-length-5
 same-length-5 c = search rules
 
 returns-3 : tie.Need-returns-3
-returns-3 c = (search accepted-appended, search table_filled)
+returns-3 c = (search accepted_appended, search table_filled)
 
 pub of-lists-spec : {M : Type 1} → statement M
 of-lists-spec =

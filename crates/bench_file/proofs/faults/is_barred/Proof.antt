@@ -4,23 +4,23 @@ use mathlib.Core.Bool.{Bool, true, false}
 use borrow.Author.Rules.{rules}
 use lib.Dec.{eqb}
 use Rattle.area.specs.Limits.{unused}
-use Rattle.area.specs.Refusals.{deadLink}
+use Rattle.area.specs.Refusals.{dead_link}
 use Rattle.area.specs.Tests.{pick}
 use Rattle.entries.specs.declared.Entry.{Entry}
 use Rattle.bench_file.specs.declared.Format.{Format}
-use Rattle.bench_file.specs.Formats.{takesDead}
-use Rattle.bench_file.specs.Faults.{deadRefusal}
-use Rattle.bench_file.specs.FaultLaws.{dead-taken, dead-told}
+use Rattle.bench_file.specs.Formats.{takes_dead}
+use Rattle.bench_file.specs.Faults.{dead_refusal}
+use Rattle.bench_file.specs.FaultLaws.{dead_taken, dead_told}
 use Rattle.bench_file.proofs.faults.is_barred.Statement.{statement}
 use Rattle.bench_file.proofs.faults.is_barred.Tie as tie
 
 -- t is what `takes_dead` gave
-module _ (format : Format) (x : Entry) (t : Bool) (told : t ≡ takesDead format) where
-  stands : t ≡ true → deadRefusal format x ≡ 0
-  stands e = dead-taken format x (sym told ∙ e)
+module _ (format : Format) (x : Entry) (t : Bool) (told : t ≡ takes_dead format) where
+  stands : t ≡ true → dead_refusal format x ≡ 0
+  stands e = dead_taken format x (sym told ∙ e)
 
-  by-metric : t ≡ false → deadRefusal format x ≡ pick (eqb x.metric unused) deadLink 0
-  by-metric e = dead-told format x (sym told ∙ e)
+  by-metric : t ≡ false → dead_refusal format x ≡ pick (eqb x.metric unused) dead_link 0
+  by-metric e = dead_told format x (sym told ∙ e)
 
 takes-dead-requires : tie.Need-takes-dead-requires
 takes-dead-requires c κs = search rules

@@ -1,7 +1,7 @@
 -- The loop's invariant: the links before e have no fault, and the sets hold their pairs.
 --     some             a link that is cut short is refused
 --     judged, faulty, passed       one turn: the answer is the link's refusal, by what the calls gave
---     in-sets          a link without fault has a set to add its pair to
+--     in_sets          a link without fault has a set to add its pair to
 use mathlib.Core.Path.{◌≡◌, sym, ◌∙◌}
 use mathlib.Core.Bool.{Bool, true, false, not}
 use mathlib.Core.Logic.{◌≢◌}
@@ -13,56 +13,56 @@ use borrow.Author.Tests.{eqb-true, eqb-false, not-true, not-false}
 use lib.Dec.{eqb}
 use Rattle.area.specs.declared.refusal.Verdict.{Verdict}
 use Rattle.area.specs.Limits.{width}
-use Rattle.area.specs.Refusals.{verdictNumber}
-use Rattle.area.specs.TestLaws.{first-none, first-fault}
+use Rattle.area.specs.Refusals.{verdict_number}
+use Rattle.area.specs.TestLaws.{first_none, first_fault}
 use Rattle.area.specs.Tests.{first}
 use Rattle.entries.specs.declared.Entry.{Entry}
-use Rattle.entries.specs.Entries.{entryCount, entry_of}
+use Rattle.entries.specs.Entries.{entry_count, entry_of}
 use Rattle.entries.specs.SeenLaws.{Seen, seen_none, seen_next}
 use Rattle.bench_file.specs.declared.Format.{Format}
-use Rattle.bench_file.specs.Faults.{linkRefusal, seenRefusal}
-use Rattle.bench_file.specs.FaultLaws.{link-cut}
-use Rattle.bench_file.proofs.Pairs.{link-told, in-sets as inside}
+use Rattle.bench_file.specs.Faults.{link_refusal, seen_refusal}
+use Rattle.bench_file.specs.FaultLaws.{link_cut}
+use Rattle.bench_file.proofs.Pairs.{link_told, in_sets as inside}
 use Rattle.bench_file.proofs.faults.links.Statement.{statement}
 use Rattle.bench_file.proofs.faults.links.Tie as tie
 
 -- a link that is cut short is refused
-some : (format : Format) (n : ℕ) (l : List ℕ) (e : ℕ) → entryCount l ≤ e → linkRefusal format n l e ≢ 0
-some format n l e h z = let cut = link-cut format n l e h in let x : ⊥ = omega (arith, cut, z) in x
+some : (format : Format) (n : ℕ) (l : List ℕ) (e : ℕ) → entry_count l ≤ e → link_refusal format n l e ≢ 0
+some format n l e h z = let cut = link_cut format n l e h in let x : ⊥ = omega (arith, cut, z) in x
 
 -- one turn: x is link e, v what `link` gave for it, and ok whether that is accepted
 module _
     (format : Format) (n : ℕ) (l : List ℕ) (e : ℕ) (s : List ℕ) (most : n ≤ width) (seen : Seen l e s)
-    (whole : ℕ) (counted : whole ≡ entryCount l) (h : e < whole)
+    (whole : ℕ) (counted : whole ≡ entry_count l) (h : e < whole)
     (x : Entry) (is : x ≡ entry_of l e)
-    (v : Verdict) (told : verdictNumber v ≡ seenRefusal format n x s)
-    (ok : Bool) (good : ok ≡ eqb (verdictNumber v) 0)
+    (v : Verdict) (told : verdict_number v ≡ seen_refusal format n x s)
+    (ok : Bool) (good : ok ≡ eqb (verdict_number v) 0)
   where
-    judged : verdictNumber v ≡ linkRefusal format n l e
-    judged = told ∙ link-told format n l e s most seen x is (omega arith)
+    judged : verdict_number v ≡ link_refusal format n l e
+    judged = told ∙ link_told format n l e s most seen x is (omega arith)
 
     faulty :
         (k : ℕ)
         → e < k
-        → ((d : ℕ) → d < e → linkRefusal format n l d ≡ 0)
+        → ((d : ℕ) → d < e → link_refusal format n l d ≡ 0)
         → not ok ≡ true
-        → verdictNumber v ≡ first k (linkRefusal format n l)
+        → verdict_number v ≡ first k (link_refusal format n l)
     faulty k b f t =
-        let refused = eqb-false (verdictNumber v) 0 (sym good ∙ not-true ok t) in
-        judged ∙ sym (first-fault (linkRefusal format n l) e k b f (λ z. refused (judged ∙ z)))
+        let refused = eqb-false (verdict_number v) 0 (sym good ∙ not-true ok t) in
+        judged ∙ sym (first_fault (link_refusal format n l) e k b f (λ z. refused (judged ∙ z)))
 
-    passed : not ok ≡ false → linkRefusal format n l e ≡ 0
-    passed t = sym judged ∙ eqb-true (verdictNumber v) 0 (sym good ∙ not-false ok t)
+    passed : not ok ≡ false → link_refusal format n l e ≡ 0
+    passed t = sym judged ∙ eqb-true (verdict_number v) 0 (sym good ∙ not-false ok t)
 
-    in-sets : not ok ≡ false → x.from < width
-    in-sets t = inside format n l e s most seen x is (passed t)
+    in_sets : not ok ≡ false → x.from < width
+    in_sets t = inside format n l e s most seen x is (passed t)
 
 abbrev invariant-loop : tie.invariant-loop
 invariant-loop format n list announced seen₀ whole e₀ seen e =
     (e ≤ announced)
-    × (whole ≡ entryCount list)
+    × (whole ≡ entry_count list)
     × Seen list e seen
-    × ((k : ℕ) → k < e → linkRefusal format n list k ≡ 0)
+    × ((k : ℕ) → k < e → link_refusal format n list k ≡ 0)
 
 abbrev decreases-loop : tie.decreases-loop
 decreases-loop format n list announced seen₀ whole e₀ seen e = announced - e
@@ -81,8 +81,8 @@ returns c =
     let here = at-loop.e in
     let cut = some a.format a.n l here (omega arith) in
     sym
-    (first-fault (linkRefusal a.format a.n l) here a.announced (omega arith) at-loop.invariant.3 cut
-    ∙ link-cut a.format a.n l here (omega arith))
+    (first_fault (link_refusal a.format a.n l) here a.announced (omega arith) at-loop.invariant.3 cut
+    ∙ link_cut a.format a.n l here (omega arith))
 
 decode-requires : tie.Need-decode-requires invariant-loop decreases-loop
 decode-requires c κs = omega arith
@@ -109,13 +109,13 @@ returns-2 c =
 mul-add : tie.Need-overflow-mul-add invariant-loop decreases-loop
 mul-add c =
     let link = c.before.before.before.before.decode.result in
-    let own : link.from < width = search in-sets in
+    let own : link.from < width = search in_sets in
     omega (arith, own)
 
 array-read-add : tie.Need-array-read-add invariant-loop decreases-loop
 array-read-add c =
     let link = c.before.before.before.before.decode.result in
-    let own : link.from < width = search in-sets in
+    let own : link.from < width = search in_sets in
     omega (arith, own)
 
 add-requires : tie.Need-add-requires invariant-loop decreases-loop
@@ -124,13 +124,13 @@ add-requires c κs = omega arith
 mul-seen : tie.Need-overflow-mul-seen invariant-loop decreases-loop
 mul-seen c =
     let link = c.before.before.before.before.before.decode.result in
-    let own : link.from < width = search in-sets in
+    let own : link.from < width = search in_sets in
     omega (arith, own)
 
 array-write-seen : tie.Need-array-write-seen invariant-loop decreases-loop
 array-write-seen c =
     let link = c.before.before.before.before.before.decode.result in
-    let own : link.from < width = search in-sets in
+    let own : link.from < width = search in_sets in
     omega (arith, own)
 
 add-e : tie.Need-overflow-add-e invariant-loop decreases-loop
@@ -165,8 +165,8 @@ returns-3 : tie.Need-returns-3 invariant-loop decreases-loop
 returns-3 c =
     let at-loop = c.before.loop in
     let a = c.before.before.before.before.args in
-    let each = linkRefusal a.format a.n a.list.now in
-    sym (first-none each a.announced (λ k h. at-loop.invariant.3 k (omega arith)))
+    let each = link_refusal a.format a.n a.list.now in
+    sym (first_none each a.announced (λ k h. at-loop.invariant.3 k (omega arith)))
 
 pub links-spec : {M : Type 1} → statement M
 links-spec =

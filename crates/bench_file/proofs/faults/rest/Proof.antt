@@ -1,4 +1,4 @@
--- `rest` has a return for each rung of the ladder `restRefusal`. The code knows the counts as it has read them; the
+-- `rest` has a return for each rung of the ladder `rest_refusal`. The code knows the counts as it has read them; the
 -- laws here say of these what FaultLaws says of the definitions' counts, and each return is found by its law:
 --     cut-count, many-changes, cut-changes, many-steps, cut-steps, more, passes
 use mathlib.Core.Path.{◌≡◌, sym}
@@ -8,70 +8,70 @@ use native.Mathlib.Omega.{arith}
 use borrow.Author.Rules.{rules}
 use lib.ListN.{length, get_or}
 use Rattle.area.specs.Bytes.{two}
-use Rattle.area.specs.Limits.{mostChanges, mostSteps}
-use Rattle.area.specs.Refusals.{incomplete, trailing, tooMany}
+use Rattle.area.specs.Limits.{most_changes, most_steps}
+use Rattle.area.specs.Refusals.{incomplete, trailing, too_many}
 use Rattle.bench_file.specs.declared.Format.{Format}
-use Rattle.bench_file.specs.Formats.{timesSize}
-use Rattle.bench_file.specs.Sections.{linkCount, changeCount, changesAt, stepCount, stepsAt, end}
-use Rattle.bench_file.specs.Faults.{restRefusal}
-use Rattle.bench_file.specs.FaultLaws.{read-changes, read-steps, rest-cut-count, rest-many-changes}
-use Rattle.bench_file.specs.FaultLaws.{rest-cut-changes, rest-many-steps, rest-cut-steps, rest_more, rest-passes}
+use Rattle.bench_file.specs.Formats.{times_size}
+use Rattle.bench_file.specs.Sections.{link_count, change_count, changes_at, step_count, steps_at, end}
+use Rattle.bench_file.specs.Faults.{rest_refusal}
+use Rattle.bench_file.specs.FaultLaws.{read_changes, read_steps, rest_cut_count, rest_many_changes}
+use Rattle.bench_file.specs.FaultLaws.{rest_cut_changes, rest_many_steps, rest_cut_steps, rest_more, rest_passes}
 use Rattle.bench_file.proofs.faults.rest.Statement.{statement}
 use Rattle.bench_file.proofs.faults.rest.Tie as tie
 
 -- k links, x changes and y steps have been counted
-module _ (format : Format) (f : List ℕ) (k : ℕ) (is : k ≡ linkCount f) where
-  cut-count : length f < 3 + 5 * k + 1 → incomplete ≡ restRefusal format f
-  cut-count a = sym (rest-cut-count format f (omega (arith, is)))
+module _ (format : Format) (f : List ℕ) (k : ℕ) (is : k ≡ link_count f) where
+  cut-count : length f < 3 + 5 * k + 1 → incomplete ≡ rest_refusal format f
+  cut-count a = sym (rest_cut_count format f (omega (arith, is)))
 
   module _ (a : 3 + 5 * k + 1 ≤ length f) (x : ℕ) (told : x ≡ get_or f (3 + 5 * k) 0) where
-    counted : changesAt f ≤ length f
+    counted : changes_at f ≤ length f
     counted = omega (arith, is)
 
-    changes : x ≡ changeCount f
-    changes = read-changes f is told
+    changes : x ≡ change_count f
+    changes = read_changes f is told
 
-    many-changes : mostChanges < x → tooMany ≡ restRefusal format f
-    many-changes b = sym (rest-many-changes format f counted (omega (arith, changes)))
+    many-changes : most_changes < x → too_many ≡ rest_refusal format f
+    many-changes b = sym (rest_many_changes format f counted (omega (arith, changes)))
 
-    module _ (b : x ≤ mostChanges) (z : ℕ) (times : (z ≡ timesSize format) × (z ≤ 4)) where
-      few-changes : changeCount f ≤ mostChanges
-      few-changes = omega (arith, changes)
+    module _ (b : x ≤ most_changes) (z : ℕ) (times : (z ≡ times_size format) × (z ≤ 4)) where
+      few_changes : change_count f ≤ most_changes
+      few_changes = omega (arith, changes)
 
-      cut-changes : length f < 3 + 5 * k + 1 + 5 * x + z + 2 → incomplete ≡ restRefusal format f
-      cut-changes c = sym (rest-cut-changes format f counted few-changes (omega (arith, is, changes, times.0)))
+      cut-changes : length f < 3 + 5 * k + 1 + 5 * x + z + 2 → incomplete ≡ rest_refusal format f
+      cut-changes c = sym (rest_cut_changes format f counted few_changes (omega (arith, is, changes, times.0)))
 
       module _
           (c : 3 + 5 * k + 1 + 5 * x + z + 2 ≤ length f)
           (y : ℕ) (stepped : y ≡ two f (3 + 5 * k + 1 + 5 * x + z)) where
-        whole : stepsAt format f ≤ length f
+        whole : steps_at format f ≤ length f
         whole = omega (arith, is, changes, times.0)
 
-        steps : y ≡ stepCount format f
-        steps = read-steps f is told format times.0 stepped
+        steps : y ≡ step_count format f
+        steps = read_steps f is told format times.0 stepped
 
-        many-steps : mostSteps < y → tooMany ≡ restRefusal format f
-        many-steps d = sym (rest-many-steps format f counted few-changes whole (omega (arith, steps)))
+        many-steps : most_steps < y → too_many ≡ rest_refusal format f
+        many-steps d = sym (rest_many_steps format f counted few_changes whole (omega (arith, steps)))
 
-        module _ (d : y ≤ mostSteps) where
-          few-steps : stepCount format f ≤ mostSteps
-          few-steps = omega (arith, steps)
+        module _ (d : y ≤ most_steps) where
+          few_steps : step_count format f ≤ most_steps
+          few_steps = omega (arith, steps)
 
           ends : end format f ≡ 3 + 5 * k + 1 + 5 * x + z + 2 + 3 * y
           ends = omega (arith, is, changes, steps, times.0)
 
-          cut-steps : length f < 3 + 5 * k + 1 + 5 * x + z + 2 + 3 * y → incomplete ≡ restRefusal format f
-          cut-steps e = sym (rest-cut-steps format f counted few-changes whole few-steps (omega (arith, ends)))
+          cut-steps : length f < 3 + 5 * k + 1 + 5 * x + z + 2 + 3 * y → incomplete ≡ rest_refusal format f
+          cut-steps e = sym (rest_cut_steps format f counted few_changes whole few_steps (omega (arith, ends)))
 
           module _ (e : 3 + 5 * k + 1 + 5 * x + z + 2 + 3 * y ≤ length f) where
             there : end format f ≤ length f
             there = omega (arith, ends)
 
-            more : 3 + 5 * k + 1 + 5 * x + z + 2 + 3 * y < length f → trailing ≡ restRefusal format f
-            more g = sym (rest_more format f counted few-changes whole few-steps there (omega (arith, ends)))
+            more : 3 + 5 * k + 1 + 5 * x + z + 2 + 3 * y < length f → trailing ≡ rest_refusal format f
+            more g = sym (rest_more format f counted few_changes whole few_steps there (omega (arith, ends)))
 
-            passes : length f ≤ 3 + 5 * k + 1 + 5 * x + z + 2 + 3 * y → 0 ≡ restRefusal format f
-            passes g = sym (rest-passes format f counted few-changes whole few-steps there (omega (arith, ends)))
+            passes : length f ≤ 3 + 5 * k + 1 + 5 * x + z + 2 + 3 * y → 0 ≡ rest_refusal format f
+            passes g = sym (rest_passes format f counted few_changes whole few_steps there (omega (arith, ends)))
 
 mul-change-count-at : tie.Need-overflow-mul-change-count-at
 mul-change-count-at c = search rules

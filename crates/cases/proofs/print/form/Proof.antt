@@ -4,10 +4,10 @@ use Rattle.cases.proofs.print.form.Statement.{statement}
 use Rattle.cases.proofs.print.form.Tie as tie
 
 abbrev invariant-loop : tie.invariant-loop
-invariant-loop t numbers k₀ at₀ at-end k at = at ≤ length t
+invariant-loop t numbers k₀ at₀ at_end k at = at ≤ length t
 
 abbrev decreases-loop : tie.decreases-loop
-decreases-loop t numbers k₀ at₀ at-end k at = length t - at
+decreases-loop t numbers k₀ at₀ at_end k at = length t - at
 
 pub form-spec : {M : Type 1} → statement M
 form-spec =

@@ -4,10 +4,10 @@ use Rattle.cases.proofs.read.digits.Statement.{statement}
 use Rattle.cases.proofs.read.digits.Tie as tie
 
 abbrev invariant-loop : tie.invariant-loop
-invariant-loop text x₀ at₀ at-end x at = at ≤ length text
+invariant-loop text x₀ at₀ at_end x at = at ≤ length text
 
 abbrev decreases-loop : tie.decreases-loop
-decreases-loop text x₀ at₀ at-end x at = length text - at
+decreases-loop text x₀ at₀ at_end x at = length text - at
 
 pub digits-spec : {M : Type 1} → statement M
 digits-spec =

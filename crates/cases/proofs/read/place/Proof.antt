@@ -5,10 +5,10 @@ use Rattle.cases.proofs.read.place.Statement.{statement}
 use Rattle.cases.proofs.read.place.Tie as tie
 
 abbrev invariant-loop : tie.invariant-loop
-invariant-loop text sought k seen₀ at₀ at-end seen at = (seen ≤ at) × (at ≤ length text)
+invariant-loop text sought k seen₀ at₀ at_end seen at = (seen ≤ at) × (at ≤ length text)
 
 abbrev decreases-loop : tie.decreases-loop
-decreases-loop text sought k seen₀ at₀ at-end seen at = length text - at
+decreases-loop text sought k seen₀ at₀ at_end seen at = length text - at
 
 pub place-spec : {M : Type 1} → statement M
 place-spec =

@@ -5,19 +5,19 @@ use Prim.Native.Nat.{ℕ, ◌-◌, ◌<◌, ◌≤◌}
 use native.Mathlib.Omega.{arith}
 use borrow.Author.Count.{below_none, below_more}
 use borrow.Author.Tests.{eqb-true, eqb-false, not-true, not-false}
-use Rattle.area.specs.Refusals.{verdictNumber}
-use Rattle.area.specs.TestLaws.{first-none, first-fault}
-use Rattle.entries.specs.Entries.{entryCount, listedRefusal}
-use Rattle.entries.specs.SeenLaws.{Seen, seen_none, seen_next, seen-beyond}
+use Rattle.area.specs.Refusals.{verdict_number}
+use Rattle.area.specs.TestLaws.{first_none, first_fault}
+use Rattle.entries.specs.Entries.{entry_count, listed_refusal}
+use Rattle.entries.specs.SeenLaws.{Seen, seen_none, seen_next, seen_beyond}
 use Rattle.changes.proofs.checks.first_refusal.Statement.{statement}
 use Rattle.changes.proofs.checks.first_refusal.Tie as tie
 
 abbrev invariant-loop : tie.invariant-loop
 invariant-loop n list seen₀ e₀ e-end seen e =
-    (e-end ≡ entryCount list)
+    (e-end ≡ entry_count list)
     × (e ≤ e-end)
     × Seen list e seen
-    × ((k : ℕ) → k < e → listedRefusal n list k ≡ 0)
+    × ((k : ℕ) → k < e → listed_refusal n list k ≡ 0)
 
 abbrev decreases-loop : tie.decreases-loop
 decreases-loop n list seen₀ e₀ e-end seen e = e-end - e
@@ -42,10 +42,10 @@ returns c =
     let turn = c.before.before in
     let at-loop = turn.before.before.before.before in
     let a = at-loop.before.before.before.args in
-    let f = listedRefusal a.n a.list.now in
+    let f = listed_refusal a.n a.list.now in
     let is = turn.refusal.ensures in
     let first-is =
-    first-fault f at-loop.loop.e (entryCount a.list.now) (omega arith) at-loop.loop.invariant.3 in
+    first_fault f at-loop.loop.e (entry_count a.list.now) (omega arith) at-loop.loop.invariant.3 in
     let refused = eqb-false _ 0 (sym c.before.is-accepted.ensures ∙ not-true _ c.if1.true) in
     is ∙ sym (first-is (λ z. refused (is ∙ z)))
 
@@ -79,7 +79,7 @@ loop-again c =
     let l = a.list.now in
     let i = at-loop.loop.invariant in
     let x = turn.before.before.decode in
-    let passed : verdictNumber turn.refusal.result ≡ 0 =
+    let passed : verdict_number turn.refusal.result ≡ 0 =
     eqb-true _ 0 (sym judged.is-accepted.ensures ∙ not-false _ c.before.if1.false) in (
       i.0,
       omega arith,
@@ -88,7 +88,7 @@ loop-again c =
           (seen_next l at-loop.loop.e at-loop.loop.seen i.2 x.result x.ensures w.0.taken
           w.1.result w.1.ensures))
           (λ w. rw w.1
-          (seen-beyond l at-loop.loop.e at-loop.loop.seen i.2 x.result x.ensures w.0.left))
+          (seen_beyond l at-loop.loop.e at-loop.loop.seen i.2 x.result x.ensures w.0.left))
           c.if2.branch,
       below_more _ at-loop.loop.e i.3 (sym turn.refusal.ensures ∙ passed),
     )
@@ -97,8 +97,8 @@ returns-2 : tie.Need-returns-2 invariant-loop decreases-loop
 returns-2 c =
     let at-loop = c.before.loop in
     let a = c.before.before.before.before.args in
-    let f = listedRefusal a.n a.list.now in
-    sym (first-none f (entryCount a.list.now) (λ k l. at-loop.invariant.3 k (omega arith)))
+    let f = listed_refusal a.n a.list.now in
+    sym (first_none f (entry_count a.list.now) (λ k l. at-loop.invariant.3 k (omega arith)))
 
 pub first-refusal-spec : {M : Type 1} → statement M
 first-refusal-spec =

@@ -7,34 +7,34 @@ use borrow.Author.Rules.{rules}
 use borrow.Author.Tests.{eqb-true, eqb-false, not-true, not-false}
 use lib.Dec.{eqb}
 use Rattle.area.specs.declared.refusal.Verdict.{Verdict}
-use Rattle.area.specs.Refusals.{verdictNumber, repeated}
+use Rattle.area.specs.Refusals.{verdict_number, repeated}
 use Rattle.entries.specs.declared.Entry.{Entry}
-use Rattle.entries.specs.Entries.{entry_of, isFirst, entryRefusal, listedRefusal}
-use Rattle.entries.specs.EntryLaws.{listed-faulty, listed-repeated, listed-passes}
+use Rattle.entries.specs.Entries.{entry_of, is_first, entry_refusal, listed_refusal}
+use Rattle.entries.specs.EntryLaws.{listed_faulty, listed_repeated, listed_passes}
 use Rattle.changes.proofs.checks.refusal.Statement.{statement}
 use Rattle.changes.proofs.checks.refusal.Tie as tie
 
 -- one law for each return, by the change x and what the calls gave
 module _
     (n : ℕ) (l : List ℕ) (e : ℕ) (x : Entry) (is : x ≡ entry_of l e)
-    (v : Verdict) (told : verdictNumber v ≡ entryRefusal n x) (ok : Bool) (good : ok ≡ eqb (verdictNumber v) 0) where
-  by-entry : verdictNumber v ≡ entryRefusal n (entry_of l e)
-  by-entry = told ∙ ap (entryRefusal n) is
+    (v : Verdict) (told : verdict_number v ≡ entry_refusal n x) (ok : Bool) (good : ok ≡ eqb (verdict_number v) 0) where
+  by_entry : verdict_number v ≡ entry_refusal n (entry_of l e)
+  by_entry = told ∙ ap (entry_refusal n) is
 
-  faulty : not ok ≡ true → verdictNumber v ≡ listedRefusal n l e
+  faulty : not ok ≡ true → verdict_number v ≡ listed_refusal n l e
   faulty h =
-      let some = eqb-false (verdictNumber v) 0 (sym good ∙ not-true ok h) in
-      by-entry ∙ sym (listed-faulty n l e (λ z. some (by-entry ∙ z)))
+      let some = eqb-false (verdict_number v) 0 (sym good ∙ not-true ok h) in
+      by_entry ∙ sym (listed_faulty n l e (λ z. some (by_entry ∙ z)))
 
-  module _ (h : not ok ≡ false) (new : Bool) (free : new ≡ isFirst l e) where
-    none : entryRefusal n (entry_of l e) ≡ 0
-    none = sym by-entry ∙ eqb-true (verdictNumber v) 0 (sym good ∙ not-false ok h)
+  module _ (h : not ok ≡ false) (new : Bool) (free : new ≡ is_first l e) where
+    none : entry_refusal n (entry_of l e) ≡ 0
+    none = sym by_entry ∙ eqb-true (verdict_number v) 0 (sym good ∙ not-false ok h)
 
-    again : not new ≡ true → repeated ≡ listedRefusal n l e
-    again c = sym (listed-repeated n l e none (sym free ∙ not-true new c))
+    again : not new ≡ true → repeated ≡ listed_refusal n l e
+    again c = sym (listed_repeated n l e none (sym free ∙ not-true new c))
 
-    accepted : not new ≡ false → 0 ≡ listedRefusal n l e
-    accepted c = sym (listed-passes n l e none (sym free ∙ not-false new c))
+    accepted : not new ≡ false → 0 ≡ listed_refusal n l e
+    accepted c = sym (listed_passes n l e none (sym free ∙ not-false new c))
 
 check-requires : tie.Need-check-requires
 check-requires c κs = search rules

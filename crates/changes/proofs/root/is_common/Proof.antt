@@ -8,11 +8,11 @@ use native.Mathlib.Omega.{arith}
 use borrow.Author.Count.{below_none, below_more}
 use borrow.Author.Tests.{eq-eqb, ne_eqb}
 use lib.Dec.{eqb}
-use Rattle.area.specs.TestLaws.{or_right, all_true, all-false}
+use Rattle.area.specs.TestLaws.{or_right, all_true, all_false}
 use Rattle.entries.specs.declared.Entry.{Entry}
-use Rattle.entries.specs.Entries.{entryCount, entry_of, from, to}
-use Rattle.entries.specs.EntryLaws.{read-from, read-to}
-use Rattle.changes.specs.Root.{isCommon}
+use Rattle.entries.specs.Entries.{entry_count, entry_of, from, to}
+use Rattle.entries.specs.EntryLaws.{read_from, read_to}
+use Rattle.changes.specs.Root.{is_common}
 use Rattle.changes.proofs.root.is_common.Statement.{statement}
 use Rattle.changes.proofs.root.is_common.Tie as tie
 
@@ -23,16 +23,16 @@ IsEnd l c e = eqb (from l e) c || eqb (to l e) c
 -- by the change that was read
 module _ (l : List ℕ) (e c : ℕ) (x : Entry) (is : x ≡ entry_of l e) where
   near-end : x.from ≡ c → IsEnd l c e ≡ true
-  near-end q = rw (eq-eqb (from l e) c (sym (read-from is) ∙ q)) refl
+  near-end q = rw (eq-eqb (from l e) c (sym (read_from is) ∙ q)) refl
 
   far-end : x.to ≡ c → IsEnd l c e ≡ true
-  far-end q = or_right (eqb (from l e) c) (eqb (to l e) c) (eq-eqb (to l e) c (sym (read-to is) ∙ q))
+  far-end q = or_right (eqb (from l e) c) (eqb (to l e) c) (eq-eqb (to l e) c (sym (read_to is) ∙ q))
 
   no_end : x.from ≢ c → x.to ≢ c → IsEnd l c e ≡ false
-  no_end f g = rw (ne_eqb (from l e) c (λ q. f (read-from is ∙ q)), ne_eqb (to l e) c (λ q. g (read-to is ∙ q))) refl
+  no_end f g = rw (ne_eqb (from l e) c (λ q. f (read_from is ∙ q)), ne_eqb (to l e) c (λ q. g (read_to is ∙ q))) refl
 
 abbrev invariant-loop : tie.invariant-loop
-invariant-loop list c e₀ e-end e = (e-end ≡ entryCount list) × (e ≤ e-end) × ((k : ℕ) → k < e → IsEnd list c k ≡ true)
+invariant-loop list c e₀ e-end e = (e-end ≡ entry_count list) × (e ≤ e-end) × ((k : ℕ) → k < e → IsEnd list c k ≡ true)
 
 abbrev decreases-loop : tie.decreases-loop
 decreases-loop list c e₀ e-end e = e-end - e
@@ -47,7 +47,7 @@ decode-requires : tie.Need-decode-requires invariant-loop decreases-loop
 decode-requires c κs = omega arith
 
 returns : tie.Need-returns invariant-loop decreases-loop
-unfolding isCommon
+unfolding is_common
 returns c =
     let turn = c.before.before.before in
     let at-loop = turn.before.before.before.loop in
@@ -55,7 +55,7 @@ returns c =
     let l = a.list.now in
     let change = turn.before.decode in
     let none = no_end l at-loop.e a.c change.result change.ensures in
-    sym (all-false (entryCount l) (IsEnd l a.c) at-loop.e (omega arith)
+    sym (all_false (entry_count l) (IsEnd l a.c) at-loop.e (omega arith)
     (none c.before.before.if1.true c.if2.true))
 
 add-e : tie.Need-overflow-add-e invariant-loop decreases-loop
@@ -78,7 +78,7 @@ loop-again c =
     )
 
 returns-2 : tie.Need-returns-2 invariant-loop decreases-loop
-unfolding isCommon
+unfolding is_common
 returns-2 c = sym (all_true _ _ (λ k l. c.before.loop.invariant.2 k (omega arith)))
 
 pub is-common-spec : {M : Type 1} → statement M

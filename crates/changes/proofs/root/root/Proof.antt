@@ -2,8 +2,8 @@
 use mathlib.Core.Path.{◌∙◌}
 use native.Mathlib.Omega.{arith}
 use borrow.Author.Rules.{rules}
-use Rattle.entries.specs.EntryLaws.{read-from, read-to}
-use Rattle.changes.specs.RootLaws.{root-of}
+use Rattle.entries.specs.EntryLaws.{read_from, read_to}
+use Rattle.changes.specs.RootLaws.{root_of}
 use Rattle.changes.proofs.root.root.Statement.{statement}
 use Rattle.changes.proofs.root.root.Tie as tie
 
@@ -20,17 +20,17 @@ returns : tie.Need-returns
 returns c =
     let first = c.before.before.before.decode.ensures in
     c.common-of.ensures
-    ∙ root-of c.before.before.before.before.before.args.list.now
-    (omega (arith, read-from first, read-to first, c.before.if1.true))
-    (omega (arith, read-from first, read-to first, c.before.if1.true))
+    ∙ root_of c.before.before.before.before.before.args.list.now
+    (omega (arith, read_from first, read_to first, c.before.if1.true))
+    (omega (arith, read_from first, read_to first, c.before.if1.true))
 
 returns-2 : tie.Need-returns-2
 returns-2 c =
     let first = c.before.before.before.decode.ensures in
     c.common-of2.ensures
-    ∙ root-of c.before.before.before.before.before.args.list.now
-    (omega (arith, read-from first, read-to first, c.before.if1.false))
-    (omega (arith, read-from first, read-to first, c.before.if1.false))
+    ∙ root_of c.before.before.before.before.before.args.list.now
+    (omega (arith, read_from first, read_to first, c.before.if1.false))
+    (omega (arith, read_from first, read_to first, c.before.if1.false))
 
 pub root-spec : {M : Type 1} → statement M
 root-spec =

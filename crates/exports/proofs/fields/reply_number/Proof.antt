@@ -1,6 +1,6 @@
 -- One number for each answer; a refusal has its own.
 use borrow.Author.Rules.{rules}
-use Rattle.exports.proofs.Handing.{refused-number}
+use Rattle.exports.proofs.Handing.{refused_number}
 use Rattle.exports.proofs.fields.reply_number.Statement.{statement}
 use Rattle.exports.proofs.fields.reply_number.Tie as tie
 
@@ -23,7 +23,7 @@ returns-2 : tie.Need-returns-2
 returns-2 c = search rules
 
 returns-3 : tie.Need-returns-3
-returns-3 c = search refused-number
+returns-3 c = search refused_number
 
 pub reply-number-spec : {M : Type 1} → statement M
 reply-number-spec =

@@ -1,6 +1,6 @@
 -- Both digits are appended at once.
 use borrow.Author.Rules.{rules}
-use Rattle.hex.specs.PrintingLaws.{byte-appended}
+use Rattle.hex.specs.PrintingLaws.{byte_appended}
 use Rattle.hex.proofs.printing.hex_byte.Statement.{statement}
 use Rattle.hex.proofs.printing.hex_byte.Tie as tie
 
@@ -20,7 +20,7 @@ same_length : tie.Need-same-length
 same_length c = search rules
 
 returns : tie.Need-returns
-returns c = search byte-appended
+returns c = search byte_appended
 
 pub hex-byte-spec : {M : Type 1} → statement M
 hex-byte-spec =

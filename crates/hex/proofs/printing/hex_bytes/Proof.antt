@@ -5,7 +5,7 @@ use native.Mathlib.Omega.{arith}
 use lib.ListN.{length, take}
 use Rattle.text.specs.Text.{Appended}
 use Rattle.hex.specs.Digits.{hexed}
-use Rattle.hex.specs.PrintingLaws.{hexed-start, hexed-next, hexed-all}
+use Rattle.hex.specs.PrintingLaws.{hexed_start, hexed_next, hexed_all}
 use Rattle.hex.proofs.printing.hex_bytes.Statement.{statement}
 use Rattle.hex.proofs.printing.hex_bytes.Tie as tie
 
@@ -25,7 +25,7 @@ append-requires : tie.Need-append-requires invariant-loop decreases-loop
 append-requires c κs = omega arith
 
 loop-holds : tie.Need-loop-init invariant-loop decreases-loop
-loop-holds c = (omega arith, omega arith, hexed-start _ _ (omega arith))
+loop-holds c = (omega arith, omega arith, hexed_start _ _ (omega arith))
 
 shared-slice-read-hex-byte : tie.Need-shared-slice-read-hex-byte invariant-loop decreases-loop
 shared-slice-read-hex-byte c = omega arith
@@ -40,7 +40,7 @@ loop-less : tie.Need-loop-smaller invariant-loop decreases-loop
 loop-less c = omega arith
 
 loop-again : tie.Need-loop-preserved invariant-loop decreases-loop
-loop-again c = (omega arith, omega arith, search hexed-next)
+loop-again c = (omega arith, omega arith, search hexed_next)
 
 same_length : tie.Need-same-length invariant-loop decreases-loop
 same_length c = omega arith
@@ -48,7 +48,7 @@ same_length c = omega arith
 returns : tie.Need-returns invariant-loop decreases-loop
 returns c =
     let at-loop = c.before.loop in
-    hexed-all _ at-loop.k (omega arith) c.before.before.before.before.append.ensures at-loop.invariant.2
+    hexed_all _ at-loop.k (omega arith) c.before.before.before.before.append.ensures at-loop.invariant.2
 
 pub hex-bytes-spec : {M : Type 1} → statement M
 hex-bytes-spec =

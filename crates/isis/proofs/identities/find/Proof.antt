@@ -3,14 +3,14 @@ use mathlib.Core.Path.{◌≡◌, refl, sym, ap, ◌∙◌}
 use Prim.Native.Nat.{◌-◌, ◌*◌, ◌≤◌}
 use native.Mathlib.Omega.{arith}
 use Rattle.area.specs.Tests.{lowest}
-use Rattle.area.specs.LowestLaws.{lowest_start, lowest-skip}
-use Rattle.isis.specs.Identities.{rowCount}
-use Rattle.isis.specs.IdentityLaws.{hasIdentity, row-hit, row-none}
+use Rattle.area.specs.LowestLaws.{lowest_start, lowest_skip}
+use Rattle.isis.specs.Identities.{row_count}
+use Rattle.isis.specs.IdentityLaws.{has_identity, row_hit, row_none}
 use Rattle.isis.proofs.identities.find.Statement.{statement}
 use Rattle.isis.proofs.identities.find.Tie as tie
 
 abbrev invariant-loop : tie.invariant-loop
-invariant-loop table x count e₀ e = (e ≤ rowCount table) × (count ≡ rowCount table) × (e ≡ lowest e (hasIdentity table x))
+invariant-loop table x count e₀ e = (e ≤ row_count table) × (count ≡ row_count table) × (e ≡ lowest e (has_identity table x))
 
 abbrev decreases-loop : tie.decreases-loop
 decreases-loop table x count e₀ e = count - e
@@ -26,7 +26,7 @@ returns c =
     let at-loop = c.before.before.before.loop in
     let a = c.before.before.before.before.before.args in
     let here = c.before.has-identity.ensures in (
-      row-hit a.table.now a.x at-loop.e (omega arith) at-loop.invariant.2
+      row_hit a.table.now a.x at-loop.e (omega arith) at-loop.invariant.2
           (sym here ∙ c.if1.true),
       omega arith,
     )
@@ -44,7 +44,7 @@ loop-again c =
     let here = c.before.has-identity.ensures in (
       omega arith,
       omega arith,
-      lowest-skip (hasIdentity a.table.now a.x) at-loop.e at-loop.invariant.2
+      lowest_skip (has_identity a.table.now a.x) at-loop.e at-loop.invariant.2
           (sym here ∙ c.if1.false),
     )
 
@@ -52,7 +52,7 @@ returns-2 : tie.Need-returns-2 invariant-loop decreases-loop
 returns-2 c =
     let at-loop = c.before.loop in
     let a = c.before.before.before.args in
-    (row-none a.table.now a.x at-loop.e (omega arith) at-loop.invariant.2, omega arith)
+    (row_none a.table.now a.x at-loop.e (omega arith) at-loop.invariant.2, omega arith)
 
 pub find_spec : {M : Type 1} → statement M
 find_spec =

@@ -1,6 +1,6 @@
 -- A law for each return.
 use borrow.Author.Rules.{rules}
-use Rattle.isis.specs.IdentityLaws.{last-differs, first-told}
+use Rattle.isis.specs.IdentityLaws.{last_differs, first_told}
 use Rattle.isis.proofs.identities.has_identity.Statement.{statement}
 use Rattle.isis.proofs.identities.has_identity.Tie as tie
 
@@ -14,7 +14,7 @@ four-requires : tie.Need-four-requires
 four-requires c κs = search rules
 
 returns : tie.Need-returns
-returns c = search last-differs
+returns c = search last_differs
 
 two-requires : tie.Need-two-requires
 two-requires c κs = search rules
@@ -32,7 +32,7 @@ add-first : tie.Need-overflow-add-first
 add-first c = search rules
 
 returns-2 : tie.Need-returns-2
-returns-2 c = search first-told
+returns-2 c = search first_told
 
 pub has-identity-spec : {M : Type 1} → statement M
 has-identity-spec =

@@ -3,13 +3,13 @@ use mathlib.Core.Path.{◌≡◌, refl, sym, ◌∙◌}
 use Prim.Native.Nat.{◌-◌, ◌<◌, ◌≤◌}
 use native.Mathlib.Omega.{arith}
 use borrow.Author.Count.{below_none, below_more}
-use Rattle.isis.specs.Identities.{rowCount, router}
-use Rattle.isis.specs.IdentityLaws.{RowsIn, rows-unknown, rows_cut, rows_pass}
+use Rattle.isis.specs.Identities.{row_count, router}
+use Rattle.isis.specs.IdentityLaws.{RowsIn, rows_unknown, rows_cut, rows_pass}
 use Rattle.isis.proofs.identities.judge.Statement.{statement}
 use Rattle.isis.proofs.identities.judge.Tie as tie
 
 abbrev invariant-loop : tie.invariant-loop
-invariant-loop n table e₀ e-end e = (e ≤ rowCount table) × (e-end ≡ rowCount table) × RowsIn n table e
+invariant-loop n table e₀ e-end e = (e ≤ row_count table) × (e-end ≡ row_count table) × RowsIn n table e
 
 abbrev decreases-loop : tie.decreases-loop
 decreases-loop n table e₀ e-end e = e-end - e
@@ -24,7 +24,7 @@ returns : tie.Need-returns invariant-loop decreases-loop
 returns c =
     let at-loop = c.before.before.before.loop in
     let a = c.before.before.before.before.before.args in
-    rows-unknown a.n a.table.now at-loop.e (omega arith) at-loop.invariant.2 (omega arith)
+    rows_unknown a.n a.table.now at-loop.e (omega arith) at-loop.invariant.2 (omega arith)
 
 add-e : tie.Need-overflow-add-e invariant-loop decreases-loop
 add-e c = omega arith
@@ -43,14 +43,14 @@ returns-2 : tie.Need-returns-2 invariant-loop decreases-loop
 returns-2 c =
     let at-loop = c.before.before.loop in
     let a = c.before.before.before.before.args in
-    let all : at-loop.e ≡ rowCount a.table.now = omega arith in
+    let all : at-loop.e ≡ row_count a.table.now = omega arith in
     rows_cut a.n a.table.now (λ k h. at-loop.invariant.2 k (omega arith)) (λ z. let x : ⊥ = omega arith in x)
 
 returns-3 : tie.Need-returns-3 invariant-loop decreases-loop
 returns-3 c =
     let at-loop = c.before.before.loop in
     let a = c.before.before.before.before.args in
-    let all : at-loop.e ≡ rowCount a.table.now = omega arith in
+    let all : at-loop.e ≡ row_count a.table.now = omega arith in
     rows_pass a.n a.table.now (λ k h. at-loop.invariant.2 k (omega arith)) (omega arith)
 
 pub judge-spec : {M : Type 1} → statement M

@@ -4,20 +4,20 @@ use Prim.Native.Nat.{ℕ, ◌+◌, ◌-◌, ◌≤◌}
 use native.Mathlib.Omega.{arith}
 use lib.ListN.{length}
 use Rattle.area.specs.Bytes.{two}
-use Rattle.isis.specs.Lists.{listCount}
-use Rattle.isis.specs.IsisLaws.{countAt, count-start, count-end, count-more}
+use Rattle.isis.specs.Lists.{list_count}
+use Rattle.isis.specs.IsisLaws.{count_at, count_start, count_end, count_more}
 use Rattle.isis.proofs.lists.count.Statement.{statement}
 use Rattle.isis.proofs.lists.count.Tie as tie
 
 abbrev invariant-loop : tie.invariant-loop
 invariant-loop lists at₀ begun₀ at begun =
-    (at ≤ length lists) × (begun ≤ at) × (begun + countAt lists at ≡ listCount lists)
+    (at ≤ length lists) × (begun ≤ at) × (begun + count_at lists at ≡ list_count lists)
 
 abbrev decreases-loop : tie.decreases-loop
 decreases-loop lists at₀ begun₀ at begun = length lists - at
 
 loop-holds : tie.Need-loop-init invariant-loop decreases-loop
-loop-holds c = (omega arith, omega arith, omega (arith, count-start c.before.args.lists.now))
+loop-holds c = (omega arith, omega arith, omega (arith, count_start c.before.args.lists.now))
 
 add-begun : tie.Need-overflow-add-begun invariant-loop decreases-loop
 add-begun c = omega arith
@@ -35,8 +35,8 @@ returns : tie.Need-returns invariant-loop decreases-loop
 returns c =
     let at-loop = c.before.before.before.loop in
     let d = c.before.before.before.before.before.args.lists.now in
-    let here = count-more d at-loop.at (omega arith) in
-    let none = count-end d (at-loop.at + 2 + two d at-loop.at) (omega arith) in
+    let here = count_more d at-loop.at (omega arith) in
+    let none = count_end d (at-loop.at + 2 + two d at-loop.at) (omega arith) in
     omega (arith, at-loop.invariant.2, here, none)
 
 add_at : tie.Need-overflow-add-at invariant-loop decreases-loop
@@ -52,15 +52,15 @@ loop-again : tie.Need-loop-preserved invariant-loop decreases-loop
 loop-again c =
     let at-loop = c.before.before.before.loop in
     let d = c.before.before.before.before.before.args.lists.now in
-    let here = count-more d at-loop.at (omega arith) in
-    let size = ap (λ (x : ℕ). countAt d (at-loop.at + 2 + x)) c.before.two.ensures.0 in
+    let here = count_more d at-loop.at (omega arith) in
+    let size = ap (λ (x : ℕ). count_at d (at-loop.at + 2 + x)) c.before.two.ensures.0 in
     (omega arith, omega arith, omega (arith, at-loop.invariant.2, here, size))
 
 returns-2 : tie.Need-returns-2 invariant-loop decreases-loop
 returns-2 c =
     let at-loop = c.before.loop in
     let d = c.before.before.before.args.lists.now in
-    omega (arith, at-loop.invariant.2, count-end d at-loop.at (omega arith))
+    omega (arith, at-loop.invariant.2, count_end d at-loop.at (omega arith))
 
 pub count_spec : {M : Type 1} → statement M
 count_spec =

@@ -4,9 +4,9 @@ use Prim.Native.Nat.{ℕ, ◌-◌, ◌<◌, ◌≤◌}
 use native.Mathlib.Omega.{arith}
 use borrow.Author.Count.{below_none, below_more}
 use lib.ListN.{length}
-use Rattle.isis.specs.Lists.{length_at, listRefusal}
-use Rattle.isis.specs.ListLaws.{length-start, length-next, list-cut}
-use Rattle.isis.specs.IsisLaws.{lists-first, lists-trailing, lists-pass, turn-refused, turn-passed}
+use Rattle.isis.specs.Lists.{length_at, list_refusal}
+use Rattle.isis.specs.ListLaws.{length_start, length_next, list_cut}
+use Rattle.isis.specs.IsisLaws.{lists_first, lists_trailing, lists_pass, turn_refused, turn_passed}
 use Rattle.isis.proofs.lists.judge.Statement.{statement}
 use Rattle.isis.proofs.lists.judge.Tie as tie
 
@@ -15,13 +15,13 @@ invariant-loop n identities lists at₀ i₀ at i =
     (i ≤ n)
     × (at ≡ length_at lists i)
     × (at ≤ length lists)
-    × ((k : ℕ) → k < i → listRefusal identities lists k ≡ 0)
+    × ((k : ℕ) → k < i → list_refusal identities lists k ≡ 0)
 
 abbrev decreases-loop : tie.decreases-loop
 decreases-loop n identities lists at₀ i₀ at i = n - i
 
 loop-holds : tie.Need-loop-init invariant-loop decreases-loop
-loop-holds c = (omega arith, length-start _, omega arith, below_none _)
+loop-holds c = (omega arith, length_start _, omega arith, below_none _)
 
 sub-left : tie.Need-overflow-sub-left invariant-loop decreases-loop
 sub-left c = omega arith
@@ -38,8 +38,8 @@ returns c =
     let a = c.before.before.before.before.before.before.args in
     let t = a.identities.now in
     let d = a.lists.now in
-    let cut = list-cut t d at-loop.i at-loop.at at-loop.invariant.1 (omega arith) in
-    sym cut ∙ lists-first a.n t d at-loop.i (omega arith) at-loop.invariant.3
+    let cut = list_cut t d at-loop.i at-loop.at at-loop.invariant.1 (omega arith) in
+    sym cut ∙ lists_first a.n t d at-loop.i (omega arith) at-loop.invariant.3
     (λ z. let x : ⊥ = omega (arith, cut, z) in x)
 
 add_start : tie.Need-overflow-add-start invariant-loop decreases-loop
@@ -64,7 +64,7 @@ is-accepted-requires : tie.Need-is-accepted-requires invariant-loop decreases-lo
 is-accepted-requires c κs = omega arith
 
 returns-2 : tie.Need-returns-2 invariant-loop decreases-loop
-returns-2 c = search turn-refused
+returns-2 c = search turn_refused
 
 add-i : tie.Need-overflow-add-i invariant-loop decreases-loop
 add-i c = omega arith
@@ -78,8 +78,8 @@ loop-again c =
     let a = c.before.before.before.before.before.before.before.before.before.before.args in
     let t = a.identities.now in
     let d = a.lists.now in
-    let passed : listRefusal t d at-loop.i ≡ 0 = search turn-passed in
-    let place = length-next d at-loop.i at-loop.at at-loop.invariant.1 in
+    let passed : list_refusal t d at-loop.i ≡ 0 = search turn_passed in
+    let place = length_next d at-loop.i at-loop.at at-loop.invariant.1 in
     let size = c.before.before.before.before.before.two.ensures.0 in
     (omega arith, omega (arith, place, size), omega arith, below_more _ at-loop.i at-loop.invariant.3 passed)
 
@@ -91,7 +91,7 @@ returns-3 c =
     let d = a.lists.now in
     let last : at-loop.i ≡ a.n = omega arith in
     let end = ap (length_at d) last in
-    lists-trailing a.n t d (λ k h. at-loop.invariant.3 k (omega arith)) (omega (arith, at-loop.invariant.1, end))
+    lists_trailing a.n t d (λ k h. at-loop.invariant.3 k (omega arith)) (omega (arith, at-loop.invariant.1, end))
 
 returns-4 : tie.Need-returns-4 invariant-loop decreases-loop
 returns-4 c =
@@ -101,7 +101,7 @@ returns-4 c =
     let d = a.lists.now in
     let last : at-loop.i ≡ a.n = omega arith in
     let end = ap (length_at d) last in
-    lists-pass a.n t d (λ k h. at-loop.invariant.3 k (omega arith)) (omega (arith, at-loop.invariant.1, end))
+    lists_pass a.n t d (λ k h. at-loop.invariant.3 k (omega arith)) (omega (arith, at-loop.invariant.1, end))
 
 pub judge-spec : {M : Type 1} → statement M
 judge-spec =

@@ -7,12 +7,12 @@ use borrow.Author.Rules.{rules}
 use lib.ListN.{length}
 use Rattle.area.specs.Bytes.{two}
 use Rattle.area.specs.Limits.{width, unused}
-use Rattle.area.specs.RowLaws.{RowsOver, lent_length, over-start, over-lent, over-more, over-all}
-use Rattle.isis.specs.Lists.{length_at, listedTo}
-use Rattle.isis.specs.ListLaws.{length-start, length-next}
-use Rattle.isis.specs.Isis.{areaRefusal, noLinks, listed}
-use Rattle.isis.specs.FillLaws.{few, rows-small, list-there, list-known, lowered-clear}
-use Rattle.isis.specs.FillLaws.{fill_start, fill-all, no-links-size}
+use Rattle.area.specs.RowLaws.{RowsOver, lent_length, over_start, over_lent, over_more, over_all}
+use Rattle.isis.specs.Lists.{length_at, listed_to}
+use Rattle.isis.specs.ListLaws.{length_start, length_next}
+use Rattle.isis.specs.Isis.{area_refusal, no_links, listed}
+use Rattle.isis.specs.FillLaws.{few, rows_small, list_there, list_known, lowered_clear}
+use Rattle.isis.specs.FillLaws.{fill_start, fill_all, no_links_size}
 use Rattle.isis.proofs.rows.fill.Statement.{statement}
 use Rattle.isis.proofs.rows.fill.Tie as tie
 
@@ -20,10 +20,10 @@ abbrev invariant-loop : tie.invariant-loop
 invariant-loop n identities lists table₀ at₀ i₀ table at i =
     (i ≤ n)
     × (n ≤ width)
-    × (areaRefusal n identities lists ≡ 0)
+    × (area_refusal n identities lists ≡ 0)
     × (at ≡ length_at lists i)
     × (i < n → at + 2 + two lists at ≤ length lists)
-    × RowsOver width (listedTo identities lists) (λ a b. unused) i table
+    × RowsOver width (listed_to identities lists) (λ a b. unused) i table
 
 abbrev decreases-loop : tie.decreases-loop
 decreases-loop n identities lists table₀ at₀ i₀ table at i = n - i
@@ -33,8 +33,8 @@ loop-holds c =
     let start = c.before.before.before in
     let a = start.args in
     let z = start.requires.0 in
-    let place = length-start a.lists.now in
-    (omega arith, few _ _ _ z, z, place, (λ h. list-there _ _ _ z 0 0 h place), fill_start _ _ _ start.requires.1)
+    let place = length_start a.lists.now in
+    (omega arith, few _ _ _ z, z, place, (λ h. list_there _ _ _ z 0 0 h place), fill_start _ _ _ start.requires.1)
 
 add_start : tie.Need-overflow-add-start invariant-loop decreases-loop
 add_start c =
@@ -83,8 +83,8 @@ lower-requires c κs =
     let at = c.before.before.before.before.loop in
     let z = at.invariant.2 in
     let l : at.i < width = omega arith in
-    let known = list-known _ _ _ z at.i at.at (omega arith) at.invariant.3 _ c.before.before.two.ensures.0 in
-    (lent_length width _ at.invariant.5.size at.i l, (rows-small _ _ _ z, known))
+    let known = list_known _ _ _ z at.i at.at (omega arith) at.invariant.3 _ c.before.before.two.ensures.0 in
+    (lent_length width _ at.invariant.5.size at.i l, (rows_small _ _ _ z, known))
 
 add-i : tie.Need-overflow-add-i invariant-loop decreases-loop
 add-i c = omega arith
@@ -104,27 +104,27 @@ loop-again c =
     let l : at.i < width = omega arith in
     let here : at.i < a.n = omega arith in
     let place =
-    ap (λ (s : ℕ). at.at + 2 + s) size.ensures.0 ∙ length-next d at.i at.at at.invariant.3 in
+    ap (λ (s : ℕ). at.at + 2 + s) size.ensures.0 ∙ length_next d at.i at.at at.invariant.3 in
     let row =
-    lowered-clear _ _ _ z at.i at.at here at.invariant.3 _ size.ensures.0 _
-    (over-lent width _ _ at.i _ at.invariant.5 l) _ turn.ensures in (
+    lowered_clear _ _ _ z at.i at.at here at.invariant.3 _ size.ensures.0 _
+    (over_lent width _ _ at.i _ at.invariant.5 l) _ turn.ensures in (
       omega arith,
       at.invariant.1,
       z,
       place,
-      (λ h. list-there _ _ _ z (at.i + 1) _ h place),
-      over-more width _ _ at.i _ at.invariant.5 l turn.new.1.1.0 turn.auto.1.1.0 row,
+      (λ h. list_there _ _ _ z (at.i + 1) _ h place),
+      over_more width _ _ at.i _ at.invariant.5 l turn.new.1.1.0 turn.auto.1.1.0 row,
     )
 
 same_length : tie.Need-same-length invariant-loop decreases-loop
 same_length c =
     let start = c.before.before.before.before.before in
-    c.before.loop.invariant.5.size ∙ sym (ap length start.requires.1 ∙ no-links-size)
+    c.before.loop.invariant.5.size ∙ sym (ap length start.requires.1 ∙ no_links_size)
 
 returns : tie.Need-returns invariant-loop decreases-loop
 returns c =
     let at = c.before.loop in
-    fill-all _ _ _ _ at.i (omega arith) at.invariant.5
+    fill_all _ _ _ _ at.i (omega arith) at.invariant.5
 
 pub fill_spec : {M : Type 1} → statement M
 fill_spec =

@@ -7,10 +7,10 @@ use Rattle.isis_test.proofs.bytes.fill.Statement.{statement}
 use Rattle.isis_test.proofs.bytes.fill.Tie as tie
 
 abbrev invariant-loop : tie.invariant-loop
-invariant-loop out₀ text reading₀ at₀ at-end out reading at = (reading.length < 2048) × (at ≤ length text)
+invariant-loop out₀ text reading₀ at₀ at_end out reading at = (reading.length < 2048) × (at ≤ length text)
 
 abbrev decreases-loop : tie.decreases-loop
-decreases-loop out₀ text reading₀ at₀ at-end out reading at = length text - at
+decreases-loop out₀ text reading₀ at₀ at_end out reading at = length text - at
 
 pub fill_spec : {M : Type 1} → statement M
 fill_spec =

@@ -7,10 +7,10 @@ use Rattle.isis_test.proofs.capture.fill.Statement.{statement}
 use Rattle.isis_test.proofs.capture.fill.Tie as tie
 
 abbrev invariant-loop : tie.invariant-loop
-invariant-loop expected₀ text at₀ at-end expected at = at ≤ length text
+invariant-loop expected₀ text at₀ at_end expected at = at ≤ length text
 
 abbrev decreases-loop : tie.decreases-loop
-decreases-loop expected₀ text at₀ at-end expected at = length text - at
+decreases-loop expected₀ text at₀ at_end expected at = length text - at
 
 pub fill_spec : {M : Type 1} → statement M
 fill_spec =

@@ -3,7 +3,7 @@ use Prim.Native.Nat.{◌-◌}
 use lib.ListN.{length}
 use native.Mathlib.Omega.{arith}
 use borrow.Author.Rules.{rules}
-use Rattle.tlv.specs.ItemLaws.{next-inside}
+use Rattle.tlv.specs.ItemLaws.{next_inside}
 use Rattle.isis_test.proofs.items.from.Statement.{statement}
 use Rattle.isis_test.proofs.items.from.Tie as tie
 
@@ -19,7 +19,7 @@ loop-less c =
     let list = at-loop.before.before.before.args.list.now in
     let item = c.before.before.before.before.before.item-at in
     let entry = c.before.item.given in
-    let ends = next-inside list at-loop.loop.at item.result entry.0.0 item.ensures entry.1 in
+    let ends = next_inside list at-loop.loop.at item.result entry.0.0 item.ensures entry.1 in
     omega arith
 
 pub from-spec : {M : Type 1} → statement M

@@ -5,7 +5,7 @@ use native.Mathlib.Omega.{arith}
 use lib.ListN.{get_or}
 use Rattle.area.specs.Limits.{width}
 use Rattle.sets.specs.Counts.{total, size}
-use Rattle.sets.specs.CountLaws.{total-start, total-found}
+use Rattle.sets.specs.CountLaws.{total_start, total_found}
 use Rattle.needs.proofs.lent.sizes.Statement.{statement}
 use Rattle.needs.proofs.lent.sizes.Tie as tie
 
@@ -17,7 +17,7 @@ abbrev decreases-loop : tie.decreases-loop
 decreases-loop table n count₀ x₀ count x = n - x
 
 loop-holds : tie.Need-loop-init invariant-loop decreases-loop
-loop-holds c = (omega arith, omega arith, omega arith, total-start _)
+loop-holds c = (omega arith, omega arith, omega arith, total_start _)
 
 entry-requires : tie.Need-entry-requires invariant-loop decreases-loop
 entry-requires c κs = omega arith
@@ -40,7 +40,7 @@ loop-again c =
     let at-loop = found.before.before.loop in
     let table = found.before.before.before.before.args.table.now in
     let term = c.size.ensures.1 ∙ ap (size width) found.entry.ensures in
-    let sum = total-found at-loop.x (λ k. size width (get_or table k 0)) _ _ at-loop.invariant.3 term in
+    let sum = total_found at-loop.x (λ k. size width (get_or table k 0)) _ _ at-loop.invariant.3 term in
     (omega arith, omega arith, omega arith, sum)
 
 returns : tie.Need-returns invariant-loop decreases-loop

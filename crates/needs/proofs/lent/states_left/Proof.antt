@@ -4,7 +4,7 @@ use mathlib.Core.Path.{◌≡◌, ap, ◌∙◌}
 use native.Mathlib.Omega.{arith}
 use lib.ListN.{get_or}
 use Rattle.sets.specs.Counts.{total}
-use Rattle.sets.specs.CountLaws.{total-start, total-found}
+use Rattle.sets.specs.CountLaws.{total_start, total_found}
 use Rattle.machine.specs.Machine.{done}
 use Rattle.needs.proofs.lent.states_left.Statement.{statement}
 use Rattle.needs.proofs.lent.states_left.Tie as tie
@@ -17,7 +17,7 @@ abbrev decreases-loop : tie.decreases-loop
 decreases-loop states n count₀ x₀ count x = n - x
 
 loop-holds : tie.Need-loop-init invariant-loop decreases-loop
-loop-holds c = (omega arith, omega arith, omega arith, total-start _)
+loop-holds c = (omega arith, omega arith, omega arith, total_start _)
 
 byte-requires : tie.Need-byte-requires invariant-loop decreases-loop
 byte-requires c κs = omega arith
@@ -40,7 +40,7 @@ loop-again c =
     let at-loop = found.before.before.loop in
     let states = found.before.before.before.before.args.states.now in
     let term = c.left-from.ensures.1 ∙ ap (λ (s : ℕ). done - s) found.byte.ensures.0 in
-    let sum = total-found at-loop.x (λ k. done - get_or states k 0) _ _ at-loop.invariant.3 term in
+    let sum = total_found at-loop.x (λ k. done - get_or states k 0) _ _ at-loop.invariant.3 term in
     (omega arith, omega arith, omega arith, sum)
 
 returns : tie.Need-returns invariant-loop decreases-loop

@@ -6,7 +6,7 @@ use lib.ListN.{get_or}
 use Rattle.area.specs.Limits.{width}
 use Rattle.sets.specs.Sets.{without}
 use Rattle.sets.specs.Counts.{total, size}
-use Rattle.sets.specs.CountLaws.{total-start, total-found}
+use Rattle.sets.specs.CountLaws.{total_start, total_found}
 use Rattle.needs.proofs.lent.unwritten_sizes.Statement.{statement}
 use Rattle.needs.proofs.lent.unwritten_sizes.Tie as tie
 
@@ -19,7 +19,7 @@ abbrev decreases-loop : tie.decreases-loop
 decreases-loop due written n count₀ x₀ count x = n - x
 
 loop-holds : tie.Need-loop-init invariant-loop decreases-loop
-loop-holds c = (omega arith, omega arith, omega arith, total-start _)
+loop-holds c = (omega arith, omega arith, omega arith, total_start _)
 
 entry-requires : tie.Need-entry-requires invariant-loop decreases-loop
 entry-requires c κs = omega arith
@@ -54,7 +54,7 @@ loop-again c =
     let due = a.due.now in
     let written = a.written.now in
     let sum =
-    total-found at-loop.x (λ k. size width (without width (get_or due k 0) (get_or written k 0))) _ _
+    total_found at-loop.x (λ k. size width (without width (get_or due k 0) (get_or written k 0))) _ _
     at-loop.invariant.3 term
     in
     (omega arith, omega arith, omega arith, sum)

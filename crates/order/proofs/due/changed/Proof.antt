@@ -8,20 +8,20 @@ use borrow.Author.Tests.{eq-eqb, ne_eqb}
 use lib.Dec.{eqb}
 use Rattle.area.specs.Limits.{width}
 use Rattle.area.specs.Tables.{cell}
-use Rattle.sets.specs.Sets.{setOf, added}
-use Rattle.sets.specs.SetLaws.{setOf-start, setOf-skip, setOf-more}
+use Rattle.sets.specs.Sets.{set_of, added}
+use Rattle.sets.specs.SetLaws.{set_of_start, set_of_skip, set_of_more}
 use Rattle.order.proofs.due.changed.Statement.{statement}
 use Rattle.order.proofs.due.changed.Tie as tie
 
 abbrev invariant-loop : tie.invariant-loop
 invariant-loop n old new r found₀ d₀ found d =
-    (d ≤ n) × (found ≡ setOf d (λ k. not (eqb (cell width old r k) (cell width new r k))))
+    (d ≤ n) × (found ≡ set_of d (λ k. not (eqb (cell width old r k) (cell width new r k))))
 
 abbrev decreases-loop : tie.decreases-loop
 decreases-loop n old new r found₀ d₀ found d = n - d
 
 loop-holds : tie.Need-loop-init invariant-loop decreases-loop
-loop-holds c = (omega arith, setOf-start _)
+loop-holds c = (omega arith, set_of_start _)
 
 mul-k : tie.Need-overflow-mul-k invariant-loop decreases-loop
 mul-k c = omega arith
@@ -63,8 +63,8 @@ loop-again c =
           (λ w. w.2
           ∙ w.1.ensures
           ∙ ap (λ (x : ℕ). added width x d) at-loop.loop.invariant.1
-          ∙ setOf-more width d p (omega arith) (rw (ne_eqb was is w.0.taken) refl))
-          (λ w. w.1 ∙ at-loop.loop.invariant.1 ∙ setOf-skip d p (rw (eq-eqb was is w.0.left) refl))
+          ∙ set_of_more width d p (omega arith) (rw (ne_eqb was is w.0.taken) refl))
+          (λ w. w.1 ∙ at-loop.loop.invariant.1 ∙ set_of_skip d p (rw (eq-eqb was is w.0.left) refl))
           c.if1.branch,
     )
 

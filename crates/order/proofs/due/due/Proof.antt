@@ -4,8 +4,8 @@ use Prim.Native.Nat.{◌-◌, ◌≤◌}
 use native.Mathlib.Omega.{arith}
 use Rattle.area.specs.Limits.{width}
 use Rattle.area.specs.Tables.{cell}
-use Rattle.area.specs.PerRouterLaws.{Filled, filled_none, filled_more, filled-all}
-use Rattle.sets.specs.Sets.{setOf}
+use Rattle.area.specs.PerRouterLaws.{Filled, filled_none, filled_more, filled_all}
+use Rattle.sets.specs.Sets.{set_of}
 use mathlib.Core.Bool.{not}
 use lib.Dec.{eqb}
 use Rattle.order.proofs.due.due.Statement.{statement}
@@ -13,7 +13,7 @@ use Rattle.order.proofs.due.due.Tie as tie
 
 abbrev invariant-loop : tie.invariant-loop
 invariant-loop n old new out₀ r₀ out r =
-    (r ≤ n) × Filled width r (λ k. setOf n (λ d. not (eqb (cell width old k d) (cell width new k d)))) out
+    (r ≤ n) × Filled width r (λ k. set_of n (λ d. not (eqb (cell width old k d) (cell width new k d)))) out
 
 abbrev decreases-loop : tie.decreases-loop
 decreases-loop n old new out₀ r₀ out r = n - r
@@ -46,7 +46,7 @@ returns : tie.Need-returns invariant-loop decreases-loop
 returns c =
     let at-loop = c.before.loop in
     let e : at-loop.r ≡ c.before.before.before.before.args.n = omega arith in
-    filled-all width _ _ at-loop.out (rw e at at-loop.invariant.1)
+    filled_all width _ _ at-loop.out (rw e at at-loop.invariant.1)
 
 pub due-spec : {M : Type 1} → statement M
 due-spec =

@@ -2,8 +2,8 @@
 use mathlib.Core.Logic.{⊎_elim}
 use native.Mathlib.Omega.{arith}
 use Rattle.area.specs.Limits.{width}
-use Rattle.sets.specs.VisitLaws.{visit-less}
-use Rattle.order.specs.EnteringLaws.{Entering, entering-start, entering-next, entering-skip, entering-end}
+use Rattle.sets.specs.VisitLaws.{visit_less}
+use Rattle.order.specs.EnteringLaws.{Entering, entering_start, entering_next, entering_skip, entering_end}
 use Rattle.order.proofs.waiting.enter.Statement.{statement}
 use Rattle.order.proofs.waiting.enter.Tie as tie
 
@@ -14,7 +14,7 @@ abbrev decreases-loop : tie.decreases-loop
 decreases-loop n set s out₀ left₀ out left = left
 
 loop-holds : tie.Need-loop-init invariant-loop decreases-loop
-loop-holds c = entering-start width _ c.args.set _ c.args.out.now c.ranges.set.fits
+loop-holds c = entering_start width _ c.args.set _ c.args.out.now c.ranges.set.fits
 
 lowest-requires : tie.Need-lowest-requires invariant-loop decreases-loop
 lowest-requires c κs = omega arith
@@ -40,7 +40,7 @@ rest-requires c κs = omega arith
 loop-less : tie.Need-loop-smaller invariant-loop decreases-loop
 loop-less c =
     let at-loop = c.before.before.before.before.loop in
-    visit-less width at-loop.left _ at-loop.invariant.held.fits c.before.before.before.loop-test.true
+    visit_less width at-loop.left _ at-loop.invariant.held.fits c.before.before.before.loop-test.true
     c.rest.ensures
 
 loop-again : tie.Need-loop-preserved invariant-loop decreases-loop
@@ -51,17 +51,17 @@ loop-again c =
     let some = c.before.before.before.loop-test.true in
     ⊎_elim
     (λ w. rw w.3
-    (entering-next width a.n a.set a.s a.out.now q.result c.rest.result at-loop.loop.invariant some
+    (entering_next width a.n a.set a.s a.out.now q.result c.rest.result at-loop.loop.invariant some
     q.ensures c.rest.ensures w.2.result (omega arith) w.0.taken w.2.ensures))
     (λ w. rw w.1
-    (entering-skip width a.n a.set a.s a.out.now q.result c.rest.result at-loop.loop.invariant some
+    (entering_skip width a.n a.set a.s a.out.now q.result c.rest.result at-loop.loop.invariant some
     q.ensures c.rest.ensures w.0.left))
     c.before.if1.branch
 
 returns : tie.Need-returns invariant-loop decreases-loop
 returns c =
     let a = c.before.before.args in
-    entering-end width a.n a.set a.s a.out.now c.before.loop.invariant c.loop-test.false
+    entering_end width a.n a.set a.s a.out.now c.before.loop.invariant c.loop-test.false
 
 pub enter_spec : {M : Type 1} → statement M
 enter_spec =

@@ -4,7 +4,7 @@ use Prim.Native.Nat.{◌-◌, ◌≤◌}
 use native.Mathlib.Omega.{arith}
 use Rattle.area.specs.Limits.{width}
 use Rattle.area.specs.Tables.{cell}
-use Rattle.area.specs.PerRouterLaws.{Filled, filled_none, filled_more, filled-all}
+use Rattle.area.specs.PerRouterLaws.{Filled, filled_none, filled_more, filled_all}
 use Rattle.order.proofs.waiting.toward.Statement.{statement}
 use Rattle.order.proofs.waiting.toward.Tie as tie
 
@@ -50,7 +50,7 @@ returns : tie.Need-returns invariant-loop decreases-loop
 returns c =
     let at-loop = c.before.loop in
     let e : at-loop.r ≡ c.before.before.args.n = omega arith in
-    filled-all width _ _ at-loop.out (rw e at at-loop.invariant.1)
+    filled_all width _ _ at-loop.out (rw e at at-loop.invariant.1)
 
 pub toward-spec : {M : Type 1} → statement M
 toward-spec =

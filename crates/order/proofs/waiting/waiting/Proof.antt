@@ -5,7 +5,7 @@ use native.Mathlib.Omega.{arith}
 use borrow.Author.Rules.{rules}
 use Rattle.area.specs.Limits.{width}
 use Rattle.area.specs.Tables.{cell}
-use Rattle.order.proofs.Converse.{converse-of}
+use Rattle.order.proofs.Converse.{converse_of}
 use Rattle.order.proofs.waiting.waiting.Statement.{statement}
 use Rattle.order.proofs.waiting.waiting.Tie as tie
 
@@ -24,7 +24,7 @@ returns c =
     let hops = c.before.before.toward in
     let to-root : ℕ → ℕ = λ r. cell width a.old.now r a.root in
     rw c.before.before.before.if1.true
-    (c.converse.ensures ∙ converse-of width a.n to-root hops.result (omega arith) hops.ensures)
+    (c.converse.ensures ∙ converse_of width a.n to-root hops.result (omega arith) hops.ensures)
 
 returns-2 : tie.Need-returns-2
 returns-2 c = rw c.before.if1.false c.toward2.ensures

@@ -6,13 +6,13 @@ use Prim.Native.Nat.{ℕ, ◌-◌, ◌<◌, ◌≤◌}
 use native.Mathlib.Omega.{arith}
 use borrow.Author.Count.{below_none, below_more}
 use borrow.Author.Tests.{not-true, not-false}
-use Rattle.area.specs.TestLaws.{all_true, all-false}
-use Rattle.paths.specs.Paths.{areMetricsFrom, areMetrics}
+use Rattle.area.specs.TestLaws.{all_true, all_false}
+use Rattle.paths.specs.Paths.{are_metrics_from, are_metrics}
 use Rattle.paths.proofs.metrics.are_valid.Statement.{statement}
 use Rattle.paths.proofs.metrics.are_valid.Tie as tie
 
 abbrev invariant-loop : tie.invariant-loop
-invariant-loop n metric i₀ i = (i ≤ n) × ((k : ℕ) → k < i → areMetricsFrom n metric k ≡ true)
+invariant-loop n metric i₀ i = (i ≤ n) × ((k : ℕ) → k < i → are_metrics_from n metric k ≡ true)
 
 abbrev decreases-loop : tie.decreases-loop
 decreases-loop n metric i₀ i = n - i
@@ -24,12 +24,12 @@ is-valid-row-requires : tie.Need-is-valid-row-requires invariant-loop decreases-
 is-valid-row-requires c κs = omega arith
 
 returns : tie.Need-returns invariant-loop decreases-loop
-unfolding areMetrics
+unfolding are_metrics
 returns c =
     let at-loop = c.before.before.before in
     let a = at-loop.before.before.args in
     let bad = sym c.before.is-valid-row.ensures ∙ not-true _ c.if1.true in
-    sym (all-false a.n (areMetricsFrom a.n a.metric.now) at-loop.loop.i (omega arith) bad)
+    sym (all_false a.n (are_metrics_from a.n a.metric.now) at-loop.loop.i (omega arith) bad)
 
 add-i : tie.Need-overflow-add-i invariant-loop decreases-loop
 add-i c = omega arith
@@ -44,7 +44,7 @@ loop-again c =
     (omega arith, below_more _ _ at-loop.loop.invariant.1 good)
 
 returns-2 : tie.Need-returns-2 invariant-loop decreases-loop
-unfolding areMetrics
+unfolding are_metrics
 returns-2 c = sym (all_true _ _ (λ k l. c.before.loop.invariant.1 k (omega arith)))
 
 pub are-valid-spec : {M : Type 1} → statement M

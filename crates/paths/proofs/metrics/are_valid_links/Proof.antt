@@ -1,5 +1,5 @@
--- `valid` is the test of the links to the routers below j. A metric is too low (`metric-low`), too high
--- (`metric-high`), or passes (`metric-good`).
+-- `valid` is the test of the links to the routers below j. A metric is too low (`metric_low`), too high
+-- (`metric_high`), or passes (`metric_good`).
 use mathlib.Core.Path.{◌≡◌, sym, ap, ◌∙◌}
 use mathlib.Core.Logic.{◌≢◌, ⊎_elim}
 use mathlib.Core.Bool.{Bool, true, ◌&&◌, ◌||◌}
@@ -7,9 +7,9 @@ use Prim.Native.Nat.{ℕ, suc, ◌+◌, ◌-◌, ◌≤◌}
 use native.Mathlib.Omega.{arith}
 use lib.Dec.{eqb}
 use Rattle.area.specs.Tests.{all}
-use Rattle.area.specs.TestLaws.{and-false, and_one, all_none, all-next}
-use Rattle.paths.specs.Paths.{isMetric}
-use Rattle.paths.specs.PathsLaws.{metric-good, metric-low, metric-high}
+use Rattle.area.specs.TestLaws.{and_false, and_one, all_none, all_next}
+use Rattle.paths.specs.Paths.{is_metric}
+use Rattle.paths.specs.PathsLaws.{metric_good, metric_low, metric_high}
 use Rattle.paths.proofs.metrics.are_valid_links.Statement.{statement}
 use Rattle.paths.proofs.metrics.are_valid_links.Tie as tie
 
@@ -35,12 +35,12 @@ module _ (p : ℕ → Bool) (first : ℕ) where
       f
       ∙ ap (λ (b : Bool). b && p j) e
       ∙ ap (λ (x : ℕ). tested p first j && p x) place
-      ∙ sym (all-next (j - first) (λ k. p (first + k)))
+      ∙ sym (all_next (j - first) (λ k. p (first + k)))
       ∙ ap (λ (x : ℕ). all x (λ k. p (first + k))) count
 
 abbrev invariant-loop : tie.invariant-loop
 invariant-loop metric i first end valid₀ j₀ valid j =
-    (first ≤ j) × (j ≤ end) × (valid ≡ tested (λ k. eqb k i || isMetric metric i k) first j)
+    (first ≤ j) × (j ≤ end) × (valid ≡ tested (λ k. eqb k i || is_metric metric i k) first j)
 
 abbrev decreases-loop : tie.decreases-loop
 decreases-loop metric i first end valid₀ j₀ valid j = end - j
@@ -48,7 +48,7 @@ decreases-loop metric i first end valid₀ j₀ valid j = end - j
 loop-holds : tie.Need-loop-init invariant-loop decreases-loop
 loop-holds c =
     let a = c.args in
-    (omega arith, omega arith, tested-none (λ k. eqb k a.i || isMetric a.metric.now a.i k) a.first)
+    (omega arith, omega arith, tested-none (λ k. eqb k a.i || is_metric a.metric.now a.i k) a.first)
 
 mul-m : tie.Need-overflow-mul-m invariant-loop decreases-loop
 mul-m c = omega arith
@@ -76,15 +76,15 @@ loop-again c =
     let m = a.metric.now in
     let j = at-loop.loop.j in
     let valid = at-loop.loop.valid in
-    let p : ℕ → Bool = λ k. eqb k a.i || isMetric m a.i k in
+    let p : ℕ → Bool = λ k. eqb k a.i || is_metric m a.i k in
     let other : j ≢ a.i = λ q. ⊎_elim (λ h. omega arith) (λ h. omega arith) start.requires.1 in
     let next : c.if2.valid ≡ (valid && p j) =
     ⊎_elim
-    (λ w. w.1 ∙ sym (and-false valid (p j) (metric-high m a.i j other w.0.taken)))
+    (λ w. w.1 ∙ sym (and_false valid (p j) (metric_high m a.i j other w.0.taken)))
     (λ w. w.1 ∙ ⊎_elim
-    (λ v. v.1 ∙ sym (and-false valid (p j) (metric-low m a.i j other v.0.taken)))
+    (λ v. v.1 ∙ sym (and_false valid (p j) (metric_low m a.i j other v.0.taken)))
     (λ v. v.1
-    ∙ sym (ap (λ (b : Bool). valid && b) (metric-good m a.i j v.0.left w.0.left) ∙ and_one valid))
+    ∙ sym (ap (λ (b : Bool). valid && b) (metric_good m a.i j v.0.left w.0.left) ∙ and_one valid))
     c.before.if1.branch)
     c.if2.branch in
     (omega arith, omega arith, tested-more p a.first j valid _ at-loop.loop.invariant.0 at-loop.loop.invariant.2 next)

@@ -5,19 +5,19 @@ use mathlib.Core.List.{List}
 use Prim.Native.Nat.{ℕ, ◌≤◌}
 use borrow.Author.Rules.{rules}
 use Rattle.area.specs.Limits.{width}
-use Rattle.plan.specs.NewMetrics.{newMetrics}
-use Rattle.plan.specs.Direction.{isRise, isFall}
-use Rattle.plan.specs.DirectionLaws.{listed-rise, listed-fall}
-use Rattle.plan.specs.Parts.{areListedAtMost}
+use Rattle.plan.specs.NewMetrics.{new_metrics}
+use Rattle.plan.specs.Direction.{is_rise, is_fall}
+use Rattle.plan.specs.DirectionLaws.{listed_rise, listed_fall}
+use Rattle.plan.specs.Parts.{are_listed_at_most}
 use Rattle.plan.proofs.direction.direction_of.Statement.{statement}
 use Rattle.plan.proofs.direction.direction_of.Tie as tie
 
-module _ (n : ℕ) (m l : List ℕ) (most : n ≤ width) (new : List ℕ) (applied : new ≡ newMetrics n m l) where
-  rises : {t : Bool} → t ≡ areListedAtMost n m new l → t ≡ isRise n m l
-  rises is = is ∙ ap (λ (o : List ℕ). areListedAtMost n m o l) applied ∙ listed-rise n m l most
+module _ (n : ℕ) (m l : List ℕ) (most : n ≤ width) (new : List ℕ) (applied : new ≡ new_metrics n m l) where
+  rises : {t : Bool} → t ≡ are_listed_at_most n m new l → t ≡ is_rise n m l
+  rises is = is ∙ ap (λ (o : List ℕ). are_listed_at_most n m o l) applied ∙ listed_rise n m l most
 
-  falls : {t : Bool} → t ≡ areListedAtMost n new m l → t ≡ isFall n m l
-  falls is = is ∙ ap (λ (o : List ℕ). areListedAtMost n o m l) applied ∙ listed-fall n m l most
+  falls : {t : Bool} → t ≡ are_listed_at_most n new m l → t ≡ is_fall n m l
+  falls is = is ∙ ap (λ (o : List ℕ). are_listed_at_most n o m l) applied ∙ listed_fall n m l most
 
 slice-aggregate-apply : tie.Need-slice-aggregate-apply
 slice-aggregate-apply c = search rules

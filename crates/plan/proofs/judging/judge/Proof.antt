@@ -8,11 +8,11 @@ use native.Mathlib.Omega.{arith}
 use borrow.Author.Rules.{rules}
 use Rattle.area.specs.declared.refusal.Refusal.{Refusal}
 use Rattle.area.specs.declared.refusal.Verdict.{Verdict}
-use Rattle.area.specs.Refusals.{refusalNumber, verdictNumber}
-use Rattle.area.specs.RefusalLaws.{refusal-positive}
+use Rattle.area.specs.Refusals.{refusal_number, verdict_number}
+use Rattle.area.specs.RefusalLaws.{refusal_positive}
 use Rattle.plan.specs.declared.judging.Judged.{Judged}
-use Rattle.plan.specs.Plan.{planRefusal}
-use Rattle.plan.specs.PlanLaws.{plan-timed}
+use Rattle.plan.specs.Plan.{plan_refusal}
+use Rattle.plan.specs.PlanLaws.{plan_timed}
 use Rattle.plan.specs.Parts.{Found, Judges, JudgesPlan}
 use Rattle.plan.proofs.judging.judge.Statement.{statement}
 use Rattle.plan.proofs.judging.judge.Tie as tie
@@ -21,16 +21,16 @@ module _ (n s : ℕ) (m l : List ℕ) (sized : Bool) where
   without :
       s ≡ 0
       → (k : Refusal)
-      → ((m l : List ℕ) (sized : Bool) → refusalNumber k ≡ planRefusal n 0 m l sized)
+      → ((m l : List ℕ) (sized : Bool) → refusal_number k ≡ plan_refusal n 0 m l sized)
       → (r : Judged)
       → r.answer ≡ Verdict.Refused k
       → JudgesPlan n s m l sized r
   without z k is r given =
-      let e = is m l sized ∙ ap (λ (t : ℕ). planRefusal n t m l sized) (sym z) in
-      (ap verdictNumber given ∙ e, λ none. absurd (let x : ⊥ = omega (arith, refusal-positive k, e, none) in x))
+      let e = is m l sized ∙ ap (λ (t : ℕ). plan_refusal n t m l sized) (sym z) in
+      (ap verdict_number given ∙ e, λ none. absurd (let x : ⊥ = omega (arith, refusal_positive k, e, none) in x))
 
   with-one : s ≢ 0 → (r : Judged) → Judges n m l sized r → JudgesPlan n s m l sized r
-  with-one f r = subst (λ (k : ℕ). Found n m l k r) (sym (plan-timed n s m l sized f))
+  with-one f r = subst (λ (k : ℕ). Found n m l k r) (sym (plan_timed n s m l sized f))
 
 untimed-requires : tie.Need-untimed-requires
 untimed-requires c κs = search rules

@@ -10,13 +10,13 @@ use lib.ListN.{length}
 use Rattle.area.specs.declared.refusal.Refusal.{Refusal}
 use Rattle.area.specs.declared.refusal.Verdict.{Verdict}
 use Rattle.area.specs.Limits.{width}
-use Rattle.area.specs.SizeLaws.{router-count-true, router-count-low, router-count-high, table-true}
-use Rattle.paths.specs.Paths.{isArea}
-use Rattle.paths.specs.PathsLaws.{area-metrics, area-ready}
+use Rattle.area.specs.SizeLaws.{router_count_true, router_count_low, router_count_high, table_true}
+use Rattle.paths.specs.Paths.{is_area}
+use Rattle.paths.specs.PathsLaws.{area_metrics, area_ready}
 use Rattle.plan.specs.declared.judging.Judged.{Judged}
-use Rattle.plan.specs.PlanLaws.{change-count, change-tables, change-metrics}
+use Rattle.plan.specs.PlanLaws.{change_count_lem, change_tables, change_metrics}
 use Rattle.plan.specs.Parts.{Judges}
-use Rattle.plan.proofs.Judgements.{judged-refused}
+use Rattle.plan.proofs.Judgements.{judged_refused}
 use Rattle.plan.proofs.judging.judge_change.Statement.{statement}
 use Rattle.plan.proofs.judging.judge_change.Tie as tie
 
@@ -24,30 +24,30 @@ use Rattle.plan.proofs.judging.judge_change.Tie as tie
 module _ (n : ℕ) (m l : List ℕ) (sized : Bool) where
   too_few : n < 1 → (r : Judged) → r.answer ≡ Verdict.Refused Refusal.RouterCount → Judges n m l sized r
   too_few a =
-      let e = change-count n m l sized (router-count-low n a) in
-      judged-refused n m l sized 2 (Verdict.Refused Refusal.RouterCount) e refl
+      let e = change_count_lem n m l sized (router_count_low n a) in
+      judged_refused n m l sized 2 (Verdict.Refused Refusal.RouterCount) e refl
 
   too_many : width < n → (r : Judged) → r.answer ≡ Verdict.Refused Refusal.RouterCount → Judges n m l sized r
   too_many a =
-      let e = change-count n m l sized (router-count-high n a) in
-      judged-refused n m l sized 2 (Verdict.Refused Refusal.RouterCount) e refl
+      let e = change_count_lem n m l sized (router_count_high n a) in
+      judged_refused n m l sized 2 (Verdict.Refused Refusal.RouterCount) e refl
 
   module _ (lo : 1 ≤ n) (hi : n ≤ width) where
     unsized : not sized ≡ true → (r : Judged) → r.answer ≡ Verdict.Refused Refusal.TableSize → Judges n m l sized r
     unsized a =
-        judged-refused n m l sized 7 (Verdict.Refused Refusal.TableSize)
-        (change-tables n m l sized (router-count-true n lo hi) (not-true sized a)) refl
+        judged_refused n m l sized 7 (Verdict.Refused Refusal.TableSize)
+        (change_tables n m l sized (router_count_true n lo hi) (not-true sized a)) refl
 
     module _
         (a : not sized ≡ false) (size : sized ≡ true → length m ≡ width * width)
-        (ok : Bool) (told : ok ≡ isArea n m) where
+        (ok : Bool) (told : ok ≡ is_area n m) where
       no-area : not ok ≡ true → (r : Judged) → r.answer ≡ Verdict.Refused Refusal.Metric → Judges n m l sized r
       no-area b =
-          let counted = router-count-true n lo hi in
+          let counted = router_count_true n lo hi in
           let is-sized = not-false sized a in
-          let bad = sym (area-metrics n m counted (table-true m (size is-sized))) ∙ sym told ∙ not-true ok b in
-          judged-refused n m l sized 5 (Verdict.Refused Refusal.Metric)
-          (change-metrics n m l sized counted is-sized bad) refl
+          let bad = sym (area_metrics n m counted (table_true m (size is-sized))) ∙ sym told ∙ not-true ok b in
+          judged_refused n m l sized 5 (Verdict.Refused Refusal.Metric)
+          (change_metrics n m l sized counted is-sized bad) refl
 
       judged : (r : Judged) → Judges n m l true r → Judges n m l sized r
       judged r j = subst (λ (s : Bool). Judges n m l s r) (sym (not-false sized a)) j
@@ -82,7 +82,7 @@ returns-4 c = search no-area
 judge-list-requires : tie.Need-judge-list-requires
 judge-list-requires c κs =
     let told = c.before.is-area in
-    area-ready _ _ (sym told.ensures ∙ not-false told.result c.if4.false)
+    area_ready _ _ (sym told.ensures ∙ not-false told.result c.if4.false)
 
 returns-5 : tie.Need-returns-5
 returns-5 c = search judged

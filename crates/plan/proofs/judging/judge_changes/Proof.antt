@@ -7,12 +7,12 @@ use borrow.Author.Rules.{rules}
 use borrow.Author.Tests.{eqb-true, eqb-false, not-true, not-false}
 use lib.Dec.{eqb}
 use Rattle.area.specs.declared.refusal.Verdict.{Verdict}
-use Rattle.area.specs.Refusals.{verdictNumber}
+use Rattle.area.specs.Refusals.{verdict_number}
 use Rattle.area.specs.Tests.{first}
-use Rattle.entries.specs.Entries.{entryCount, listedRefusal}
-use Rattle.changes.specs.ChangeLaws.{Sound, sound-of}
+use Rattle.entries.specs.Entries.{entry_count, listed_refusal}
+use Rattle.changes.specs.ChangeLaws.{Sound, sound_of}
 use Rattle.plan.specs.declared.judging.Judged.{Judged}
-use Rattle.plan.specs.PlanLaws.{Listed, change-faulty}
+use Rattle.plan.specs.PlanLaws.{Listed, change_faulty}
 use Rattle.plan.specs.Parts.{Judges}
 use Rattle.plan.proofs.judging.judge_changes.Statement.{statement}
 use Rattle.plan.proofs.judging.judge_changes.Tie as tie
@@ -20,16 +20,16 @@ use Rattle.plan.proofs.judging.judge_changes.Tie as tie
 -- by what the calls gave
 module _
     (n : ℕ) (m l : List ℕ)
-    (v : Verdict) (told : verdictNumber v ≡ first (entryCount l) (listedRefusal n l))
-    (ok : Bool) (good : ok ≡ eqb (verdictNumber v) 0) where
+    (v : Verdict) (told : verdict_number v ≡ first (entry_count l) (listed_refusal n l))
+    (ok : Bool) (good : ok ≡ eqb (verdict_number v) 0) where
   faulty : Listed n m l → not ok ≡ true → (r : Judged) → r.answer ≡ v → Judges n m l true r
   faulty listed a r given =
-      let some = eqb-false (verdictNumber v) 0 (sym good ∙ not-true ok a) in
-      let e = change-faulty n m l listed (λ z. some (told ∙ z)) in
-      (ap verdictNumber given ∙ told ∙ sym e, λ z. absurd (some (told ∙ sym e ∙ z)))
+      let some = eqb-false (verdict_number v) 0 (sym good ∙ not-true ok a) in
+      let e = change_faulty n m l listed (λ z. some (told ∙ z)) in
+      (ap verdict_number given ∙ told ∙ sym e, λ z. absurd (some (told ∙ sym e ∙ z)))
 
   sound : not ok ≡ false → Sound n l
-  sound a = sound-of n l (sym told ∙ eqb-true (verdictNumber v) 0 (sym good ∙ not-false ok a))
+  sound a = sound_of n l (sym told ∙ eqb-true (verdict_number v) 0 (sym good ∙ not-false ok a))
 
 first-refusal-requires : tie.Need-first-refusal-requires
 first-refusal-requires c κs = search rules
@@ -47,7 +47,7 @@ judge-together-requires : tie.Need-judge-together-requires
 judge-together-requires c κs =
     let start = c.before.before.before.before.before in
     let a = start.args in
-    let answer = c.before.before.first-refusal in
+    let answer = c.before.before.first_refusal in
     let accepted = c.before.is-accepted in (
       start.requires,
       sound a.n a.old.now a.list.now answer.result answer.ensures accepted.result

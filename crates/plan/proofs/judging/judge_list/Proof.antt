@@ -10,32 +10,32 @@ use borrow.Author.Rules.{rules}
 use lib.ListN.{length}
 use Rattle.area.specs.declared.refusal.Refusal.{Refusal}
 use Rattle.area.specs.declared.refusal.Verdict.{Verdict}
-use Rattle.area.specs.Limits.{mostChanges}
-use Rattle.entries.specs.Entries.{entryCount}
+use Rattle.area.specs.Limits.{most_changes}
+use Rattle.entries.specs.Entries.{entry_count}
 use Rattle.paths.specs.PathsLaws.{Ready}
 use Rattle.plan.specs.declared.judging.Judged.{Judged}
-use Rattle.plan.specs.PlanLaws.{Listed, change-cut, change-many, change-none}
+use Rattle.plan.specs.PlanLaws.{Listed, change_cut, change_many, change_none}
 use Rattle.plan.specs.Parts.{Judges}
-use Rattle.plan.proofs.Judgements.{judged-refused}
+use Rattle.plan.proofs.Judgements.{judged_refused}
 use Rattle.plan.proofs.judging.judge_list.Statement.{statement}
 use Rattle.plan.proofs.judging.judge_list.Tie as tie
 
 -- one law for each return, by the tests before it
 module _ (n : ℕ) (m l : List ℕ) (ready : Ready n m) where
   cut : length l % 5 ≢ 0 → (r : Judged) → r.answer ≡ Verdict.Refused Refusal.Incomplete → Judges n m l true r
-  cut a = judged-refused n m l true 0 (Verdict.Refused Refusal.Incomplete) (change-cut n m l ready a) refl
+  cut a = judged_refused n m l true 0 (Verdict.Refused Refusal.Incomplete) (change_cut n m l ready a) refl
 
-  module _ (a : length l % 5 ≡ 0) (k : ℕ) (counted : k ≡ entryCount l) where
-    many : mostChanges < k → (r : Judged) → r.answer ≡ Verdict.Refused Refusal.TooMany → Judges n m l true r
+  module _ (a : length l % 5 ≡ 0) (k : ℕ) (counted : k ≡ entry_count l) where
+    many : most_changes < k → (r : Judged) → r.answer ≡ Verdict.Refused Refusal.TooMany → Judges n m l true r
     many b =
-        judged-refused n m l true 8 (Verdict.Refused Refusal.TooMany)
-        (change-many n m l ready a (omega (arith, counted))) refl
+        judged_refused n m l true 8 (Verdict.Refused Refusal.TooMany)
+        (change_many n m l ready a (omega (arith, counted))) refl
 
-    module _ (b : k ≤ mostChanges) where
+    module _ (b : k ≤ most_changes) where
       none : k ≡ 0 → (r : Judged) → r.answer ≡ Verdict.Refused Refusal.NoChange → Judges n m l true r
       none c =
-          judged-refused n m l true 9 (Verdict.Refused Refusal.NoChange)
-          (change-none n m l ready a (omega (arith, counted)) (sym counted ∙ c)) refl
+          judged_refused n m l true 9 (Verdict.Refused Refusal.NoChange)
+          (change_none n m l ready a (omega (arith, counted)) (sym counted ∙ c)) refl
 
       listed : k ≢ 0 → Listed n m l
       listed c = record { ready = ready; whole = a; most = omega (arith, counted); some = λ q. c (counted ∙ q) }

@@ -7,60 +7,60 @@ use borrow.Author.Rules.{rules}
 use borrow.Author.Tests.{not-true, not-false}
 use Rattle.area.specs.declared.refusal.Refusal.{Refusal}
 use Rattle.area.specs.declared.refusal.Verdict.{Verdict}
-use Rattle.changes.specs.ChangeLaws.{Sound, of-sound}
-use Rattle.changes.specs.Root.{isCommon, root}
+use Rattle.changes.specs.ChangeLaws.{Sound, of_sound}
+use Rattle.changes.specs.Root.{is_common, root}
 use Rattle.plan.specs.declared.judging.Judged.{Judged}
-use Rattle.plan.specs.Direction.{isSame, isRise, isFall}
-use Rattle.plan.specs.DirectionLaws.{same-both}
-use Rattle.plan.specs.PlanLaws.{Listed, change-same, change-mixed, change-apart, change-accepted}
+use Rattle.plan.specs.Direction.{is_same, is_rise, is_fall}
+use Rattle.plan.specs.DirectionLaws.{same_both}
+use Rattle.plan.specs.PlanLaws.{Listed, change_same, change_mixed, change_apart, change_accepted}
 use Rattle.plan.specs.Parts.{Judges}
-use Rattle.plan.proofs.Judgements.{judged-refused}
+use Rattle.plan.proofs.Judgements.{judged_refused}
 use Rattle.plan.proofs.judging.judge_together.Statement.{statement}
 use Rattle.plan.proofs.judging.judge_together.Tie as tie
 
 -- one law for each return, by what the calls before it gave
 module _
     (n : ℕ) (m l : List ℕ) (given : Listed n m l × Sound n l)
-    (rising falling : Bool) (rise : rising ≡ isRise n m l) (fall : falling ≡ isFall n m l)
+    (rising falling : Bool) (rise : rising ≡ is_rise n m l) (fall : falling ≡ is_fall n m l)
     (same : Bool) (kept : same ≡ (rising && falling)) where
-  is_same : same ≡ isSame n m l
-  is_same = kept ∙ ap₂ ◌&&◌ rise fall ∙ sym (same-both n m l)
+  is_same : same ≡ is_same n m l
+  is_same = kept ∙ ap₂ ◌&&◌ rise fall ∙ sym (same_both n m l)
 
   no-effect : same ≡ true → (r : Judged) → r.answer ≡ Verdict.Refused Refusal.SameMetric → Judges n m l true r
   no-effect b =
-      judged-refused n m l true 10 (Verdict.Refused Refusal.SameMetric)
-      (change-same n m l given.0 (of-sound n l given.1) (sym is_same ∙ b)) refl
+      judged_refused n m l true 10 (Verdict.Refused Refusal.SameMetric)
+      (change_same n m l given.0 (of_sound n l given.1) (sym is_same ∙ b)) refl
 
   module _ (b : same ≡ false) (way : Bool) (one : way ≡ (rising || falling)) where
-    effect : isSame n m l ≡ false
+    effect : is_same n m l ≡ false
     effect = sym is_same ∙ b
 
-    one_way : way ≡ (isRise n m l || isFall n m l)
+    one_way : way ≡ (is_rise n m l || is_fall n m l)
     one_way = one ∙ ap₂ ◌||◌ rise fall
 
     both_ways : not way ≡ true → (r : Judged) → r.answer ≡ Verdict.Refused Refusal.Mixed → Judges n m l true r
     both_ways d =
-        judged-refused n m l true 11 (Verdict.Refused Refusal.Mixed)
-        (change-mixed n m l given.0 (of-sound n l given.1) effect (sym one_way ∙ not-true way d)) refl
+        judged_refused n m l true 11 (Verdict.Refused Refusal.Mixed)
+        (change_mixed n m l given.0 (of_sound n l given.1) effect (sym one_way ∙ not-true way d)) refl
 
-    module _ (d : not way ≡ false) (c : ℕ) (at : c ≡ root l) (all : Bool) (common : all ≡ isCommon l c) where
-      is-common : all ≡ isCommon l (root l)
-      is-common = common ∙ ap (isCommon l) at
+    module _ (d : not way ≡ false) (c : ℕ) (at : c ≡ root l) (all : Bool) (common : all ≡ is_common l c) where
+      is-common : all ≡ is_common l (root l)
+      is-common = common ∙ ap (is_common l) at
 
-      is-way : (isRise n m l || isFall n m l) ≡ true
+      is-way : (is_rise n m l || is_fall n m l) ≡ true
       is-way = sym one_way ∙ not-false way d
 
       apart :
           not all ≡ true
           → (r : Judged) → r.answer ≡ Verdict.Refused Refusal.NoCommonRouter → Judges n m l true r
       apart f =
-          judged-refused n m l true 12 (Verdict.Refused Refusal.NoCommonRouter)
-          (change-apart n m l given.0 (of-sound n l given.1) effect is-way (sym is-common ∙ not-true all f)) refl
+          judged_refused n m l true 12 (Verdict.Refused Refusal.NoCommonRouter)
+          (change_apart n m l given.0 (of_sound n l given.1) effect is-way (sym is-common ∙ not-true all f)) refl
 
       planned : not all ≡ false → Judges n m l true (record { answer = Verdict.Accepted; root = c; rising = rising })
       planned f =
           let common = sym is-common ∙ not-false all f in
-          (sym (change-accepted n m l given.0 (of-sound n l given.1) effect is-way common), λ _. (at, rise))
+          (sym (change_accepted n m l given.0 (of_sound n l given.1) effect is-way common), λ _. (at, rise))
 
 direction-of-requires : tie.Need-direction-of-requires
 direction-of-requires c κs =

@@ -4,7 +4,7 @@ use Prim.Native.Nat.{◌+◌, ◌*◌, ◌-◌, ◌≤◌}
 use native.Mathlib.Omega.{arith}
 use lib.ListN.{length-set}
 use Rattle.area.specs.Limits.{width}
-use Rattle.plan.proofs.Copying.{Copied, copied_none, copied_more, copied-row}
+use Rattle.plan.proofs.Copying.{Copied, copied_none, copied_more, copied_row}
 use Rattle.plan.proofs.metrics.copy_row.Statement.{statement}
 use Rattle.plan.proofs.metrics.copy_row.Tie as tie
 
@@ -69,7 +69,7 @@ returns c =
     let start = c.before.before in
     let a = start.args in
     let all : at-loop.k ≡ width * a.i + a.n = omega arith in
-    copied-row _ a.old.now a.new.now a.n a.i at-loop.new refl start.requires.0.0 start.requires.0.1
+    copied_row _ a.old.now a.new.now a.n a.i at-loop.new refl start.requires.0.0 start.requires.0.1
     start.requires.1.1 (rw all at at-loop.invariant.2)
 
 pub copy-row-spec : {M : Type 1} → statement M

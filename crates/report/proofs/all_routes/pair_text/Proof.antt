@@ -1,6 +1,6 @@
 -- One law for each return: the pair has a line, or nothing is appended.
 use borrow.Author.Rules.{rules}
-use Rattle.report.specs.LineLaws.{pair-printed, pair-none}
+use Rattle.report.specs.LineLaws.{pair_printed, pair_none}
 use Rattle.report.proofs.all_routes.pair_text.Statement.{statement}
 use Rattle.report.proofs.all_routes.pair_text.Tie as tie
 
@@ -14,10 +14,10 @@ same_length : tie.Need-same-length
 same_length c = search rules
 
 returns : tie.Need-returns
-returns c = search pair-printed
+returns c = search pair_printed
 
 returns-2 : tie.Need-returns-2
-returns-2 c = search pair-none
+returns-2 c = search pair_none
 
 pub pair-text-spec : {M : Type 1} → statement M
 pair-text-spec =

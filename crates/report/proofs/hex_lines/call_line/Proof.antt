@@ -1,6 +1,6 @@
 -- Three bytes, one after the other.
 use borrow.Author.Rules.{rules}
-use Rattle.report.specs.CallLineLaws.{call-appended}
+use Rattle.report.specs.CallLineLaws.{call_appended}
 use Rattle.report.proofs.hex_lines.call_line.Statement.{statement}
 use Rattle.report.proofs.hex_lines.call_line.Tie as tie
 
@@ -26,7 +26,7 @@ same_length : tie.Need-same-length
 same_length c = search rules
 
 returns : tie.Need-returns
-returns c = search call-appended
+returns c = search call_appended
 
 pub call-line-spec : {M : Type 1} → statement M
 call-line-spec =

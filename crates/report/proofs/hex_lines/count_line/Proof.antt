@@ -1,6 +1,6 @@
 -- The high byte, and then the low one.
 use borrow.Author.Rules.{rules}
-use Rattle.report.specs.CallLineLaws.{count-appended}
+use Rattle.report.specs.CallLineLaws.{count_appended}
 use Rattle.report.proofs.hex_lines.count_line.Statement.{statement}
 use Rattle.report.proofs.hex_lines.count_line.Tie as tie
 
@@ -23,7 +23,7 @@ same_length : tie.Need-same-length
 same_length c = search rules
 
 returns : tie.Need-returns
-returns c = search count-appended
+returns c = search count_appended
 
 pub count-line-spec : {M : Type 1} → statement M
 count-line-spec =

@@ -1,6 +1,6 @@
 -- One law for each answer.
 use borrow.Author.Rules.{rules}
-use Rattle.report.specs.LineLaws.{ok-appended, ignored-appended, refusal-appended}
+use Rattle.report.specs.LineLaws.{ok_appended, ignored_appended, refusal_appended}
 use Rattle.report.proofs.lines.answer_text.Statement.{statement}
 use Rattle.report.proofs.lines.answer_text.Tie as tie
 
@@ -41,19 +41,19 @@ same_length : tie.Need-same-length
 same_length c = search rules
 
 returns : tie.Need-returns
-returns c = search ok-appended
+returns c = search ok_appended
 
 same-length-2 : tie.Need-same-length-2
 same-length-2 c = search rules
 
 returns-2 : tie.Need-returns-2
-returns-2 c = search ignored-appended
+returns-2 c = search ignored_appended
 
 same-length-3 : tie.Need-same-length-3
 same-length-3 c = search rules
 
 returns-3 : tie.Need-returns-3
-returns-3 c = search refusal-appended
+returns-3 c = search refusal_appended
 
 pub answer-text-spec : {M : Type 1} → statement M
 answer-text-spec =

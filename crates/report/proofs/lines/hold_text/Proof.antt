@@ -1,6 +1,6 @@
 -- One law for each state.
 use borrow.Author.Rules.{rules}
-use Rattle.report.specs.UnfinishedLaws.{holds-idle, holds-holding, holds-ongoing, holds-done}
+use Rattle.report.specs.UnfinishedLaws.{holds_idle, holds_holding, holds_ongoing, holds_done}
 use Rattle.report.proofs.lines.hold_text.Statement.{statement}
 use Rattle.report.proofs.lines.hold_text.Tie as tie
 
@@ -44,25 +44,25 @@ same_length : tie.Need-same-length
 same_length c = search rules
 
 returns : tie.Need-returns
-returns c = search holds-idle
+returns c = search holds_idle
 
 same-length-2 : tie.Need-same-length-2
 same-length-2 c = search rules
 
 returns-2 : tie.Need-returns-2
-returns-2 c = search holds-holding
+returns-2 c = search holds_holding
 
 same-length-3 : tie.Need-same-length-3
 same-length-3 c = search rules
 
 returns-3 : tie.Need-returns-3
-returns-3 c = search holds-ongoing
+returns-3 c = search holds_ongoing
 
 same-length-4 : tie.Need-same-length-4
 same-length-4 c = search rules
 
 returns-4 : tie.Need-returns-4
-returns-4 c = search holds-done
+returns-4 c = search holds_done
 
 pub hold-text-spec : {M : Type 1} → statement M
 hold-text-spec =

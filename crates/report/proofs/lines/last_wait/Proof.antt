@@ -1,6 +1,6 @@
 -- One law for each state.
 use borrow.Author.Rules.{rules}
-use Rattle.report.specs.UnfinishedLaws.{lets-idle, lets-holding, lets-ongoing, lets-done}
+use Rattle.report.specs.UnfinishedLaws.{lets_idle, lets_holding, lets_ongoing, lets_done}
 use Rattle.report.proofs.lines.last_wait.Statement.{statement}
 use Rattle.report.proofs.lines.last_wait.Tie as tie
 
@@ -44,25 +44,25 @@ same_length : tie.Need-same-length
 same_length c = search rules
 
 returns : tie.Need-returns
-returns c = search lets-idle
+returns c = search lets_idle
 
 same-length-2 : tie.Need-same-length-2
 same-length-2 c = search rules
 
 returns-2 : tie.Need-returns-2
-returns-2 c = search lets-holding
+returns-2 c = search lets_holding
 
 same-length-3 : tie.Need-same-length-3
 same-length-3 c = search rules
 
 returns-3 : tie.Need-returns-3
-returns-3 c = search lets-ongoing
+returns-3 c = search lets_ongoing
 
 same-length-4 : tie.Need-same-length-4
 same-length-4 c = search rules
 
 returns-4 : tie.Need-returns-4
-returns-4 c = search lets-done
+returns-4 c = search lets_done
 
 pub last-wait-spec : {M : Type 1} → statement M
 last-wait-spec =

@@ -4,19 +4,19 @@ use mathlib.Core.Path.{◌≡◌}
 use native.Mathlib.Omega.{arith}
 use Rattle.area.specs.Limits.{width}
 use Rattle.text.specs.Text.{Appended}
-use Rattle.report.specs.Lines.{memberText}
-use Rattle.report.specs.SheetLineLaws.{members-none, members-more}
+use Rattle.report.specs.Lines.{member_text}
+use Rattle.report.specs.SheetLineLaws.{members_none, members_more}
 use Rattle.report.proofs.lines.member_text.Statement.{statement}
 use Rattle.report.proofs.lines.member_text.Tie as tie
 
 abbrev invariant-loop : tie.invariant-loop
-invariant-loop set out₀ start at₀ k₀ out at k = (k ≤ width) × Appended out₀ start (memberText set k) out at
+invariant-loop set out₀ start at₀ k₀ out at k = (k ≤ width) × Appended out₀ start (member_text set k) out at
 
 abbrev decreases-loop : tie.decreases-loop
 decreases-loop set out₀ start at₀ k₀ out at k = width - k
 
 loop-holds : tie.Need-loop-init invariant-loop decreases-loop
-loop-holds c = (omega arith, members-none _ _ _ (omega arith))
+loop-holds c = (omega arith, members_none _ _ _ (omega arith))
 
 one-member-requires : tie.Need-one-member-requires invariant-loop decreases-loop
 one-member-requires c κs = omega arith
@@ -28,7 +28,7 @@ loop-less : tie.Need-loop-smaller invariant-loop decreases-loop
 loop-less c = omega arith
 
 loop-again : tie.Need-loop-preserved invariant-loop decreases-loop
-loop-again c = (omega arith, search members-more)
+loop-again c = (omega arith, search members_more)
 
 same_length : tie.Need-same-length invariant-loop decreases-loop
 same_length c = omega arith

@@ -1,6 +1,6 @@
 -- One law for each return: the router is a member, or nothing is appended.
 use borrow.Author.Rules.{rules}
-use Rattle.report.specs.SheetLineLaws.{member-printed, member-passed}
+use Rattle.report.specs.SheetLineLaws.{member_printed, member_passed}
 use Rattle.report.proofs.lines.one_member.Statement.{statement}
 use Rattle.report.proofs.lines.one_member.Tie as tie
 
@@ -17,10 +17,10 @@ same_length : tie.Need-same-length
 same_length c = search rules
 
 returns : tie.Need-returns
-returns c = search member-printed
+returns c = search member_printed
 
 returns-2 : tie.Need-returns-2
-returns-2 c = search member-passed
+returns-2 c = search member_passed
 
 pub one-member-spec : {M : Type 1} → statement M
 one-member-spec =

@@ -1,6 +1,6 @@
 -- One law for each return: no walk, or a distance and its next hops.
 use borrow.Author.Rules.{rules}
-use Rattle.report.specs.LineLaws.{none-appended, path-appended}
+use Rattle.report.specs.LineLaws.{none_appended, path_appended}
 use Rattle.report.proofs.lines.path_text.Statement.{statement}
 use Rattle.report.proofs.lines.path_text.Tie as tie
 
@@ -14,7 +14,7 @@ same_length : tie.Need-same-length
 same_length c = search rules
 
 returns : tie.Need-returns
-returns c = search none-appended
+returns c = search none_appended
 
 slice-aggregate-field : tie.Need-slice-aggregate-field
 slice-aggregate-field c = search rules
@@ -35,7 +35,7 @@ same-length-2 : tie.Need-same-length-2
 same-length-2 c = search rules
 
 returns-2 : tie.Need-returns-2
-returns-2 c = search path-appended
+returns-2 c = search path_appended
 
 pub path-text-spec : {M : Type 1} → statement M
 path-text-spec =

@@ -1,6 +1,6 @@
--- The two routers, a path for each topology and the end of the line: `route-appended` joins the four parts.
+-- The two routers, a path for each topology and the end of the line: `route_appended` joins the four parts.
 use borrow.Author.Rules.{rules}
-use Rattle.report.specs.LineLaws.{route-appended}
+use Rattle.report.specs.LineLaws.{route_appended}
 use Rattle.report.proofs.lines.route_line.Statement.{statement}
 use Rattle.report.proofs.lines.route_line.Tie as tie
 
@@ -29,7 +29,7 @@ same_length : tie.Need-same-length
 same_length c = search rules
 
 returns : tie.Need-returns
-returns c = search route-appended
+returns c = search route_appended
 
 pub route-line-spec : {M : Type 1} → statement M
 route-line-spec =

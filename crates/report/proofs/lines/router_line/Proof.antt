@@ -1,6 +1,6 @@
--- Five parts are appended, one for each call: `router-appended` joins what the calls promise.
+-- Five parts are appended, one for each call: `router_appended` joins what the calls promise.
 use borrow.Author.Rules.{rules}
-use Rattle.report.specs.LineLaws.{router-appended}
+use Rattle.report.specs.LineLaws.{router_appended}
 use Rattle.report.proofs.lines.router_line.Statement.{statement}
 use Rattle.report.proofs.lines.router_line.Tie as tie
 
@@ -44,7 +44,7 @@ returns c =
     let waits = tells.before.before.before.before.before in
     let rank = waits.before.before.before.before.before in
     let router = rank.before.before.before.before.before in
-    router-appended _ _ _ _ _
+    router_appended _ _ _ _ _
     router.field.ensures rank.field2.ensures waits.field3.ensures tells.field4.ensures
     due.line.ensures
 

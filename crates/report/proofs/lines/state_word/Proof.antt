@@ -1,6 +1,6 @@
 -- One law for each state.
 use borrow.Author.Rules.{rules}
-use Rattle.report.specs.UnfinishedLaws.{idle-appended, holding-appended, ongoing-appended, done-appended}
+use Rattle.report.specs.UnfinishedLaws.{idle_appended, holding_appended, ongoing_appended, done_appended}
 use Rattle.report.proofs.lines.state_word.Statement.{statement}
 use Rattle.report.proofs.lines.state_word.Tie as tie
 
@@ -44,25 +44,25 @@ same_length : tie.Need-same-length
 same_length c = search rules
 
 returns : tie.Need-returns
-returns c = search idle-appended
+returns c = search idle_appended
 
 same-length-2 : tie.Need-same-length-2
 same-length-2 c = search rules
 
 returns-2 : tie.Need-returns-2
-returns-2 c = search holding-appended
+returns-2 c = search holding_appended
 
 same-length-3 : tie.Need-same-length-3
 same-length-3 c = search rules
 
 returns-3 : tie.Need-returns-3
-returns-3 c = search ongoing-appended
+returns-3 c = search ongoing_appended
 
 same-length-4 : tie.Need-same-length-4
 same-length-4 c = search rules
 
 returns-4 : tie.Need-returns-4
-returns-4 c = search done-appended
+returns-4 c = search done_appended
 
 pub state-word-spec : {M : Type 1} → statement M
 state-word-spec =

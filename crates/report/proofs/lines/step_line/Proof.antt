@@ -1,6 +1,6 @@
--- The step's number is appended, and then its answer: `step-appended` joins the two.
+-- The step's number is appended, and then its answer: `step_appended` joins the two.
 use borrow.Author.Rules.{rules}
-use Rattle.report.specs.LineLaws.{step-appended}
+use Rattle.report.specs.LineLaws.{step_appended}
 use Rattle.report.proofs.lines.step_line.Statement.{statement}
 use Rattle.report.proofs.lines.step_line.Tie as tie
 
@@ -17,7 +17,7 @@ same_length : tie.Need-same-length
 same_length c = search rules
 
 returns : tie.Need-returns
-returns c = search step-appended
+returns c = search step_appended
 
 pub step-line-spec : {M : Type 1} → statement M
 step-line-spec =

@@ -1,6 +1,6 @@
--- Three parts are appended, one for each call: `times-appended` joins them.
+-- Three parts are appended, one for each call: `times_appended` joins them.
 use borrow.Author.Rules.{rules}
-use Rattle.report.specs.UnfinishedLaws.{times-appended}
+use Rattle.report.specs.UnfinishedLaws.{times_appended}
 use Rattle.report.proofs.lines.times_end.Statement.{statement}
 use Rattle.report.proofs.lines.times_end.Tie as tie
 
@@ -20,7 +20,7 @@ same_length : tie.Need-same-length
 same_length c = search rules
 
 returns : tie.Need-returns
-returns c = search times-appended
+returns c = search times_appended
 
 pub times-end-spec : {M : Type 1} → statement M
 times-end-spec =

@@ -1,6 +1,6 @@
--- Five parts are appended, one for each call: `turn-appended` joins what the calls promise.
+-- Five parts are appended, one for each call: `turn_appended` joins what the calls promise.
 use borrow.Author.Rules.{rules}
-use Rattle.report.specs.SheetLineLaws.{turn-appended}
+use Rattle.report.specs.SheetLineLaws.{turn_appended}
 use Rattle.report.proofs.lines.turn_line.Statement.{statement}
 use Rattle.report.proofs.lines.turn_line.Tie as tie
 
@@ -44,7 +44,7 @@ returns c =
     let writes = tells.before.before.before.before.before in
     let router = writes.before.before.before.before.before in
     let turn = router.before.before.before.before.before in
-    turn-appended _ _ _ _
+    turn_appended _ _ _ _
     turn.field.ensures router.field2.ensures writes.Named-set.ensures tells.named-set2.ensures
     ends.append.ensures
 

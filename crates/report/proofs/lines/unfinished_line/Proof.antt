@@ -1,6 +1,6 @@
--- Five parts are appended, one for each call: `unfinished-appended` joins what the calls promise.
+-- Five parts are appended, one for each call: `unfinished_appended` joins what the calls promise.
 use borrow.Author.Rules.{rules}
-use Rattle.report.specs.UnfinishedLaws.{unfinished-appended}
+use Rattle.report.specs.UnfinishedLaws.{unfinished_appended}
 use Rattle.report.proofs.lines.unfinished_line.Statement.{statement}
 use Rattle.report.proofs.lines.unfinished_line.Tie as tie
 
@@ -38,7 +38,7 @@ returns c =
     let waits = unwritten.before.before.before.before.before in
     let state = waits.before.before.before.before.before in
     let router = state.before.before.before.before in
-    unfinished-appended _ _ _ _ _ _
+    unfinished_appended _ _ _ _ _ _
     router.field.ensures state.state-word.ensures waits.Named-set.ensures unwritten.named-set2.ensures
     ends.times-end.ensures
 

@@ -1,6 +1,6 @@
 -- By whether the router waits for any.
 use borrow.Author.Rules.{rules}
-use Rattle.report.specs.UnfinishedLaws.{wait-none, wait-some}
+use Rattle.report.specs.UnfinishedLaws.{wait_none, wait_some}
 use Rattle.report.proofs.lines.wait_text.Statement.{statement}
 use Rattle.report.proofs.lines.wait_text.Tie as tie
 
@@ -14,7 +14,7 @@ same_length : tie.Need-same-length
 same_length c = search rules
 
 returns : tie.Need-returns
-returns c = search wait-none
+returns c = search wait_none
 
 last-wait-requires : tie.Need-last-wait-requires
 last-wait-requires c κs = search rules
@@ -23,7 +23,7 @@ same-length-2 : tie.Need-same-length-2
 same-length-2 c = search rules
 
 returns-2 : tie.Need-returns-2
-returns-2 c = search wait-some
+returns-2 c = search wait_some
 
 pub wait-text-spec : {M : Type 1} → statement M
 wait-text-spec =

@@ -1,6 +1,6 @@
 -- What is printed part by part is the whole.
 use borrow.Author.Rules.{rules}
-use Rattle.report.specs.ReportLaws.{rehearsal-appended}
+use Rattle.report.specs.ReportLaws.{rehearsal_appended}
 use Rattle.report.proofs.rehearsal.printed.Statement.{statement}
 use Rattle.report.proofs.rehearsal.printed.Tie as tie
 
@@ -29,7 +29,7 @@ same_length : tie.Need-same-length
 same_length c = search rules
 
 returns : tie.Need-returns
-returns c = search rehearsal-appended
+returns c = search rehearsal_appended
 
 pub printed-spec : {M : Type 1} → statement M
 printed-spec =

@@ -3,13 +3,13 @@ use Prim.Native.Nat.{◌-◌, ◌≤◌}
 use mathlib.Core.Path.{◌≡◌}
 use native.Mathlib.Omega.{arith}
 use Rattle.text.specs.Text.{Appended}
-use Rattle.report.specs.Lines.{routerLines}
-use Rattle.report.specs.LineLaws.{routers-none, routers-more}
+use Rattle.report.specs.Lines.{router_lines}
+use Rattle.report.specs.LineLaws.{routers_none, routers_more}
 use Rattle.report.proofs.rehearsal.router_lines.Statement.{statement}
 use Rattle.report.proofs.rehearsal.router_lines.Tie as tie
 
 abbrev invariant-loop : tie.invariant-loop
-invariant-loop out₀ fresh n at₀ i₀ out at i = (i ≤ n) × Appended out₀ 0 (routerLines fresh i) out at
+invariant-loop out₀ fresh n at₀ i₀ out at i = (i ≤ n) × Appended out₀ 0 (router_lines fresh i) out at
 
 abbrev decreases-loop : tie.decreases-loop
 decreases-loop out₀ fresh n at₀ i₀ out at i = n - i
@@ -18,7 +18,7 @@ cast-n : tie.Need-overflow-cast-n invariant-loop decreases-loop
 cast-n c = omega arith
 
 loop-holds : tie.Need-loop-init invariant-loop decreases-loop
-loop-holds c = (omega arith, routers-none _ _)
+loop-holds c = (omega arith, routers_none _ _)
 
 element-copy-out-router-line : tie.Need-element-copy-out-router-line invariant-loop decreases-loop
 element-copy-out-router-line c = omega arith
@@ -51,7 +51,7 @@ loop-less : tie.Need-loop-smaller invariant-loop decreases-loop
 loop-less c = omega arith
 
 loop-again : tie.Need-loop-preserved invariant-loop decreases-loop
-loop-again c = (omega arith, search routers-more)
+loop-again c = (omega arith, search routers_more)
 
 same_length : tie.Need-same-length invariant-loop decreases-loop
 same_length c = omega arith

@@ -3,22 +3,22 @@ use Prim.Native.Nat.{◌*◌, ◌-◌, ◌≤◌}
 use mathlib.Core.Path.{◌≡◌}
 use native.Mathlib.Omega.{arith}
 use lib.ListN.{length}
-use Rattle.area.specs.Limits.{mostSteps}
-use Rattle.steps.specs.Outcomes.{outcomeOf}
-use Rattle.report.specs.LineLaws.{Left, AllSteps, left-none, left-more, left-all}
+use Rattle.area.specs.Limits.{most_steps}
+use Rattle.steps.specs.Outcomes.{outcome_of}
+use Rattle.report.specs.LineLaws.{Left, AllSteps, left_none, left_more, left_all}
 use Rattle.report.proofs.rehearsal.step_lines.Statement.{statement}
 use Rattle.report.proofs.rehearsal.step_lines.Tie as tie
 
 abbrev invariant-loop : tie.invariant-loop
 invariant-loop bytes out₀ at current₀ end₀ place₀ k₀ out current end place k =
-    (place ≤ length bytes) × (3 * k ≡ place) × (length bytes ≤ 3 * mostSteps)
+    (place ≤ length bytes) × (3 * k ≡ place) × (length bytes ≤ 3 * most_steps)
     × Left out₀ at (AllSteps out₀ at current₀ bytes) current bytes place k out end
 
 abbrev decreases-loop : tie.decreases-loop
 decreases-loop bytes out₀ at current₀ end₀ place₀ k₀ out current end place k = length bytes - place
 
 loop-holds : tie.Need-loop-init invariant-loop decreases-loop
-loop-holds c = (omega arith, omega arith, omega arith, left-none _ _ _ _ (omega arith))
+loop-holds c = (omega arith, omega arith, omega arith, left_none _ _ _ _ (omega arith))
 
 add-loop : tie.Need-overflow-add-loop invariant-loop decreases-loop
 add-loop c = omega arith
@@ -60,10 +60,10 @@ loop-again c =
     let a = stepped.before.before.before.before.before.before.before.before.args in
     let left = at-loop.invariant.3 in
     let more =
-    left-more a.out.now a.at a.first a.bytes.now at-loop.current at-loop.place at-loop.k
+    left_more a.out.now a.at a.first a.bytes.now at-loop.current at-loop.place at-loop.k
     at-loop.out at-loop.end left
     in
-    let outcome = outcomeOf stepped.applied.result in
+    let outcome = outcome_of stepped.applied.result in
     let line = c.before.before.step_line.ensures in
     (omega arith, omega arith, omega arith, more outcome stepped.applied.ensures (omega arith) _ _ line)
 
@@ -74,7 +74,7 @@ returns : tie.Need-returns invariant-loop decreases-loop
 returns c =
     let at-loop = c.before.loop in
     let a = c.before.before.before.before.args in
-    left-all a.out.now a.at a.first a.bytes.now at-loop.current at-loop.place at-loop.k
+    left_all a.out.now a.at a.first a.bytes.now at-loop.current at-loop.place at-loop.k
     at-loop.out at-loop.end at-loop.invariant.3 (omega arith)
 
 pub step-lines-spec : {M : Type 1} → statement M

@@ -1,7 +1,7 @@
 -- What a change of so few routers needs is far below what a word can hold.
 use native.Mathlib.Omega.{arith}
 use borrow.Author.Rules.{rules}
-use Rattle.needs.specs.NeedsLaws.{needs-any}
+use Rattle.needs.specs.NeedsLaws.{needs_any}
 use Rattle.report.proofs.step_section.count_calls.Statement.{statement}
 use Rattle.report.proofs.step_section.count_calls.Tie as tie
 
@@ -12,7 +12,7 @@ cast-result : tie.Need-overflow-cast-result
 cast-result c = search rules
 
 add-result : tie.Need-overflow-add-result
-add-result c = omega (arith, needs-any c.before.before.args.fresh, c.before.needs.ensures)
+add-result c = omega (arith, needs_any c.before.before.args.fresh, c.before.needs.ensures)
 
 returns : tie.Need-returns
 returns c = search rules

@@ -1,6 +1,6 @@
 -- One law for each return: the router is a member, or nothing is appended.
 use borrow.Author.Rules.{rules}
-use Rattle.report.specs.CallLineLaws.{member-called, member-uncalled}
+use Rattle.report.specs.CallLineLaws.{member_called, member_uncalled}
 use Rattle.report.proofs.step_section.member_call.Statement.{statement}
 use Rattle.report.proofs.step_section.member_call.Tie as tie
 
@@ -17,10 +17,10 @@ same_length : tie.Need-same-length
 same_length c = search rules
 
 returns : tie.Need-returns
-returns c = search member-called
+returns c = search member_called
 
 returns-2 : tie.Need-returns-2
-returns-2 c = search member-uncalled
+returns-2 c = search member_uncalled
 
 pub member-call-spec : {M : Type 1} → statement M
 member-call-spec =

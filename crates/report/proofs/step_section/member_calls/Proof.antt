@@ -3,16 +3,16 @@ use Prim.Native.Nat.{◌-◌, ◌≤◌}
 use mathlib.Core.Path.{◌≡◌}
 use native.Mathlib.Omega.{arith}
 use Rattle.machine.specs.Run.{call}
-use Rattle.sheet.specs.Follow.{callMembers}
+use Rattle.sheet.specs.Follow.{call_members}
 use Rattle.text.specs.Text.{Appended}
-use Rattle.report.specs.Lines.{callLines}
+use Rattle.report.specs.Lines.{call_lines}
 use Rattle.report.specs.CallLineLaws.{each_start, each_next}
 use Rattle.report.proofs.step_section.member_calls.Statement.{statement}
 use Rattle.report.proofs.step_section.member_calls.Tie as tie
 
 abbrev invariant-loop : tie.invariant-loop
 invariant-loop kind a set n out₀ start at₀ x₀ out at x =
-    (x ≤ n) × Appended out₀ start (callLines (callMembers x set (λ d. call kind a d))) out at
+    (x ≤ n) × Appended out₀ start (call_lines (call_members x set (λ d. call kind a d))) out at
 
 abbrev decreases-loop : tie.decreases-loop
 decreases-loop kind a set n out₀ start at₀ x₀ out at x = n - x

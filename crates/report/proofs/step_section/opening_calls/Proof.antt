@@ -1,6 +1,6 @@
 -- The three lists, one after another.
 use borrow.Author.Rules.{rules}
-use Rattle.report.specs.CallLineLaws.{opening-called}
+use Rattle.report.specs.CallLineLaws.{opening_called}
 use Rattle.report.proofs.step_section.opening_calls.Statement.{statement}
 use Rattle.report.proofs.step_section.opening_calls.Tie as tie
 
@@ -17,7 +17,7 @@ same_length : tie.Need-same-length
 same_length c = search rules
 
 returns : tie.Need-returns
-returns c = search opening-called
+returns c = search opening_called
 
 pub opening-calls-spec : {M : Type 1} → statement M
 opening-calls-spec =

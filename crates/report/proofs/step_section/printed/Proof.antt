@@ -2,7 +2,7 @@
 use mathlib.Core.Path.{◌∙◌}
 use native.Mathlib.Omega.{arith}
 use borrow.Author.Rules.{rules}
-use Rattle.report.specs.CallLineLaws.{section-whole, section-long, places-called}
+use Rattle.report.specs.CallLineLaws.{section_whole, section_long, places_called}
 use Rattle.report.proofs.step_section.printed.Statement.{statement}
 use Rattle.report.proofs.step_section.printed.Tie as tie
 
@@ -21,7 +21,7 @@ same_length c = search rules
 returns : tie.Need-returns
 returns c =
     let counted = c.before.before.before.before.before.before in
-    section-long _ _ (counted.count-calls.ensures ∙ counted.before.before.requires.1 (omega arith)) (omega arith)
+    section_long _ _ (counted.count-calls.ensures ∙ counted.before.before.requires.1 (omega arith)) (omega arith)
     c.before.before.line.ensures
 
 in-turn-requires : tie.Need-in-turn-requires
@@ -47,9 +47,9 @@ returns-2 c =
     let placed = count.before.before in
     let counted = placed.before.before in
     let start = counted.before.before in
-    section-whole _ _ (counted.count-calls.ensures ∙ start.requires.1 (omega arith)) (omega arith)
+    section_whole _ _ (counted.count-calls.ensures ∙ start.requires.1 (omega arith)) (omega arith)
     count.count-line.ensures
-    (places-called start.args.fresh _ placed.in-turn.ensures c.before.before.sheet-lines.ensures)
+    (places_called start.args.fresh _ placed.in-turn.ensures c.before.before.sheet-lines.ensures)
 
 pub printed-spec : {M : Type 1} → statement M
 printed-spec =

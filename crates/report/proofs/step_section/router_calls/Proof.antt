@@ -3,16 +3,16 @@ use Prim.Native.Nat.{◌-◌, ◌≤◌}
 use mathlib.Core.Path.{◌≡◌}
 use native.Mathlib.Omega.{arith}
 use Rattle.machine.specs.Run.{call}
-use Rattle.sheet.specs.Follow.{callEach}
+use Rattle.sheet.specs.Follow.{call_each}
 use Rattle.text.specs.Text.{Appended}
-use Rattle.report.specs.Lines.{callLines}
-use Rattle.report.specs.CallLineLaws.{one-appended, each_start, each_next}
+use Rattle.report.specs.Lines.{call_lines}
+use Rattle.report.specs.CallLineLaws.{one_appended, each_start, each_next}
 use Rattle.report.proofs.step_section.router_calls.Statement.{statement}
 use Rattle.report.proofs.step_section.router_calls.Tie as tie
 
 abbrev invariant-loop : tie.invariant-loop
 invariant-loop kind n out₀ start at₀ x₀ out at x =
-    (x ≤ n) × Appended out₀ start (callLines (callEach x (λ i. call kind i 0))) out at
+    (x ≤ n) × Appended out₀ start (call_lines (call_each x (λ i. call kind i 0))) out at
 
 abbrev decreases-loop : tie.decreases-loop
 decreases-loop kind n out₀ start at₀ x₀ out at x = n - x
@@ -35,7 +35,7 @@ loop-less c = omega arith
 loop-again : tie.Need-loop-preserved invariant-loop decreases-loop
 loop-again c =
     let at-loop = c.before.before.before.before.before.loop in
-    let one = one-appended _ c.before.before.call_line.ensures in
+    let one = one_appended _ c.before.before.call_line.ensures in
     (omega arith, each_next _ at-loop.x at-loop.invariant.1 one)
 
 same_length : tie.Need-same-length invariant-loop decreases-loop

@@ -1,6 +1,6 @@
 -- What comes before the turns, and then the turns.
 use borrow.Author.Rules.{rules}
-use Rattle.report.specs.CallLineLaws.{sheet-called}
+use Rattle.report.specs.CallLineLaws.{sheet_called}
 use Rattle.report.proofs.step_section.sheet_lines.Statement.{statement}
 use Rattle.report.proofs.step_section.sheet_lines.Tie as tie
 
@@ -20,7 +20,7 @@ same_length : tie.Need-same-length
 same_length c = search rules
 
 returns : tie.Need-returns
-returns c = search sheet-called
+returns c = search sheet_called
 
 pub sheet-lines-spec : {M : Type 1} → statement M
 sheet-lines-spec =

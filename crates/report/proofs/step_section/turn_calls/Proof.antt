@@ -1,6 +1,6 @@
--- The writes, the finish and the messages: `turn-called` joins them.
+-- The writes, the finish and the messages: `turn_called` joins them.
 use borrow.Author.Rules.{rules}
-use Rattle.report.specs.CallLineLaws.{turn-called}
+use Rattle.report.specs.CallLineLaws.{turn_called}
 use Rattle.report.proofs.step_section.turn_calls.Statement.{statement}
 use Rattle.report.proofs.step_section.turn_calls.Tie as tie
 
@@ -32,7 +32,7 @@ same_length : tie.Need-same-length
 same_length c = search rules
 
 returns : tie.Need-returns
-returns c = search turn-called
+returns c = search turn_called
 
 pub turn-calls-spec : {M : Type 1} → statement M
 turn-calls-spec =

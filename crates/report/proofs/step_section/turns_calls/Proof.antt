@@ -6,7 +6,7 @@ use lib.ListN.{get_or}
 use Rattle.area.specs.Limits.{width}
 use Rattle.sheet.specs.Follow.{each, turn}
 use Rattle.text.specs.Text.{Appended}
-use Rattle.report.specs.Lines.{callLines}
+use Rattle.report.specs.Lines.{call_lines}
 use Rattle.report.specs.CallLineLaws.{each_start, each_next}
 use Rattle.report.proofs.step_section.turns_calls.Statement.{statement}
 use Rattle.report.proofs.step_section.turns_calls.Tie as tie
@@ -14,7 +14,7 @@ use Rattle.report.proofs.step_section.turns_calls.Tie as tie
 abbrev invariant-loop : tie.invariant-loop
 invariant-loop fresh out₀ start places n at₀ k₀ out at k =
     (k ≤ n) × (fresh.n ≤ width)
-    × Appended out₀ start (callLines (each k (λ j. turn fresh (get_or places j 0)))) out at
+    × Appended out₀ start (call_lines (each k (λ j. turn fresh (get_or places j 0)))) out at
 
 abbrev decreases-loop : tie.decreases-loop
 decreases-loop fresh out₀ start places n at₀ k₀ out at k = n - k

@@ -1,6 +1,6 @@
 -- The lines of all turns, and the end.
 use borrow.Author.Rules.{rules}
-use Rattle.report.specs.SheetLineLaws.{sheet-appended}
+use Rattle.report.specs.SheetLineLaws.{sheet_appended}
 use Rattle.report.proofs.turns.printed.Statement.{statement}
 use Rattle.report.proofs.turns.printed.Tie as tie
 
@@ -20,7 +20,7 @@ same_length : tie.Need-same-length
 same_length c = search rules
 
 returns : tie.Need-returns
-returns c = search sheet-appended
+returns c = search sheet_appended
 
 pub printed-spec : {M : Type 1} → statement M
 printed-spec =

@@ -5,7 +5,7 @@ use native.Mathlib.Omega.{arith}
 use Rattle.area.specs.Limits.{width}
 use Rattle.text.specs.Text.{Appended}
 use Rattle.report.specs.Lines.{turn_lines}
-use Rattle.report.specs.SheetLineLaws.{turns-none, turns_more}
+use Rattle.report.specs.SheetLineLaws.{turns_none, turns_more}
 use Rattle.report.proofs.turns.turn_lines.Statement.{statement}
 use Rattle.report.proofs.turns.turn_lines.Tie as tie
 
@@ -20,7 +20,7 @@ cast-n : tie.Need-overflow-cast-n invariant-loop decreases-loop
 cast-n c = omega arith
 
 loop-holds : tie.Need-loop-init invariant-loop decreases-loop
-loop-holds c = (omega arith, omega arith, turns-none _ _ _)
+loop-holds c = (omega arith, omega arith, turns_none _ _ _)
 
 array-read-router : tie.Need-array-read-router invariant-loop decreases-loop
 array-read-router c = omega arith

@@ -1,6 +1,6 @@
 -- The line shows the due set and the telling set of the router.
 use borrow.Author.Rules.{rules}
-use Rattle.report.specs.SheetLineLaws.{turn-of}
+use Rattle.report.specs.SheetLineLaws.{turn_of}
 use Rattle.report.proofs.turns.turn_of.Statement.{statement}
 use Rattle.report.proofs.turns.turn_of.Tie as tie
 
@@ -23,7 +23,7 @@ same_length : tie.Need-same-length
 same_length c = search rules
 
 returns : tie.Need-returns
-returns c = search turn-of
+returns c = search turn_of
 
 pub turn-of-spec : {M : Type 1} → statement M
 turn-of-spec =

@@ -1,6 +1,6 @@
 -- What is printed part by part is the whole.
 use borrow.Author.Rules.{rules}
-use Rattle.report.specs.ReportLaws.{unfinished-appended}
+use Rattle.report.specs.ReportLaws.{unfinished_appended}
 use Rattle.report.proofs.unfinished_routers.printed.Statement.{statement}
 use Rattle.report.proofs.unfinished_routers.printed.Tie as tie
 
@@ -26,7 +26,7 @@ same_length : tie.Need-same-length
 same_length c = search rules
 
 returns : tie.Need-returns
-returns c = search unfinished-appended
+returns c = search unfinished_appended
 
 pub printed-spec : {M : Type 1} → statement M
 printed-spec =

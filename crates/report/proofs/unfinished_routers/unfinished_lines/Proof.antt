@@ -4,20 +4,20 @@ use mathlib.Core.Path.{◌≡◌}
 use native.Mathlib.Omega.{arith}
 use Rattle.area.specs.Limits.{width}
 use Rattle.text.specs.Text.{Appended}
-use Rattle.report.specs.Lines.{unfinishedLines}
-use Rattle.report.specs.UnfinishedLaws.{unfinished-none, unfinished-more}
+use Rattle.report.specs.Lines.{unfinished_lines}
+use Rattle.report.specs.UnfinishedLaws.{unfinished_none, unfinished_more}
 use Rattle.report.proofs.unfinished_routers.unfinished_lines.Statement.{statement}
 use Rattle.report.proofs.unfinished_routers.unfinished_lines.Tie as tie
 
 abbrev invariant-loop : tie.invariant-loop
 invariant-loop n last out₀ at₀ i₀ out at i =
-    (i ≤ n) × (n ≤ width) × Appended out₀ 0 (unfinishedLines last i) out at
+    (i ≤ n) × (n ≤ width) × Appended out₀ 0 (unfinished_lines last i) out at
 
 abbrev decreases-loop : tie.decreases-loop
 decreases-loop n last out₀ at₀ i₀ out at i = n - i
 
 loop-holds : tie.Need-loop-init invariant-loop decreases-loop
-loop-holds c = (omega arith, omega arith, unfinished-none _ _)
+loop-holds c = (omega arith, omega arith, unfinished_none _ _)
 
 unfinished-text-requires : tie.Need-unfinished-text-requires invariant-loop decreases-loop
 unfinished-text-requires c κs = omega arith
@@ -29,7 +29,7 @@ loop-less : tie.Need-loop-smaller invariant-loop decreases-loop
 loop-less c = omega arith
 
 loop-again : tie.Need-loop-preserved invariant-loop decreases-loop
-loop-again c = (omega arith, omega arith, search unfinished-more)
+loop-again c = (omega arith, omega arith, search unfinished_more)
 
 same_length : tie.Need-same-length invariant-loop decreases-loop
 same_length c = omega arith

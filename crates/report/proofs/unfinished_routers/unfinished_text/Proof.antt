@@ -1,6 +1,6 @@
 -- A router that is done has no line, and any other its own.
 use borrow.Author.Rules.{rules}
-use Rattle.report.specs.UnfinishedLaws.{router-unfinished, router-done}
+use Rattle.report.specs.UnfinishedLaws.{router_unfinished, router_done}
 use Rattle.report.proofs.unfinished_routers.unfinished_text.Statement.{statement}
 use Rattle.report.proofs.unfinished_routers.unfinished_text.Tie as tie
 
@@ -8,7 +8,7 @@ element-copy-out-state : tie.Need-element-copy-out-state
 element-copy-out-state c = search rules
 
 returns : tie.Need-returns
-returns c = search router-done
+returns c = search router_done
 
 mul-without : tie.Need-overflow-mul-without
 mul-without c = search rules
@@ -62,7 +62,7 @@ same_length : tie.Need-same-length
 same_length c = search rules
 
 returns-2 : tie.Need-returns-2
-returns-2 c = search router-unfinished
+returns-2 c = search router_unfinished
 
 pub unfinished-text-spec : {M : Type 1} → statement M
 unfinished-text-spec =

@@ -2,13 +2,13 @@
 use Prim.Native.Nat.{◌*◌, ◌+◌, ◌-◌, ◌≤◌}
 use native.Mathlib.Omega.{arith}
 use borrow.Author.Rules.{rules}
-use Rattle.area.specs.Limits.{width, mostChanges}
+use Rattle.area.specs.Limits.{width, most_changes}
 use Rattle.report_test.proofs.by_words.changes.Statement.{statement}
 use Rattle.report_test.proofs.by_words.changes.Tie as tie
 
 abbrev invariant-loop : tie.invariant-loop
 invariant-loop file₀ at list bytes k₀ file k =
-    (at ≤ 3 + 5 * (width * width)) × (bytes ≤ 5 * (mostChanges + 2)) × (k ≤ bytes)
+    (at ≤ 3 + 5 * (width * width)) × (bytes ≤ 5 * (most_changes + 2)) × (k ≤ bytes)
 
 abbrev decreases-loop : tie.decreases-loop
 decreases-loop file₀ at list bytes k₀ file k = bytes - k

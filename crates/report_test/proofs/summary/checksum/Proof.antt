@@ -7,10 +7,10 @@ use Rattle.report_test.proofs.summary.checksum.Statement.{statement}
 use Rattle.report_test.proofs.summary.checksum.Tie as tie
 
 abbrev invariant-loop : tie.invariant-loop
-invariant-loop text sum₀ at₀ at-end sum at = (sum < 4294967291) × (at ≤ length text)
+invariant-loop text sum₀ at₀ at_end sum at = (sum < 4294967291) × (at ≤ length text)
 
 abbrev decreases-loop : tie.decreases-loop
-decreases-loop text sum₀ at₀ at-end sum at = length text - at
+decreases-loop text sum₀ at₀ at_end sum at = length text - at
 
 pub checksum-spec : {M : Type 1} → statement M
 checksum-spec =

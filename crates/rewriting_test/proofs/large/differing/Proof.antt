@@ -7,10 +7,10 @@ use Rattle.rewriting_test.proofs.large.differing.Statement.{statement}
 use Rattle.rewriting_test.proofs.large.differing.Tie as tie
 
 abbrev invariant-loop : tie.invariant-loop
-invariant-loop written expected count₀ at₀ at-end count at = (count ≤ at) × (at ≤ length written)
+invariant-loop written expected count₀ at₀ at_end count at = (count ≤ at) × (at ≤ length written)
 
 abbrev decreases-loop : tie.decreases-loop
-decreases-loop written expected count₀ at₀ at-end count at = length written - at
+decreases-loop written expected count₀ at₀ at_end count at = length written - at
 
 pub differing-spec : {M : Type 1} → statement M
 differing-spec =

@@ -7,10 +7,10 @@ use Rattle.rewriting_test.proofs.output.hexadecimal.Statement.{statement}
 use Rattle.rewriting_test.proofs.output.hexadecimal.Tie as tie
 
 abbrev invariant-loop : tie.invariant-loop
-invariant-loop bytes at₀ at-end at = at ≤ length bytes
+invariant-loop bytes at₀ at_end at = at ≤ length bytes
 
 abbrev decreases-loop : tie.decreases-loop
-decreases-loop bytes at₀ at-end at = length bytes - at
+decreases-loop bytes at₀ at_end at = length bytes - at
 
 pub hexadecimal-spec : {M : Type 1} → statement M
 hexadecimal-spec =

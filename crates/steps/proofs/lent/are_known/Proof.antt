@@ -10,7 +10,7 @@ use lib.ListN.{get_or}
 use borrow.Author.Tests.{le-leb, leb-true}
 use Rattle.area.specs.Limits.{width}
 use Rattle.area.specs.Tests.{all}
-use Rattle.area.specs.TestLaws.{same_test, all-at, all_true}
+use Rattle.area.specs.TestLaws.{same_test, all_at, all_true}
 use Rattle.machine.specs.Machine.{done}
 use Rattle.steps.proofs.lent.are_known.Statement.{statement}
 use Rattle.steps.proofs.lent.are_known.Tie as tie
@@ -35,7 +35,7 @@ module _ (s : List ℕ) where
       same_test (leb m done) (all width (λ i. leb (get_or s i 0) done))
       (λ t. let u = leb-true m done t in
       all_true width _ (λ k h. le-leb (get_or s k 0) done (let l = f k h in omega arith)))
-      (λ t. le-leb m done (g (λ k h. leb-true (get_or s k 0) done (all-at width _ t k h))))
+      (λ t. le-leb m done (g (λ k h. leb-true (get_or s k 0) done (all_at width _ t k h))))
 
 abbrev invariant-loop : tie.invariant-loop
 invariant-loop states largest₀ i₀ largest i =

@@ -7,26 +7,26 @@ use native.Mathlib.Omega.{arith}
 use borrow.Author.Rules.{rules}
 use Rattle.plan.specs.declared.Record.{Record}
 use Rattle.machine.specs.Answers.{Outcome}
-use Rattle.machine.specs.Machine.{learnKind, releaseKind, finishKind, tickKind}
-use Rattle.machine.specs.Machine.{over, timed, learn, release, finish, isKind, readsB, call_of}
-use Rattle.machine.specs.StepLaws.{kind-range, reads-false, call-learn, call-release, call-finish}
+use Rattle.machine.specs.Machine.{learn_kind, release_kind, finish_kind, tick_kind}
+use Rattle.machine.specs.Machine.{over, timed, learn, release, finish, is_kind, reads_b, call_of}
+use Rattle.machine.specs.StepLaws.{kind_range, reads_false, call_learn, call_release, call_finish}
 use Rattle.steps.proofs.lent.call_one.Statement.{statement}
 use Rattle.steps.proofs.lent.call_one.Tie as tie
 
 module _ (r : Record) (a b kind : ℕ) (o : Outcome) where
-  learns : kind ≡ learnKind → o ≡ learn r a → o ≡ call_of r kind a b
-  learns k e = rw k (e ∙ sym (call-learn r a b))
+  learns : kind ≡ learn_kind → o ≡ learn r a → o ≡ call_of r kind a b
+  learns k e = rw k (e ∙ sym (call_learn r a b))
 
-  releases : kind ≡ releaseKind → o ≡ release r a → o ≡ call_of r kind a b
-  releases k e = rw k (e ∙ sym (call-release r a b))
+  releases : kind ≡ release_kind → o ≡ release r a → o ≡ call_of r kind a b
+  releases k e = rw k (e ∙ sym (call_release r a b))
 
-  module _ (known : isKind kind ≡ true) (first : kind ≢ tickKind) (alone : readsB kind ≡ false) where
-    finishes : kind ≢ learnKind → kind ≢ releaseKind → o ≡ finish r a → o ≡ call_of r kind a b
+  module _ (known : is_kind kind ≡ true) (first : kind ≢ tick_kind) (alone : reads_b kind ≡ false) where
+    finishes : kind ≢ learn_kind → kind ≢ release_kind → o ≡ finish r a → o ≡ call_of r kind a b
     finishes p q e =
-        let x = kind-range kind known in
-        let y = reads-false kind alone in
-        let k : kind ≡ finishKind = omega (arith, x.0, x.1, y.0, y.1) in
-        rw k (e ∙ sym (call-finish r a b))
+        let x = kind_range kind known in
+        let y = reads_false kind alone in
+        let k : kind ≡ finish_kind = omega (arith, x.0, x.1, y.0, y.1) in
+        rw k (e ∙ sym (call_finish r a b))
 
 -- the record x with what was lent
 abbrev lent : tie.Start → Record → Record

@@ -6,18 +6,18 @@ use mathlib.Core.Logic.{◌≢◌, ⊎_elim}
 use borrow.Author.Rules.{rules}
 use Rattle.plan.specs.declared.Record.{Record}
 use Rattle.machine.specs.Answers.{Outcome}
-use Rattle.machine.specs.Machine.{writeKind, over, timed, write, deliver, readsB, call_of}
-use Rattle.machine.specs.StepLaws.{reads-true, call-write, call-deliver}
+use Rattle.machine.specs.Machine.{write_kind, over, timed, write, deliver, reads_b, call_of}
+use Rattle.machine.specs.StepLaws.{reads_true, call_write, call_deliver}
 use Rattle.steps.proofs.lent.call_two.Statement.{statement}
 use Rattle.steps.proofs.lent.call_two.Tie as tie
 
 module _ (r : Record) (a b kind : ℕ) (o : Outcome) where
-  writes : kind ≡ writeKind → o ≡ write r a b → o ≡ call_of r kind a b
-  writes k e = rw k (e ∙ sym (call-write r a b))
+  writes : kind ≡ write_kind → o ≡ write r a b → o ≡ call_of r kind a b
+  writes k e = rw k (e ∙ sym (call_write r a b))
 
-  delivers : readsB kind ≡ true → kind ≢ writeKind → o ≡ deliver r a b → o ≡ call_of r kind a b
+  delivers : reads_b kind ≡ true → kind ≢ write_kind → o ≡ deliver r a b → o ≡ call_of r kind a b
   delivers both p e =
-      ⊎_elim (λ k. absurd (p k)) (λ k. rw k (e ∙ sym (call-deliver r a b))) (reads-true kind both)
+      ⊎_elim (λ k. absurd (p k)) (λ k. rw k (e ∙ sym (call_deliver r a b))) (reads_true kind both)
 
 -- the record x with what was lent
 abbrev lent : tie.Start → Record → Record

@@ -9,8 +9,8 @@ use lib.ListN.{get_or}
 use borrow.Author.Rules.{rules}
 use Rattle.area.specs.Limits.{width}
 use Rattle.area.specs.Tests.{all}
-use Rattle.machine.specs.Machine.{done, isSound}
-use Rattle.machine.specs.StepLaws.{sound-low, sound-high, sound-states}
+use Rattle.machine.specs.Machine.{done, is_sound}
+use Rattle.machine.specs.StepLaws.{sound_low, sound_high, sound_states}
 use Rattle.steps.proofs.lent.is_record.Statement.{statement}
 use Rattle.steps.proofs.lent.is_record.Tie as tie
 
@@ -18,14 +18,14 @@ by-states : (n : ℕ) (s : List ℕ) (t : Bool)
     → n ≢ 0
     → n ≤ width
     → t ≡ all width (λ i. leb (get_or s i 0) done)
-    → t ≡ isSound n s
-by-states n s t p h e = e ∙ sym (sound-states n s p h)
+    → t ≡ is_sound n s
+by-states n s t p h e = e ∙ sym (sound_states n s p h)
 
 returns : tie.Need-returns
-returns c = sym (search sound-low)
+returns c = sym (search sound_low)
 
 returns-2 : tie.Need-returns-2
-returns-2 c = sym (search sound-high)
+returns-2 c = sym (search sound_high)
 
 are-known-requires : tie.Need-are-known-requires
 are-known-requires c κs = search rules

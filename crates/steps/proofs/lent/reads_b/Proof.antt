@@ -2,15 +2,15 @@
 use Prim.Native.Nat.{ℕ}
 use mathlib.Core.Path.{◌≡◌, sym}
 use mathlib.Core.Bool.{true}
-use Rattle.machine.specs.Machine.{writeKind, deliverKind, readsB}
+use Rattle.machine.specs.Machine.{write_kind, deliver_kind, reads_b}
 use Rattle.machine.specs.StepLaws.{reads_two, reads_other}
 use Rattle.steps.proofs.lent.reads_b.Statement.{statement}
 use Rattle.steps.proofs.lent.reads_b.Tie as tie
 
-at-write : (kind : ℕ) → kind ≡ writeKind → true ≡ readsB kind
+at-write : (kind : ℕ) → kind ≡ write_kind → true ≡ reads_b kind
 at-write kind e = rw e (sym reads_two.0)
 
-at-deliver : (kind : ℕ) → kind ≡ deliverKind → true ≡ readsB kind
+at-deliver : (kind : ℕ) → kind ≡ deliver_kind → true ≡ reads_b kind
 at-deliver kind e = rw e (sym reads_two.1)
 
 returns : tie.Need-returns

@@ -10,74 +10,74 @@ use borrow.Author.Rules.{rules}
 use borrow.Author.Tests.{not-true, not-false, lt-ltb}
 use lib.Dec.{ltb}
 use Rattle.area.specs.Limits.{width}
-use Rattle.area.specs.TestLaws.{and-true}
-use Rattle.area.specs.Refusals.{unknownRouter, badRecord, unknownKind}
+use Rattle.area.specs.TestLaws.{and_true}
+use Rattle.area.specs.Refusals.{unknown_router, bad_record, unknown_kind}
 use Rattle.plan.specs.declared.Record.{Record}
 use Rattle.machine.specs.Answers.{refused, Outcome, gives}
-use Rattle.machine.specs.Machine.{tickKind, over, timed, tick, isSound, isRecord, isKind, readsB, areRouters, call_of}
+use Rattle.machine.specs.Machine.{tick_kind, over, timed, tick, is_sound, is_record, is_kind, reads_b, are_routers, call_of}
 use Rattle.machine.specs.Machine.{step_of}
-use Rattle.machine.specs.StepLaws.{sound-most, step-record, step-kind, step-router, step_call, call-tick}
-use Rattle.machine.specs.StepLaws.{routers-one, routers-two, routers-none, first_out, second-out}
+use Rattle.machine.specs.StepLaws.{sound_most, step_record, step_kind, step_router, step_call, call_tick}
+use Rattle.machine.specs.StepLaws.{routers_one, routers_two, routers_none, first_out, second_out}
 use Rattle.steps.proofs.lent.step.Statement.{statement}
 use Rattle.steps.proofs.lent.step.Tie as tie
 
 -- a router has an entry in every table
-fits : (n a : ℕ) (s : List ℕ) (good : Bool) → good ≡ isSound n s → not good ≡ false → a < n → a < width
-fits n a s good is-good t h = let m = sound-most n s (sym is-good ∙ not-false good t) in omega arith
+fits : (n a : ℕ) (s : List ℕ) (good : Bool) → good ≡ is_sound n s → not good ≡ false → a < n → a < width
+fits n a s good is-good t h = let m = sound_most n s (sym is-good ∙ not-false good t) in omega arith
 
 module _ (kind : ℕ) (t : Bool) where
-  is_known : t ≡ isKind kind → not t ≡ false → isKind kind ≡ true
+  is_known : t ≡ is_kind kind → not t ≡ false → is_kind kind ≡ true
   is_known e f = sym e ∙ not-false t f
 
-  reads-one : t ≡ readsB kind → not t ≡ true → readsB kind ≡ false
+  reads-one : t ≡ reads_b kind → not t ≡ true → reads_b kind ≡ false
   reads-one e f = sym e ∙ not-true t f
 
-  reads_both : t ≡ readsB kind → not t ≡ false → readsB kind ≡ true
+  reads_both : t ≡ reads_b kind → not t ≡ false → reads_b kind ≡ true
   reads_both e f = sym e ∙ not-false t f
 
 -- what each test says
-module _ (r : Record) (kind a b : ℕ) (good : Bool) (is-good : good ≡ isRecord r) where
-  no_record : not good ≡ true → step_of r kind a b ≡ gives r (refused badRecord)
-  no_record f = step-record r kind a b (sym is-good ∙ not-true good f)
+module _ (r : Record) (kind a b : ℕ) (good : Bool) (is-good : good ≡ is_record r) where
+  no_record : not good ≡ true → step_of r kind a b ≡ gives r (refused bad_record)
+  no_record f = step_record r kind a b (sym is-good ∙ not-true good f)
 
-  module _ (t : not good ≡ false) (known : Bool) (told-kind : known ≡ isKind kind) where
-    sound : isRecord r ≡ true
+  module _ (t : not good ≡ false) (known : Bool) (told-kind : known ≡ is_kind kind) where
+    sound : is_record r ≡ true
     sound = sym is-good ∙ not-false good t
 
-    no_kind : not known ≡ true → step_of r kind a b ≡ gives r (refused unknownKind)
-    no_kind f = step-kind r kind a b sound (sym told-kind ∙ not-true known f)
+    no_kind : not known ≡ true → step_of r kind a b ≡ gives r (refused unknown_kind)
+    no_kind f = step_kind r kind a b sound (sym told-kind ∙ not-true known f)
 
     module _ (u : not known ≡ false) where
-      is-kind : isKind kind ≡ true
+      is-kind : is_kind kind ≡ true
       is-kind = is_known kind known told-kind u
 
-      ticks : (o : Outcome) → kind ≡ tickKind → o ≡ tick r → o ≡ step_of r kind a b
+      ticks : (o : Outcome) → kind ≡ tick_kind → o ≡ tick r → o ≡ step_of r kind a b
       ticks o k e =
-          let none = ap (λ (j : ℕ). areRouters r j a b) k ∙ routers-none r a b in
-          let call = ap (λ (j : ℕ). call_of r j a b) k ∙ call-tick r a b in
+          let none = ap (λ (j : ℕ). are_routers r j a b) k ∙ routers_none r a b in
+          let call = ap (λ (j : ℕ). call_of r j a b) k ∙ call_tick r a b in
           e ∙ sym (step_call r kind a b sound is-kind none ∙ call)
 
-      module _ (first : kind ≢ tickKind) where
-        no-first : r.n ≤ a → step_of r kind a b ≡ gives r (refused unknownRouter)
-        no-first h = step-router r kind a b sound is-kind (first_out r kind a b first h)
+      module _ (first : kind ≢ tick_kind) where
+        no-first : r.n ≤ a → step_of r kind a b ≡ gives r (refused unknown_router)
+        no-first h = step_router r kind a b sound is-kind (first_out r kind a b first h)
 
-        module _ (a_in : a < r.n) (reads : Bool) (is-reads : reads ≡ readsB kind) where
+        module _ (a_in : a < r.n) (reads : Bool) (is-reads : reads ≡ reads_b kind) where
           calls-one : (o : Outcome) → not reads ≡ true → o ≡ call_of r kind a b → o ≡ step_of r kind a b
           calls-one o f e =
-              let one = routers-one r kind a b first (reads-one kind reads is-reads f) ∙ lt-ltb a r.n a_in in
+              let one = routers_one r kind a b first (reads-one kind reads is-reads f) ∙ lt-ltb a r.n a_in in
               e ∙ sym (step_call r kind a b sound is-kind one)
 
           module _ (f : not reads ≡ false) where
-            both : readsB kind ≡ true
+            both : reads_b kind ≡ true
             both = reads_both kind reads is-reads f
 
-            no_second : r.n ≤ b → step_of r kind a b ≡ gives r (refused unknownRouter)
-            no_second h = step-router r kind a b sound is-kind (second-out r kind a b first both h)
+            no_second : r.n ≤ b → step_of r kind a b ≡ gives r (refused unknown_router)
+            no_second h = step_router r kind a b sound is-kind (second_out r kind a b first both h)
 
             calls-two : (o : Outcome) → b < r.n → o ≡ call_of r kind a b → o ≡ step_of r kind a b
             calls-two o b-in e =
-                let are = and-true (ltb a r.n) (ltb b r.n) (lt-ltb a r.n a_in) (lt-ltb b r.n b-in) in
-                e ∙ sym (step_call r kind a b sound is-kind (routers-two r kind a b first both ∙ are))
+                let are = and_true (ltb a r.n) (ltb b r.n) (lt-ltb a r.n a_in) (lt-ltb b r.n b-in) in
+                e ∙ sym (step_call r kind a b sound is-kind (routers_two r kind a b first both ∙ are))
 
 -- the record x with what was lent
 abbrev lent : tie.Start → Record → Record

@@ -5,35 +5,35 @@ use mathlib.Core.Bool.{Bool, true, false, not}
 use borrow.Author.Tests.{not-true, not-false}
 use borrow.Author.Rules.{rules}
 use Rattle.area.specs.Limits.{width}
-use Rattle.area.specs.Refusals.{notTold}
+use Rattle.area.specs.Refusals.{not_told}
 use Rattle.sets.specs.Sets.{bit, removed}
 use Rattle.plan.specs.declared.Record.{Record}
 use Rattle.machine.specs.Answers.{ok, ignored, refused, gives}
-use Rattle.machine.specs.Machine.{done, state_of, waitingOf, tellingOf, withWaiting, listens, deliver}
-use Rattle.machine.specs.StepLaws.{deliver-not-done, deliver-not-told, deliver-lost, deliver-ok}
+use Rattle.machine.specs.Machine.{done, state_of, waiting_of, telling_of, with_waiting, listens, deliver}
+use Rattle.machine.specs.StepLaws.{deliver_not_done, deliver_not_told, deliver_lost, deliver_ok}
 use Rattle.steps.proofs.messages.deliver.Statement.{statement}
 use Rattle.steps.proofs.messages.deliver.Tie as tie
 
 -- what the two tests say: that the sender tells the receiver, and that this one listens
-module _ (r : Record) (a b : ℕ) (at : state_of r a ≡ done) (told : Bool) (is-told : told ≡ bit (tellingOf r a) b) where
-  not-told : not told ≡ true → deliver r a b ≡ gives r (refused notTold)
-  not-told f = deliver-not-told r a b at (sym is-told ∙ not-true told f)
+module _ (r : Record) (a b : ℕ) (at : state_of r a ≡ done) (told : Bool) (is-told : told ≡ bit (telling_of r a) b) where
+  not-told : not told ≡ true → deliver r a b ≡ gives r (refused not_told)
+  not-told f = deliver_not_told r a b at (sym is-told ∙ not-true told f)
 
-  module _ (t : not told ≡ false) (heard : Bool) (is-heard : heard ≡ listens (state_of r b) (waitingOf r b) a) where
+  module _ (t : not told ≡ false) (heard : Bool) (is-heard : heard ≡ listens (state_of r b) (waiting_of r b) a) where
     lost : not heard ≡ true → deliver r a b ≡ gives r ignored
-    lost f = deliver-lost r a b at (sym is-told ∙ not-false told t) (sym is-heard ∙ not-true heard f)
+    lost f = deliver_lost r a b at (sym is-told ∙ not-false told t) (sym is-heard ∙ not-true heard f)
 
     strikes : (s : ℕ)
         → not heard ≡ false
-        → s ≡ removed width (waitingOf r b) a
-        → deliver r a b ≡ gives (withWaiting r b s) ok
-    strikes s u e = rw e (deliver-ok r a b at (sym is-told ∙ not-false told t) (sym is-heard ∙ not-false heard u))
+        → s ≡ removed width (waiting_of r b) a
+        → deliver r a b ≡ gives (with_waiting r b s) ok
+    strikes s u e = rw e (deliver_ok r a b at (sym is-told ∙ not-false told t) (sym is-heard ∙ not-false heard u))
 
 element-copy-out-at : tie.Need-element-copy-out-at
 element-copy-out-at c = search rules
 
 returns : tie.Need-returns
-returns c = λ (x : Record). sym (search deliver-not-done)
+returns c = λ (x : Record). sym (search deliver_not_done)
 
 mul-member : tie.Need-overflow-mul-member
 mul-member c = search rules

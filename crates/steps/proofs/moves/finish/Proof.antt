@@ -5,47 +5,47 @@ use mathlib.Core.Bool.{Bool, true, false, not}
 use borrow.Author.Tests.{not-true, not-false}
 use borrow.Author.Rules.{rules}
 use Rattle.area.specs.Limits.{width}
-use Rattle.area.specs.Refusals.{stillWaiting, unwritten}
+use Rattle.area.specs.Refusals.{still_waiting, unwritten}
 use Rattle.sets.specs.Sets.{subset}
 use Rattle.plan.specs.declared.Record.{Record}
 use Rattle.machine.specs.Answers.{ok, refused, gives}
-use Rattle.machine.specs.Machine.{ongoing, state_of, waitingOf, dueOf, written_of, dueTime, withState, mustWait, finish}
+use Rattle.machine.specs.Machine.{ongoing, state_of, waiting_of, due_of, written_of, due_time, with_state, must_wait, finish}
 use Rattle.machine.specs.declared.states.State.{State}
 use Rattle.machine.specs.declared.states.Event.TheVariants.{Finish}
 use Rattle.machine.specs.declared.states.NextState.{NextState}
 use Rattle.machine.specs.declared.states.NextState.TheVariants.{To}
-use Rattle.machine.specs.States.{stateNumber, named, nextState}
-use Rattle.machine.specs.StepLaws.{waitsOn, finish-waiting, finish-unwritten, finish-ok}
-use Rattle.machine.specs.StateLaws.{finish-none, finish-at, finish-to}
+use Rattle.machine.specs.States.{state_number, named, next_state}
+use Rattle.machine.specs.StepLaws.{waits_on, finish_waiting, finish_unwritten, finish_ok}
+use Rattle.machine.specs.StateLaws.{finish_none, finish_at, finish_to}
 use Rattle.steps.proofs.Moving.{told}
 use Rattle.steps.proofs.moves.finish.Statement.{statement}
 use Rattle.steps.proofs.moves.finish.Tie as tie
 
 -- what the next state says, and the tests of the due time and of the two sets
 module _ (r : Record) (a : ℕ) (now : State) (is-now : now ≡ named (state_of r a)) (next : NextState) (to : State) where
-  module _ (after : next ≡ nextState now Finish) (some : next ≡ To to) where
-    leads : nextState (named (state_of r a)) Finish ≡ To to
+  module _ (after : next ≡ next_state now Finish) (some : next ≡ To to) where
+    leads : next_state (named (state_of r a)) Finish ≡ To to
     leads = told (state_of r a) Finish now next (To to) is-now after some
 
     at : state_of r a ≡ ongoing
-    at = finish-at (state_of r a) to leads
+    at = finish_at (state_of r a) to leads
 
-    module _ (late : ℕ) (is-late : late ≡ dueTime r a) (must : Bool)
-        (is-must : must ≡ mustWait (waitingOf r a) r.clock late) where
-      waits : must ≡ waitsOn r a
-      waits = is-must ∙ ap (mustWait (waitingOf r a) r.clock) is-late
+    module _ (late : ℕ) (is-late : late ≡ due_time r a) (must : Bool)
+        (is-must : must ≡ must_wait (waiting_of r a) r.clock late) where
+      waits : must ≡ waits_on r a
+      waits = is-must ∙ ap (must_wait (waiting_of r a) r.clock) is-late
 
-      still-waits : must ≡ true → finish r a ≡ gives r (refused stillWaiting)
-      still-waits t = finish-waiting r a at (sym waits ∙ t)
+      still_waits : must ≡ true → finish r a ≡ gives r (refused still_waiting)
+      still_waits t = finish_waiting r a at (sym waits ∙ t)
 
-      module _ (free : must ≡ false) (all : Bool) (is_all : all ≡ subset width (dueOf r a) (written_of r a)) where
+      module _ (free : must ≡ false) (all : Bool) (is_all : all ≡ subset width (due_of r a) (written_of r a)) where
         not-whole : not all ≡ true → finish r a ≡ gives r (refused unwritten)
-        not-whole f = finish-unwritten r a at (sym waits ∙ free) (sym is_all ∙ not-true all f)
+        not-whole f = finish_unwritten r a at (sym waits ∙ free) (sym is_all ∙ not-true all f)
 
-        finishes : (v : ℕ) → v ≡ stateNumber to → not all ≡ false → finish r a ≡ gives (withState r a v) ok
+        finishes : (v : ℕ) → v ≡ state_number to → not all ≡ false → finish r a ≡ gives (with_state r a v) ok
         finishes v e t =
-            rw (e ∙ ap stateNumber (finish-to (state_of r a) to leads))
-            (finish-ok r a at (sym waits ∙ free) (sym is_all ∙ not-false all t))
+            rw (e ∙ ap state_number (finish_to (state_of r a) to leads))
+            (finish_ok r a at (sym waits ∙ free) (sym is_all ∙ not-false all t))
 
 element-copy-out-named : tie.Need-element-copy-out-named
 element-copy-out-named c = search rules
@@ -63,7 +63,7 @@ enum_told : tie.Need-enum-told
 enum_told c = search rules
 
 returns : tie.Need-returns
-returns c = λ (x : Record). sym (search (finish-none, told))
+returns c = λ (x : Record). sym (search (finish_none, told))
 
 mul-due-time : tie.Need-overflow-mul-due-time
 mul-due-time c = search rules
@@ -87,7 +87,7 @@ must-wait-requires : tie.Need-must-wait-requires
 must-wait-requires c κs = search rules
 
 returns-2 : tie.Need-returns-2
-returns-2 c = λ (x : Record). sym (search still-waits)
+returns-2 c = λ (x : Record). sym (search still_waits)
 
 mul-is-subset : tie.Need-overflow-mul-is-subset
 mul-is-subset c = search rules

@@ -2,7 +2,7 @@
 use mathlib.Core.Path.{sym}
 use borrow.Author.Rules.{rules}
 use Rattle.plan.specs.declared.Record.{Record}
-use Rattle.machine.specs.StateLaws.{learn-none, learn-to}
+use Rattle.machine.specs.StateLaws.{learn_none, learn_to}
 use Rattle.steps.proofs.Moving.{told}
 use Rattle.steps.proofs.moves.learn.Statement.{statement}
 use Rattle.steps.proofs.moves.learn.Tie as tie
@@ -23,7 +23,7 @@ enum_told : tie.Need-enum-told
 enum_told c = search rules
 
 returns : tie.Need-returns
-returns c = λ (x : Record). sym (search (learn-none, told))
+returns c = λ (x : Record). sym (search (learn_none, told))
 
 number-requires : tie.Need-number-requires
 number-requires c κs = search rules
@@ -38,7 +38,7 @@ element-write-learn-times : tie.Need-element-write-learn-times
 element-write-learn-times c = search rules
 
 returns-2 : tie.Need-returns-2
-returns-2 c = λ (x : Record). sym (search (learn-to, told))
+returns-2 c = λ (x : Record). sym (search (learn_to, told))
 
 pub learn-spec : {M : Type 1} → statement M
 learn-spec =

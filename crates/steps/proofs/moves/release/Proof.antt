@@ -3,31 +3,31 @@ use Prim.Native.Nat.{ℕ, ◌<◌, ◌≤◌}
 use mathlib.Core.Path.{◌≡◌, sym}
 use native.Mathlib.Omega.{arith}
 use borrow.Author.Rules.{rules}
-use Rattle.area.specs.Refusals.{tooEarly}
+use Rattle.area.specs.Refusals.{too_early}
 use Rattle.plan.specs.declared.Record.{Record}
 use Rattle.machine.specs.declared.states.State.{State}
 use Rattle.machine.specs.declared.states.Event.TheVariants.{Release}
 use Rattle.machine.specs.declared.states.NextState.{NextState}
 use Rattle.machine.specs.declared.states.NextState.TheVariants.{To}
 use Rattle.machine.specs.Answers.{ok, refused, gives}
-use Rattle.machine.specs.Machine.{state_of, heldUntil, withState, release}
-use Rattle.machine.specs.States.{stateNumber, named, nextState}
-use Rattle.machine.specs.StateLaws.{release-none, release-soon, release-to}
+use Rattle.machine.specs.Machine.{state_of, held_until, with_state, release}
+use Rattle.machine.specs.States.{state_number, named, next_state}
+use Rattle.machine.specs.StateLaws.{release_none, release_soon, release_to}
 use Rattle.steps.proofs.Moving.{told}
 use Rattle.steps.proofs.moves.release.Statement.{statement}
 use Rattle.steps.proofs.moves.release.Tie as tie
 
 -- what the next state says, and the test of the hold time
 module _ (r : Record) (a : ℕ) (now : State) (is-now : now ≡ named (state_of r a)) (next : NextState) (to : State) where
-  module _ (after : next ≡ nextState now Release) (some : next ≡ To to) (until : ℕ) (is : until ≡ heldUntil r a) where
-    leads : nextState (named (state_of r a)) Release ≡ To to
+  module _ (after : next ≡ next_state now Release) (some : next ≡ To to) (until : ℕ) (is : until ≡ held_until r a) where
+    leads : next_state (named (state_of r a)) Release ≡ To to
     leads = told (state_of r a) Release now next (To to) is-now after some
 
-    too-early : r.clock < until → release r a ≡ gives r (refused tooEarly)
-    too-early h = release-soon r a to leads (omega arith)
+    too-early : r.clock < until → release r a ≡ gives r (refused too_early)
+    too-early h = release_soon r a to leads (omega arith)
 
-    releases : (v : ℕ) → v ≡ stateNumber to → until ≤ r.clock → release r a ≡ gives (withState r a v) ok
-    releases v e h = release-to r a to v leads e (omega arith)
+    releases : (v : ℕ) → v ≡ state_number to → until ≤ r.clock → release r a ≡ gives (with_state r a v) ok
+    releases v e h = release_to r a to v leads e (omega arith)
 
 element-copy-out-named : tie.Need-element-copy-out-named
 element-copy-out-named c = search rules
@@ -45,7 +45,7 @@ enum_told : tie.Need-enum-told
 enum_told c = search rules
 
 returns : tie.Need-returns
-returns c = λ (x : Record). sym (search (release-none, told))
+returns c = λ (x : Record). sym (search (release_none, told))
 
 mul-held-until : tie.Need-overflow-mul-held-until
 mul-held-until c = search rules

@@ -5,52 +5,52 @@ use mathlib.Core.Bool.{Bool, true, false, not}
 use borrow.Author.Tests.{not-true, not-false}
 use borrow.Author.Rules.{rules}
 use Rattle.area.specs.Limits.{width}
-use Rattle.area.specs.Refusals.{stillWaiting, notDue}
+use Rattle.area.specs.Refusals.{still_waiting, not_due}
 use Rattle.sets.specs.Sets.{bit, added}
 use Rattle.plan.specs.declared.Record.{Record}
 use Rattle.machine.specs.Answers.{ok, refused, gives}
-use Rattle.machine.specs.Machine.{ongoing, state_of, waitingOf, dueOf, written_of, dueTime, withWritten, mustWait, write}
+use Rattle.machine.specs.Machine.{ongoing, state_of, waiting_of, due_of, written_of, due_time, with_written, must_wait, write}
 use Rattle.machine.specs.declared.states.State.{State}
 use Rattle.machine.specs.declared.states.Event.TheVariants.{Write}
 use Rattle.machine.specs.declared.states.NextState.{NextState}
 use Rattle.machine.specs.declared.states.NextState.TheVariants.{To}
-use Rattle.machine.specs.States.{named, nextState}
-use Rattle.machine.specs.StepLaws.{waitsOn, write-waiting, write-not-due, write_again, write-ok}
-use Rattle.machine.specs.StateLaws.{write-none, write-at}
+use Rattle.machine.specs.States.{named, next_state}
+use Rattle.machine.specs.StepLaws.{waits_on, write_waiting, write_not_due, write_again, write_ok}
+use Rattle.machine.specs.StateLaws.{write_none, write_at}
 use Rattle.steps.proofs.Moving.{told}
 use Rattle.steps.proofs.moves.write.Statement.{statement}
 use Rattle.steps.proofs.moves.write.Tie as tie
 
 -- what the next state says, and the tests of the due time and of two members
 module _ (r : Record) (a b : ℕ) (now : State) (is-now : now ≡ named (state_of r a)) (next : NextState) (to : State) where
-  module _ (after : next ≡ nextState now Write) (some : next ≡ To to) where
+  module _ (after : next ≡ next_state now Write) (some : next ≡ To to) where
     at : state_of r a ≡ ongoing
-    at = write-at (state_of r a) to (told (state_of r a) Write now next (To to) is-now after some)
+    at = write_at (state_of r a) to (told (state_of r a) Write now next (To to) is-now after some)
 
-    module _ (late : ℕ) (is-late : late ≡ dueTime r a) (must : Bool)
-        (is-must : must ≡ mustWait (waitingOf r a) r.clock late) where
-      waits : must ≡ waitsOn r a
-      waits = is-must ∙ ap (mustWait (waitingOf r a) r.clock) is-late
+    module _ (late : ℕ) (is-late : late ≡ due_time r a) (must : Bool)
+        (is-must : must ≡ must_wait (waiting_of r a) r.clock late) where
+      waits : must ≡ waits_on r a
+      waits = is-must ∙ ap (must_wait (waiting_of r a) r.clock) is-late
 
-      still-waits : must ≡ true → write r a b ≡ gives r (refused stillWaiting)
-      still-waits t = write-waiting r a b at (sym waits ∙ t)
+      still_waits : must ≡ true → write r a b ≡ gives r (refused still_waiting)
+      still_waits t = write_waiting r a b at (sym waits ∙ t)
 
-      module _ (free : must ≡ false) (due : Bool) (is-due : due ≡ bit (dueOf r a) b) where
-        not-due : not due ≡ true → write r a b ≡ gives r (refused notDue)
-        not-due f = write-not-due r a b at (sym waits ∙ free) (sym is-due ∙ not-true due f)
+      module _ (free : must ≡ false) (due : Bool) (is_due : due ≡ bit (due_of r a) b) where
+        not-due : not due ≡ true → write r a b ≡ gives r (refused not_due)
+        not-due f = write_not_due r a b at (sym waits ∙ free) (sym is_due ∙ not-true due f)
 
         module _ (t : not due ≡ false) (again : Bool) (is-again : again ≡ bit (written_of r a) b) where
-          already : again ≡ true → write r a b ≡ gives r (refused notDue)
-          already u = write_again r a b at (sym waits ∙ free) (sym is-due ∙ not-false due t) (sym is-again ∙ u)
+          already : again ≡ true → write r a b ≡ gives r (refused not_due)
+          already u = write_again r a b at (sym waits ∙ free) (sym is_due ∙ not-false due t) (sym is-again ∙ u)
 
           writes :
               (v : ℕ)
               → again ≡ false
               → v ≡ added width (written_of r a) b
-              → write r a b ≡ gives (withWritten r a v) ok
+              → write r a b ≡ gives (with_written r a v) ok
           writes v u e =
               rw e
-              (write-ok r a b at (sym waits ∙ free) (sym is-due ∙ not-false due t) (sym is-again ∙ u))
+              (write_ok r a b at (sym waits ∙ free) (sym is_due ∙ not-false due t) (sym is-again ∙ u))
 
 element-copy-out-named : tie.Need-element-copy-out-named
 element-copy-out-named c = search rules
@@ -68,7 +68,7 @@ enum-told-2 : tie.Need-enum-told-2
 enum-told-2 c = search rules
 
 returns : tie.Need-returns
-returns c = λ (x : Record). sym (search (write-none, told))
+returns c = λ (x : Record). sym (search (write_none, told))
 
 mul-due-time : tie.Need-overflow-mul-due-time
 mul-due-time c = search rules
@@ -92,7 +92,7 @@ must-wait-requires : tie.Need-must-wait-requires
 must-wait-requires c κs = search rules
 
 returns-2 : tie.Need-returns-2
-returns-2 c = λ (x : Record). sym (search still-waits)
+returns-2 c = λ (x : Record). sym (search still_waits)
 
 mul-member : tie.Need-overflow-mul-member
 mul-member c = search rules

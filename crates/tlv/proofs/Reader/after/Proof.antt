@@ -26,10 +26,10 @@ use denote.Steps.{only}
 use denote.Triple.Statement.{Contract, Triple}
 use denote.Triple.Table.{cited}
 use denote.Triple.Walked.{says, ends_at}
-use Rattle.tlv.specs.Items.{placeAfter}
+use Rattle.tlv.specs.Items.{place_after}
 use Rattle.tlv.specs.declared.Reader.{Reader}
-use Rattle.tlv.proofs.Walking.{fields, reader-val, of_fields, apart-vals, Apart, Whole, Storable, whole, token}
-use Rattle.tlv.proofs.Walking.{Asks, asked-whole, moved, reader-typed, freed, Met, calls-for, Run, walk-enters}
+use Rattle.tlv.proofs.Walking.{fields, reader_val, of_fields, apart_vals, Apart, Whole, Storable, whole, token}
+use Rattle.tlv.proofs.Walking.{Asks, asked_whole, moved, reader_typed, freed, Met, calls_for, Run, walk_enters}
 use Rattle.tlv.specs.contracts.place_after as place_after
 use Rattle.tlv.proofs.place_after.Symbol as place-after-def
 use Rattle.tlv.proofs.place_after.Symbol.{name as #tlv·place-after}
@@ -64,10 +64,10 @@ module _ {M : Type 1} {𝓤 : Ura M} (𝓛 : Logic 𝓤) (mem : Memory → SProp
         (from ! (stop !)) (init ! 2 refl (tt, typed.1.1.0)) $
         -- `place_after` is called with _3 and _4
         move ! (12 ∷ 13 ∷ []) $ use2 𝓛 (raw (Asks 𝓛 κ q (Apart κ (fields d))) ⊛ ‵ (Whole κ d))
-        (asked-whole 𝓛 κ q d) $ split ! $
-        calls-for 𝓛 place_after.ended (place_after.clauses 𝓛 mem run)
-        (((κ, tt), (q, tt), tt, fields d, apart-vals (fields d)), tt) ! fm known-place-after
-        (λ n. n ≡ placeAfter d.bytes.now d.at) (λ n ws. refl)
+        (asked_whole 𝓛 κ q d) $ split ! $
+        calls_for 𝓛 place_after.ended (place_after.clauses 𝓛 mem run)
+        (((κ, tt), (q, tt), tt, fields d, apart_vals (fields d)), tt) ! fm known-place-after
+        (λ n. n ≡ place_after d.bytes.now d.at) (λ n ws. refl)
         (and_then ! (load ! (from ! (stop !)) (look ! 6 refl))
         (and_then ! (load ! (from ! (stop !)) (look ! 4 refl)) (no_more !))) (λ v n e is.
         -- [what the place owns; the token; what the reader owns; room for _5; …; _4; …; _3; …; room for _2; …; _1; …;
@@ -86,15 +86,15 @@ module _ {M : Type 1} {𝓤 : Ura M} (𝓛 : Logic 𝓤) (mem : Memory → SProp
         freed ! $ freed ! $ freed ! $ freed ! $ freed ! $ freed ! $ free0 ! $
         -- [the token; what the reader owns]
         suffices ! _ (ends_at 𝓛 after.ended whole.stay (after.clauses 𝓛 mem run)
-        (((κ, tt), (q, tt), tt, (d, tt), (reader-val d ∷ [], tt)), tt) _ (of_fields (d.bytes, (n, tt)))
+        (((κ, tt), (q, tt), tt, (d, tt), (reader_val d ∷ [], tt)), tt) _ (of_fields (d.bytes, (n, tt)))
         (tt, tt) (tt, tt)) $ says ! (refl, e) $ frame ! $ by ! (moved 𝓛 κ d n is.1))))))))
 
 pub after-spec : {M : Type 1} → stated.statement M
 unfolding code.routine
 after-spec 𝓤 𝓛 𝓜 𝓡 =
-    walk-enters 𝓛 𝓜 𝓡 code.env after.ended whole (after.clauses 𝓛 𝓜.mem 𝓡.run)
+    walk_enters 𝓛 𝓜 𝓡 code.env after.ended whole (after.clauses 𝓛 𝓜.mem 𝓡.run)
     #tlv·Reader·after code.function (code.unfolded 𝓤 𝓛.H 𝓜 𝓡) (λ fm κs qs bounds x g are.
     walk 𝓛 𝓜.mem 𝓡.run _ _ fm
     (cited 𝓤 𝓛.H (PlaceAfter 𝓛 𝓜.mem 𝓡.run) 𝓜 𝓡 code.env #tlv·place-after
     place-after-def.routine code.calls-tlv::place-after (place-after-thm.met 𝓤 𝓛 𝓜 𝓡)) κs.0 qs.0 x.0
-    (reader-typed 𝓛 κs.0 x.0 _ are.0 (named 0)) are)
+    (reader_typed 𝓛 κs.0 x.0 _ are.0 (named 0)) are)

@@ -23,8 +23,8 @@ use denote.Triple.Table.{cited}
 use denote.Triple.Walked.{says, ends_at}
 use Rattle.tlv.specs.Items.{item_at}
 use Rattle.tlv.specs.declared.Reader.{Reader}
-use Rattle.tlv.proofs.Walking.{fields, reader-val, apart-vals, Apart, Whole, Storable, whole, token, Asks}
-use Rattle.tlv.proofs.Walking.{asked-whole, reader-typed, item-typed, freed, Met, calls-for, Run, walk-enters}
+use Rattle.tlv.proofs.Walking.{fields, reader_val, apart_vals, Apart, Whole, Storable, whole, token, Asks}
+use Rattle.tlv.proofs.Walking.{asked_whole, reader_typed, item_typed, freed, Met, calls_for, Run, walk_enters}
 use Rattle.tlv.specs.contracts.decode as decode
 use Rattle.tlv.proofs.decode.Symbol as decode-def
 use Rattle.tlv.proofs.decode.Symbol.{name as #tlv·decode}
@@ -58,26 +58,26 @@ module _ {M : Type 1} {𝓤 : Ura M} (𝓛 : Logic 𝓤) (mem : Memory → SProp
         (from ! (stop !)) (init ! 0 refl (tt, typed.1.1.0)) $
         -- `decode` is called with _2 and _3
         move ! (8 ∷ 9 ∷ []) $ use2 𝓛 (raw (Asks 𝓛 κ q (Apart κ (fields d))) ⊛ ‵ (Whole κ d))
-        (asked-whole 𝓛 κ q d) $ split ! $
-        calls-for 𝓛 decode.ended (decode.clauses 𝓛 mem run)
-        (((κ, tt), (q, tt), tt, fields d, apart-vals (fields d)), tt) ! fm known-decode
+        (asked_whole 𝓛 κ q d) $ split ! $
+        calls_for 𝓛 decode.ended (decode.clauses 𝓛 mem run)
+        (((κ, tt), (q, tt), tt, fields d, apart_vals (fields d)), tt) ! fm known-decode
         (λ r. r ≡ item_at d.bytes.now d.at) (λ r ws. refl)
         (and_then ! (load ! (from ! (stop !)) (look ! 4 refl))
         (and_then ! (load ! (from ! (stop !)) (look ! 2 refl)) (no_more !))) (λ v r e is.
         -- [what the item owns; the token; what the reader owns; _3; …; _2; …; _1; …; room for _0; …]
         -- the item lands in _0 and is read, and the locals are freed, _0 first
-        land ! (from ! (stop !)) (init ! 9 refl (item-typed 𝓛 κ r v is)) $ returns ! (look ! 9 refl) $
+        land ! (from ! (stop !)) (init ! 9 refl (item_typed 𝓛 κ r v is)) $ returns ! (look ! 9 refl) $
         move ! (9 ∷ 10 ∷ 7 ∷ 8 ∷ 5 ∷ 6 ∷ 3 ∷ 4 ∷ []) $ freed ! $ freed ! $ freed ! $ freed ! $ free0 ! $
         -- [what the item owns; the token; what the reader owns]
         suffices ! _ (ends_at 𝓛 item.ended whole.stay (item.clauses 𝓛 mem run)
-        (((κ, tt), (q, tt), tt, (d, tt), (reader-val d ∷ [], tt)), tt) v r (tt, tt) (tt, tt)) $ says ! e $
+        (((κ, tt), (q, tt), tt, (d, tt), (reader_val d ∷ [], tt)), tt) v r (tt, tt) (tt, tt)) $ says ! e $
         move ! (1 ∷ 2 ∷ 0 ∷ []) $ done !)))))
 
 pub item-spec : {M : Type 1} → stated.statement M
 unfolding code.routine
 item-spec 𝓤 𝓛 𝓜 𝓡 =
-    walk-enters 𝓛 𝓜 𝓡 code.env item.ended whole (item.clauses 𝓛 𝓜.mem 𝓡.run)
+    walk_enters 𝓛 𝓜 𝓡 code.env item.ended whole (item.clauses 𝓛 𝓜.mem 𝓡.run)
     #tlv·Reader·item code.function (code.unfolded 𝓤 𝓛.H 𝓜 𝓡) (λ fm κs qs bounds x g are.
     walk 𝓛 𝓜.mem 𝓡.run _ _ fm (cited 𝓤 𝓛.H (Decode 𝓛 𝓜.mem 𝓡.run) 𝓜 𝓡 code.env
     #tlv·decode decode-def.routine code.calls-tlv::decode (decode-thm.met 𝓤 𝓛 𝓜 𝓡)) κs.0 qs.0 x.0
-    (reader-typed 𝓛 κs.0 x.0 _ are.0 (named 0)) are)
+    (reader_typed 𝓛 κs.0 x.0 _ are.0 (named 0)) are)

@@ -9,9 +9,9 @@ use native.Mathlib.Omega.{arith}
 use Rattle.area.specs.Limits.{width, unreached}
 use Rattle.area.specs.Tests.{lowest}
 use Rattle.sets.specs.Sets.{bit, added}
-use Rattle.sets.specs.SetLaws.{member-some, added-self, added-cases}
+use Rattle.sets.specs.SetLaws.{member_some, added_self, added_cases}
 use Rattle.sets.specs.Four.{beyond}
-use Rattle.sets.specs.VisitLaws.{Visited, visit-start, visit-next, visit-end, visit-member, visit-less}
+use Rattle.sets.specs.VisitLaws.{Visited, visit_start, visit_next, visit_end, visit_member, visit_less}
 use Rattle.trees.specs.Turns.{entry, Nearest}
 use Rattle.trees.proofs.nearest.nearest.Statement.{statement}
 use Rattle.trees.proofs.nearest.nearest.Tie as tie
@@ -26,33 +26,33 @@ module _
     (at : q ≡ lowest width (bit left)) (e : r ≡ beyond width 1 left) where
   is_member : (q < width) × (bit s q ≡ true)
   is_member =
-      let m = visit-member width left q seen.visited.fits more at in
+      let m = visit_member width left q seen.visited.fits more at in
       (m.0, seen.visited.part q m.1)
 
   has : (t : ℕ) {least' : ℕ} → least' ≡ added width t q → least' ≢ 0
-  has t {least'} e = member-some least' q (ap (λ (x : ℕ). bit x q) e ∙ added-self width t q is_member.0)
+  has t {least'} e = member_some least' q (ap (λ (x : ℕ). bit x q) e ∙ added_self width t q is_member.0)
 
   takes : {least' : ℕ} → entry d q < low → least' ≡ added width 0 q → Seen d s least' (entry d q) r
   takes l is = record {
-    visited = visit-next (λ k. entry d q ≤ entry d k) q r seen.visited more at e (λ k b. omega arith) (omega arith);
+    visited = visit_next (λ k. entry d q ≤ entry d k) q r seen.visited more at e (λ k b. omega arith) (omega arith);
     part = λ k b. ⊎_elim
-        (λ old. absurd (member-some 0 k old refl))
+        (λ old. absurd (member_some 0 k old refl))
         (λ (new : k ≡ q). rw new (is_member.1, refl))
-        (added-cases width 0 q k (rw is at b));
+        (added_cases width 0 q k (rw is at b));
     some = inr (has 0 is);
   }
 
   joins : {least' : ℕ} → entry d q ≡ low → least' ≡ added width least q → Seen d s least' low r
   joins l is = record {
-    visited = visit-next (λ k. low ≤ entry d k) q r seen.visited more at e (λ k b. b) (omega arith);
+    visited = visit_next (λ k. low ≤ entry d k) q r seen.visited more at e (λ k b. b) (omega arith);
     part = λ k b. ⊎_elim (seen.part k) (λ (new : k ≡ q). rw new (is_member.1, l))
-        (added-cases width least q k (rw is at b));
+        (added_cases width least q k (rw is at b));
     some = inr (has least is);
   }
 
   skips : low < entry d q → entry d q ≤ unreached → Seen d s least low r
   skips l top = record {
-    visited = visit-next (λ k. low ≤ entry d k) q r seen.visited more at e (λ k b. b) (omega arith);
+    visited = visit_next (λ k. low ≤ entry d k) q r seen.visited more at e (λ k b. b) (omega arith);
     part = seen.part;
     some = ⊎_elim (λ w. absurd (let x : ⊥ = omega (arith, w.1) in x)) inr seen.some;
   }
@@ -76,7 +76,7 @@ module _
 found : (d : List ℕ) (s least low left : ℕ) → Seen d s least low left → left ≡ 0 → Nearest d s least
 found d s least low left seen z = record {
   part = λ k b. (seen.part k b).0;
-  first = λ k j b m. omega (arith, (seen.part k b).1, visit-end seen.visited z j m);
+  first = λ k j b m. omega (arith, (seen.part k b).1, visit_end seen.visited z j m);
   some = λ f. ⊎_elim (λ w. absurd (f (sym w.0 ∙ z))) (λ g. g) seen.some;
 }
 
@@ -88,8 +88,8 @@ decreases-loop set dist least₀ low₀ left₀ least low left = left
 
 loop-holds : tie.Need-loop-init invariant-loop decreases-loop
 loop-holds c = record {
-  visited = visit-start width _ _ c.before.ranges.set.fits;
-  part = λ k b. absurd (member-some 0 k b refl);
+  visited = visit_start width _ _ c.before.ranges.set.fits;
+  part = λ k b. absurd (member_some 0 k b refl);
   some = inl (refl, refl);
 }
 
@@ -100,7 +100,7 @@ lowest-requires c κs = omega arith
 within : (c : tie.After-lowest invariant-loop decreases-loop) → c.lowest.result < width
 within c =
     let at = c.before.before.loop in
-    (visit-member width at.left _ at.invariant.visited.fits (λ z. let x : ⊥ = omega arith in x) c.lowest.ensures).0
+    (visit_member width at.left _ at.invariant.visited.fits (λ z. let x : ⊥ = omega arith in x) c.lowest.ensures).0
 
 mul-d : tie.Need-overflow-mul-d invariant-loop decreases-loop
 mul-d c = omega (arith, within c)
@@ -117,7 +117,7 @@ rest-requires c κs = omega arith
 loop-less : tie.Need-loop-smaller invariant-loop decreases-loop
 loop-less c =
     let at = c.before.before.before.before.before.before.loop in
-    visit-less width at.left _ at.invariant.visited.fits (λ z. let x : ⊥ = omega arith in x) c.rest.ensures
+    visit_less width at.left _ at.invariant.visited.fits (λ z. let x : ⊥ = omega arith in x) c.rest.ensures
 
 loop-again : tie.Need-loop-preserved invariant-loop decreases-loop
 loop-again c =

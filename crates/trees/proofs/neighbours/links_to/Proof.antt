@@ -7,21 +7,21 @@ use native.Mathlib.Omega.{arith}
 use borrow.Author.Tests.{lt-ltb, le-ltb}
 use lib.Dec.{ltb}
 use Rattle.area.specs.Limits.{width, unused}
-use Rattle.sets.specs.Sets.{setOf, added}
-use Rattle.sets.specs.SetLaws.{setOf-start, setOf-skip, setOf-more}
+use Rattle.sets.specs.Sets.{set_of, added}
+use Rattle.sets.specs.SetLaws.{set_of_start, set_of_skip, set_of_more}
 use Rattle.topology.specs.Topology.{topology}
-use Rattle.topology.specs.TopologyLaws.{usable-is}
+use Rattle.topology.specs.TopologyLaws.{usable_is}
 use Rattle.trees.proofs.neighbours.links_to.Statement.{statement}
 use Rattle.trees.proofs.neighbours.links_to.Tie as tie
 
 abbrev invariant-loop : tie.invariant-loop
-invariant-loop n metric q found₀ i₀ found i = (i ≤ n) × (found ≡ setOf i (λ k. ltb (topology n metric k q) unused))
+invariant-loop n metric q found₀ i₀ found i = (i ≤ n) × (found ≡ set_of i (λ k. ltb (topology n metric k q) unused))
 
 abbrev decreases-loop : tie.decreases-loop
 decreases-loop n metric q found₀ i₀ found i = n - i
 
 loop-holds : tie.Need-loop-init invariant-loop decreases-loop
-loop-holds c = (omega arith, setOf-start _)
+loop-holds c = (omega arith, set_of_start _)
 
 usable-requires : tie.Need-usable-requires invariant-loop decreases-loop
 usable-requires c κs = omega arith
@@ -42,16 +42,16 @@ loop-again c =
     let i = at-loop.loop.i in
     let g : ℕ → ℕ = λ k. topology a.n a.metric.now k a.q in
     let p : ℕ → Bool = λ k. ltb (g k) unused in
-    let is = c.before.usable.ensures ∙ usable-is a.n a.metric.now i a.q (omega arith) (omega arith) in (
+    let is = c.before.usable.ensures ∙ usable_is a.n a.metric.now i a.q (omega arith) (omega arith) in (
       omega arith,
       ⊎_elim
           (λ w. w.2
           ∙ w.1.ensures
           ∙ ap (λ (x : ℕ). added width x i) at-loop.loop.invariant.1
-          ∙ setOf-more width i p (omega arith) (lt-ltb (g i) unused (omega (arith, is, w.0.taken))))
+          ∙ set_of_more width i p (omega arith) (lt-ltb (g i) unused (omega (arith, is, w.0.taken))))
           (λ w. w.1
           ∙ at-loop.loop.invariant.1
-          ∙ setOf-skip i p (le-ltb (g i) unused (omega (arith, is, w.0.left))))
+          ∙ set_of_skip i p (le-ltb (g i) unused (omega (arith, is, w.0.left))))
           c.if1.branch,
     )
 

@@ -3,13 +3,13 @@ use Prim.Native.Nat.{◌-◌, ◌≤◌}
 use mathlib.Core.Path.{◌≡◌}
 use native.Mathlib.Omega.{arith}
 use Rattle.area.specs.Limits.{width}
-use Rattle.area.specs.PerRouterLaws.{Filled, filled_none, filled_more, filled-all}
-use Rattle.trees.specs.Turns.{linksTo}
+use Rattle.area.specs.PerRouterLaws.{Filled, filled_none, filled_more, filled_all}
+use Rattle.trees.specs.Turns.{links_to}
 use Rattle.trees.proofs.neighbours.neighbours.Statement.{statement}
 use Rattle.trees.proofs.neighbours.neighbours.Tie as tie
 
 abbrev invariant-loop : tie.invariant-loop
-invariant-loop n metric out₀ q₀ out q = (q ≤ n) × Filled width q (linksTo n metric) out
+invariant-loop n metric out₀ q₀ out q = (q ≤ n) × Filled width q (links_to n metric) out
 
 abbrev decreases-loop : tie.decreases-loop
 decreases-loop n metric out₀ q₀ out q = n - q
@@ -43,7 +43,7 @@ returns : tie.Need-returns invariant-loop decreases-loop
 returns c =
     let at-loop = c.before.loop in
     let e : at-loop.q ≡ c.before.before.before.args.n = omega arith in
-    filled-all width _ _ at-loop.out (rw e at at-loop.invariant.1)
+    filled_all width _ _ at-loop.out (rw e at at-loop.invariant.1)
 
 pub neighbours-spec : {M : Type 1} → statement M
 neighbours-spec =

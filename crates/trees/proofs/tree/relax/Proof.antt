@@ -11,7 +11,7 @@ use Rattle.area.specs.Tables.{cell}
 use Rattle.area.specs.Tests.{lowest}
 use Rattle.sets.specs.Sets.{bit, added}
 use Rattle.sets.specs.Four.{beyond}
-use Rattle.sets.specs.VisitLaws.{Visited, visit-start, visit-more, visit-end, visit-member, visit-left, visit-less}
+use Rattle.sets.specs.VisitLaws.{Visited, visit_start, visit_more, visit_end, visit_member, visit_left, visit_less}
 use Rattle.trees.specs.Turns.{entry, Offered, ColumnOffered}
 use Rattle.trees.proofs.tree.relax.Statement.{statement}
 use Rattle.trees.proofs.tree.relax.Tie as tie
@@ -23,7 +23,7 @@ HasOffer m q d₀ h₀ d h i =
 
 record Relaxing (m : List ℕ) (q links : ℕ) (d₀ h₀ d h : List ℕ) (left : ℕ) : Type 0 where
   len : length d ≡ width
-  len-h : length h ≡ width
+  len_h : length h ≡ width
   visited : Visited width links left (HasOffer m q d₀ h₀ d h)
   others : (i : ℕ) → (bit links i ≡ false) ⊎ (bit left i ≡ true)
       → (entry d i ≡ entry d₀ i) × (entry h i ≡ entry h₀ i)
@@ -31,8 +31,8 @@ record Relaxing (m : List ℕ) (q links : ℕ) (d₀ h₀ d h : List ℕ) (left 
 module _
     {m : List ℕ} {q links : ℕ} {d₀ h₀ d h : List ℕ} {left : ℕ} (s : Relaxing m q links d₀ h₀ d h left)
     (more : left ≢ 0) {i r : ℕ} (at : i ≡ lowest width (bit left)) (e : r ≡ beyond width 1 left) where
-  is-left : (i < width) × (bit left i ≡ true)
-  is-left = visit-member width left i s.visited.fits more at
+  is_left : (i < width) × (bit left i ≡ true)
+  is_left = visit_member width left i s.visited.fits more at
 
   turn :
       {d' h' : List ℕ}
@@ -42,13 +42,13 @@ module _
       → Relaxing m q links d₀ h₀ d' h' r
   turn {d'} {h'} ld lh o = record {
     len = ld;
-    len-h = lh;
-    visited = visit-more (HasOffer m q d₀ h₀ d' h') i r s.visited more at e keeps new;
+    len_h = lh;
+    visited = visit_more (HasOffer m q d₀ h₀ d' h') i r s.visited more at e keeps new;
     others = λ k w. let f = other k w in let a = o.others k f.0 in (a.0 ∙ f.1, a.1 ∙ f.2);
   }
     where
       new : HasOffer m q d₀ h₀ d' h' i
-      new = let was = s.others i (inr is-left.1) in rw (was.0, was.1) at o.offered
+      new = let was = s.others i (inr is_left.1) in rw (was.0, was.1) at o.offered
 
       keeps : (k : ℕ) → k ≢ i → HasOffer m q d₀ h₀ d h k → HasOffer m q d₀ h₀ d' h' k
       keeps k f x = let a = o.others k f in rw (a.0, a.1) x
@@ -58,9 +58,9 @@ module _
           → (k ≢ i) × (entry d k ≡ entry d₀ k) × (entry h k ≡ entry h₀ k)
       other k (inl b) =
           let e = s.others k (inl b) in
-          ((λ p. false≢true (sym b ∙ ap (bit links) p ∙ s.visited.part i is-left.1)), e.0, e.1)
+          ((λ p. false≢true (sym b ∙ ap (bit links) p ∙ s.visited.part i is_left.1)), e.0, e.1)
       other k (inr b) =
-          let t = visit-left width left i s.visited.fits more at r e k b in
+          let t = visit_left width left i s.visited.fits more at r e k b in
           let e = s.others k (inr t.0) in
           (t.1, e.0, e.1)
 
@@ -85,8 +85,8 @@ loop-holds c =
     let a = c.before.before.before.before.before in
     record {
       len = omega arith;
-      len-h = omega arith;
-      visited = visit-start width _ _ a.ranges.ahead.fits;
+      len_h = omega arith;
+      visited = visit_start width _ _ a.ranges.ahead.fits;
       others = λ i w. (refl, refl);
     }
 
@@ -98,7 +98,7 @@ visited : (c : tie.After-lowest invariant-loop decreases-loop)
     → (c.lowest.result < width) × (bit c.before.before.loop.left c.lowest.result ≡ true)
 visited c =
     let at = c.before.before.loop in
-    visit-member width at.left _ at.invariant.visited.fits (λ z. let x : ⊥ = omega arith in x) c.lowest.ensures
+    visit_member width at.left _ at.invariant.visited.fits (λ z. let x : ⊥ = omega arith in x) c.lowest.ensures
 
 mul-sum : tie.Need-overflow-mul-sum invariant-loop decreases-loop
 mul-sum c = omega (arith, (visited c).0)
@@ -130,7 +130,7 @@ rest-requires c κs = omega arith
 loop-less : tie.Need-loop-smaller invariant-loop decreases-loop
 loop-less c =
     let at = c.before.before.before.before.before.before.before.before.before.before.before.loop in
-    visit-less width at.left _ at.invariant.visited.fits (λ z. let x : ⊥ = omega arith in x) c.rest.ensures
+    visit_less width at.left _ at.invariant.visited.fits (λ z. let x : ⊥ = omega arith in x) c.rest.ensures
 
 loop-again : tie.Need-loop-preserved invariant-loop decreases-loop
 loop-again c =
@@ -141,7 +141,7 @@ loop-again c =
     let offer = c.before.before.before.before.before.offer in
     let kept = offer.auto.1.1.1 in
     turn at.loop.invariant more low.lowest.ensures c.rest.ensures
-    (kept.0 ∙ at.loop.invariant.len) (kept.1.0 ∙ at.loop.invariant.len-h)
+    (kept.0 ∙ at.loop.invariant.len) (kept.1.0 ∙ at.loop.invariant.len_h)
     (rw added.add.ensures at offer.ensures)
 
 same_length : tie.Need-same-length invariant-loop decreases-loop
@@ -154,7 +154,7 @@ returns : tie.Need-returns invariant-loop decreases-loop
 returns c =
     let s = c.before.loop.invariant in
     record {
-      linked = visit-end s.visited (omega arith);
+      linked = visit_end s.visited (omega arith);
       others = λ i b. s.others i (inl b);
     }
 

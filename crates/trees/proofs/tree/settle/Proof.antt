@@ -6,8 +6,8 @@ use mathlib.Core.Logic.{◌≢◌}
 use native.Mathlib.Omega.{arith}
 use Rattle.area.specs.Limits.{width}
 use Rattle.sets.specs.Sets.{bit}
-use Rattle.sets.specs.VisitLaws.{visit-member, visit-less}
-use Rattle.trees.proofs.Turning.{Turning, turning-none, room, turning-more, turned, all_found}
+use Rattle.sets.specs.VisitLaws.{visit_member, visit_less}
+use Rattle.trees.proofs.Turning.{Turning, turning_none, room, turning_more, turned, all_found}
 use Rattle.trees.proofs.tree.settle.Statement.{statement}
 use Rattle.trees.proofs.tree.settle.Tie as tie
 
@@ -21,7 +21,7 @@ decreases-loop metric links next settled dist₀ hops₀ offered₀ left₀ dist
 loop-holds : tie.Need-loop-init invariant-loop decreases-loop
 loop-holds c =
     let a = c.before.before.before.before in
-    turning-none _ _ _ _ _ _ (omega arith) (omega arith) a.ranges.next.fits
+    turning_none _ _ _ _ _ _ (omega arith) (omega arith) a.ranges.next.fits
 
 lowest-requires : tie.Need-lowest-requires invariant-loop decreases-loop
 lowest-requires c κs = omega arith
@@ -31,7 +31,7 @@ visited : (c : tie.After-lowest invariant-loop decreases-loop)
     → (c.lowest.result < width) × (bit c.before.before.loop.left c.lowest.result ≡ true)
 visited c =
     let at = c.before.before.loop in
-    visit-member width at.left _ at.invariant.fits (λ z. let x : ⊥ = omega arith in x) c.lowest.ensures
+    visit_member width at.left _ at.invariant.fits (λ z. let x : ⊥ = omega arith in x) c.lowest.ensures
 
 mul-without : tie.Need-overflow-mul-without invariant-loop decreases-loop
 mul-without c = omega (arith, (visited c).0)
@@ -51,7 +51,7 @@ relax-requires c κs =
     let more : at.loop.left ≢ 0 = λ z. let x : ⊥ = omega arith in x in (
       (pre.0.0, (visited low).0),
       (
-        (at.loop.invariant.len, at.loop.invariant.len-h),
+        (at.loop.invariant.len, at.loop.invariant.len_h),
         room pre.1.1.0 at.loop.invariant more low.lowest.ensures refl without.ensures
             pre.1.1.1,
       ),
@@ -67,7 +67,7 @@ loop-less : tie.Need-loop-smaller invariant-loop decreases-loop
 loop-less c =
     let low = c.before.before.before.before.before.before.before.before.before.before.before in
     let at = low.before.before in
-    visit-less width at.loop.left _ at.loop.invariant.fits (λ z. let x : ⊥ = omega arith in x) c.rest.ensures
+    visit_less width at.loop.left _ at.loop.invariant.fits (λ z. let x : ⊥ = omega arith in x) c.rest.ensures
 
 loop-again : tie.Need-loop-preserved invariant-loop decreases-loop
 loop-again c =
@@ -77,16 +77,16 @@ loop-again c =
     let pre = at.before.before.before.before.before.requires in
     let more : at.loop.left ≢ 0 = λ z. let x : ⊥ = omega arith in x in
     let kept = relaxed.relax.auto.1.1.1 in
-    turning-more pre.1.1.0 at.loop.invariant more low.lowest.ensures c.rest.ensures
+    turning_more pre.1.1.0 at.loop.invariant more low.lowest.ensures c.rest.ensures
     relaxed.before.before.before.without.ensures
-    (kept.0 ∙ at.loop.invariant.len) (kept.1.0 ∙ at.loop.invariant.len-h)
+    (kept.0 ∙ at.loop.invariant.len) (kept.1.0 ∙ at.loop.invariant.len_h)
     c.before.join.ensures relaxed.relax.ensures
 
 same_length : tie.Need-same-length invariant-loop decreases-loop
 same_length c = omega (arith, c.before.loop.invariant.len)
 
 same-length-2 : tie.Need-same-length-2 invariant-loop decreases-loop
-same-length-2 c = omega (arith, c.before.loop.invariant.len-h)
+same-length-2 c = omega (arith, c.before.loop.invariant.len_h)
 
 returns : tie.Need-returns invariant-loop decreases-loop
 returns c =

@@ -8,10 +8,10 @@ use mathlib.Core.Path.{ap, ◌∙◌}
 use native.Mathlib.Omega.{arith}
 use lib.ListN.{length}
 use Rattle.area.specs.Limits.{width}
-use Rattle.area.specs.PerRouterLaws.{per-length}
+use Rattle.area.specs.PerRouterLaws.{per_length}
 use Rattle.sets.specs.Sets.{union}
 use Rattle.sets.specs.Counts.{size}
-use Rattle.trees.specs.Turns.{linksTo}
+use Rattle.trees.specs.Turns.{links_to}
 use Rattle.trees.proofs.Growing as G
 use Rattle.trees.proofs.Growing.{Growing}
 use Rattle.trees.proofs.tree.tree.Statement.{statement}
@@ -61,9 +61,9 @@ settle-requires c κs =
     let is = a.requires.1.0 in
     let f = at.loop.invariant in
     let near = found.nearest.ensures in (
-      (a.requires.0.1, ap length is ∙ per-length width n (linksTo n m)),
+      (a.requires.0.1, ap length is ∙ per_length width n (links_to n m)),
       (
-        (f.len, f.len-h),
+        (f.len, f.len_h),
         (
           G.inside n m links most is within f near c.before.before.join.ensures,
           G.room n m links most is within f near c.before.before.join.result,
@@ -101,14 +101,14 @@ loop-again c =
     f found.nearest.ensures _ _ _ (rw joined at settle.ensures.0) (rw joined at settle.ensures.1)
     joined
     (c.join2.ensures ∙ ap (λ (x : ℕ). union width x settle.result) c.before.without.ensures)
-    (kept.0 ∙ f.len) (kept.1.0 ∙ f.len-h)
+    (kept.0 ∙ f.len) (kept.1.0 ∙ f.len_h)
     (λ j. (c.before.before.slice-known4.given j).fits)
 
 same_length : tie.Need-same-length invariant-loop decreases-loop
 same_length c = omega (arith, c.before.loop.invariant.len)
 
 same-length-2 : tie.Need-same-length-2 invariant-loop decreases-loop
-same-length-2 c = omega (arith, c.before.loop.invariant.len-h)
+same-length-2 c = omega (arith, c.before.loop.invariant.len_h)
 
 returns : tie.Need-returns invariant-loop decreases-loop
 returns c =
@@ -116,7 +116,7 @@ returns c =
     let a = c.before.before.before.before.before.before.before in
     let most = a.requires.0.0 in
     let within = a.requires.0.2 in
-    (G.distance-column most within at.invariant (omega arith), G.hop-column most within at.invariant (omega arith))
+    (G.distance_column most within at.invariant (omega arith), G.hop_column most within at.invariant (omega arith))
 
 pub tree-spec : {M : Type 1} → statement M
 tree-spec =

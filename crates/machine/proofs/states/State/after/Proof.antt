@@ -6,14 +6,14 @@ use Rattle.machine.specs.declared.states.State.TheVariants.{Done}
 use Rattle.machine.specs.declared.states.Event.{Event}
 use Rattle.machine.specs.declared.states.Event.TheVariants.{Learn, Release, Write, Finish}
 use Rattle.machine.specs.declared.states.NextState.TheVariants.{Nowhere}
-use Rattle.machine.specs.States.{nextState}
+use Rattle.machine.specs.States.{next_state}
 use Rattle.machine.proofs.states.State.after.Statement.{statement}
 use Rattle.machine.proofs.states.State.after.Tie as tie
 
-from-done : (s : State) (e : Event) → s ≡ Done → Nowhere ≡ nextState s e
-from-done s e q = none e ∙ ap₂ nextState (sym q) refl
+from-done : (s : State) (e : Event) → s ≡ Done → Nowhere ≡ next_state s e
+from-done s e q = none e ∙ ap₂ next_state (sym q) refl
   where
-    none : (e : Event) → Nowhere ≡ nextState Done e
+    none : (e : Event) → Nowhere ≡ next_state Done e
     none Learn = refl
     none Release = refl
     none Write = refl
@@ -68,7 +68,7 @@ enum-told-16 : tie.Need-enum-told-16
 enum-told-16 c = search rules
 
 returns : tie.Need-returns
-returns c = ap₂ nextState (sym c.before.before.enum_told.given.1) (sym c.enum-told2.given.1)
+returns c = ap₂ next_state (sym c.before.before.enum_told.given.1) (sym c.enum-told2.given.1)
 
 returns-2 : tie.Need-returns-2
 returns-2 c = search rules
@@ -83,7 +83,7 @@ returns-5 : tie.Need-returns-5
 returns-5 c = search rules
 
 returns-6 : tie.Need-returns-6
-returns-6 c = ap₂ nextState (sym c.before.before.enum-told6.given.1) (sym c.enum-told8.given.1)
+returns-6 c = ap₂ next_state (sym c.before.before.enum-told6.given.1) (sym c.enum-told8.given.1)
 
 returns-7 : tie.Need-returns-7
 returns-7 c = search rules
@@ -98,10 +98,10 @@ returns-10 : tie.Need-returns-10
 returns-10 c = search rules
 
 returns-11 : tie.Need-returns-11
-returns-11 c = ap₂ nextState (sym c.before.before.enum-told11.given.1) (sym c.enum-told14.given.1)
+returns-11 c = ap₂ next_state (sym c.before.before.enum-told11.given.1) (sym c.enum-told14.given.1)
 
 returns-12 : tie.Need-returns-12
-returns-12 c = ap₂ nextState (sym c.before.before.enum-told11.given.1) (sym c.enum-told15.given.1)
+returns-12 c = ap₂ next_state (sym c.before.before.enum-told11.given.1) (sym c.enum-told15.given.1)
 
 returns-13 : tie.Need-returns-13
 returns-13 c = search from-done
