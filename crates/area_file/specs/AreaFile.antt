@@ -7,7 +7,7 @@ use Rattle.area.specs.Tests.{pick}
 use Rattle.area.specs.Sizes.{is_router_count, is_table}
 use Rattle.entries.specs.declared.Entry.{Entry}
 use Rattle.text.specs.Text.{word, field, line}
-use Rattle.hex.specs.Digits.{hexed}
+use Rattle.hexadecimal.specs.Digits.{hexed}
 
 -- ---- the links
 abbrev pub link : (from to metric : ℕ) → Entry

@@ -3,7 +3,7 @@
 --     text_lines, text_none    its lines; and nothing where there is no area
 --     text_room        `room` bytes have room for it
 --     text_read        decoded as a text in hexadecimal it is the bench file of the area
--- Each line says the bytes that it was printed for, and its comment says nothing (`Says` of the crate hex); so the
+-- Each line says the bytes that it was printed for, and its comment says nothing (`Says` of the crate hexadecimal); so the
 -- lines say these bytes one after another. A router fits a byte, and the metric of a used link fits three.
 use Rattle.std.specs.Prelude.{ℕ, zero, suc, ◌+◌, ◌*◌, ◌≤◌, ◌<◌, ◌≡◌, true, false, get_or}
 use Rattle.std.proofs.Math.Path.{refl}
@@ -17,10 +17,10 @@ use Rattle.area.specs.SizeLaws.{router_count_most, table_true}
 use Rattle.entries.specs.declared.Entry.{Entry}
 use Rattle.text.specs.Text.{word, field, line}
 use Rattle.text.specs.TextLaws.{field_after, line_is, field_below, line_below}
-use Rattle.hex.specs.Hex.{most, unhexed}
-use Rattle.hex.specs.HexLaws.{length_hexed}
-use Rattle.hex.specs.PairLaws.{Says, says_none, says_then, bytes_say, says_whole}
-use Rattle.hex.specs.CommentLaws.{is_one_line, joined_line, field_line, comment, says_words, says_named}
+use Rattle.hexadecimal.specs.Hex.{most, unhexed}
+use Rattle.hexadecimal.specs.HexLaws.{length_hexed}
+use Rattle.hexadecimal.specs.PairLaws.{Says, says_none, says_then, bytes_say, says_whole}
+use Rattle.hexadecimal.specs.CommentLaws.{is_one_line, joined_line, field_line, comment, says_words, says_named}
 use Rattle.area_file.specs.AreaFile.{links_of, count_bytes, link_bytes, bytes_of, times, file_of}
 use Rattle.area_file.specs.AreaFile.{routers_line, count_line, link_line, link_lines, last_lines, all_lines}
 use Rattle.area_file.specs.AreaFile.{is_sized, area_text}

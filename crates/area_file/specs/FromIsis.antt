@@ -7,7 +7,7 @@ use Rattle.area.specs.Tests.{pick}
 use Rattle.isis.specs.Lists.{list_count}
 use Rattle.isis.specs.Isis.{isis_refusal, isis_metrics}
 use Rattle.text.specs.Text.{word, refused_line}
-use Rattle.hex.specs.Hex.{most}
+use Rattle.hexadecimal.specs.Hex.{most}
 use Rattle.area_file.specs.AreaFile.{area_text}
 
 -- ---- the parts of the stream

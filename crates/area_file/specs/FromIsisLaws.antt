@@ -28,7 +28,7 @@ use Rattle.isis.specs.Isis.{area_refusal, isis_refusal, isis_metrics, listed}
 use Rattle.isis.specs.IsisLaws.{count_in, isis_area, metrics_accepted, metrics_refused}
 use Rattle.isis.specs.AreaLaws.{listed_size, listed_some, listed_self, listed_beyond}
 use Rattle.bench_file.specs.Read.{read_refusal, metrics_of}
-use Rattle.hex.specs.Hex.{unhexed}
+use Rattle.hexadecimal.specs.Hex.{unhexed}
 use Rattle.area_file.specs.AreaFile.{area_text}
 use Rattle.area_file.specs.AreaFileLaws.{room, text_room}
 use Rattle.area_file.specs.ReadAgainLaws.{Sound, text_again}

@@ -22,7 +22,7 @@ use Rattle.area.specs.SizeLaws.{table_is, table_size_lem}
 use Rattle.entries.specs.declared.Entry.{Entry}
 use Rattle.text.specs.Text.{Appended, word, field, line}
 use Rattle.text.specs.TextLaws.{appended_none, appended_then}
-use Rattle.hex.specs.Digits.{hexed}
+use Rattle.hexadecimal.specs.Digits.{hexed}
 use Rattle.area_file.specs.AreaFile.{times, words_line, link, is_listed, link_of, listed, links_of, link_bytes}
 use Rattle.area_file.specs.AreaFile.{routers_line, count_line, link_line, link_lines, last_lines, all_lines}
 use Rattle.area_file.specs.AreaFile.{is_sized, area_text}

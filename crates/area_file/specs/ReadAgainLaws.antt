@@ -28,7 +28,7 @@ use Rattle.bench_file.specs.Sections.{routers, link_count, links, change_count_a
 use Rattle.bench_file.specs.FaultLaws.{most_links_is, live_passes, Link, Accepted, of_accepted}
 use Rattle.bench_file.specs.Read.{read_refusal, metrics_of}
 use Rattle.bench_file.specs.ReadLaws.{read_file, metrics_accepted, linked_is}
-use Rattle.hex.specs.Hex.{unhexed}
+use Rattle.hexadecimal.specs.Hex.{unhexed}
 use Rattle.area_file.specs.AreaFile.{link, links_of, count_bytes, link_bytes, bytes_of, times, file_of, area_text}
 use Rattle.area_file.specs.AreaFileLaws.{sized_true, text_read}
 use Rattle.area_file.specs.LinkLaws.{Listed, all_at, all_listed, links_most, key, listed_less, listed_found}

@@ -10,13 +10,13 @@ mod link_state;
 ghost use Rattle.std.specs.Prelude.{◌≡◌, ◌≤◌, ◌<◌, ◌*◌, length};
 ghost use Rattle.area.specs.Limits.{width, unused};
 ghost use Rattle.text.specs.Text.{Appended};
-ghost use Rattle.hex.specs.Digits.{hexed};
+ghost use Rattle.hexadecimal.specs.Digits.{hexed};
 ghost use Rattle.area_file.specs.AreaFile.{link, is_listed, link_of, links_of, link_bytes};
 ghost use Rattle.area_file.specs.AreaFile.{routers_line, count_line, link_line, link_lines, words_line, last_lines};
 ghost use Rattle.area_file.specs.AreaFile.{is_sized, area_text};
 
 use area::limits::{CELLS, UNUSED, WIDTH};
-use hex::hex_bytes;
+use hexadecimal::hex_bytes;
 pub use link_state::{MOST_BYTES, from_isis};
 use text::{append, field, line};
 

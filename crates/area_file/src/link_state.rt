@@ -6,7 +6,7 @@ ghost use Rattle.area_file.specs.FromIsis.{table_of, text_of, isis_text, isis_ta
 
 use crate::append_area;
 use area::bytes::two;
-use hex::MOST;
+use hexadecimal::MOST;
 use text::{append, refused_line};
 
 // Lists of more bytes are not read: as many as a text in hexadecimal may have.

@@ -48,11 +48,11 @@ fn open(name: &[u8]) -> i32 {
 
 // Prints the rehearsal of an open file that is in hexadecimal.
 fn rehearse(fd: i32) {
-    let mut hexadecimal = [0u8; hex::MOST + 1];
+    let mut hexadecimal = [0u8; hexadecimal::MOST + 1];
     let mut file = [0u8; LARGEST + 1];
     let mut out = [0u8; REHEARSAL_ROOM];
     let size = io::read_full(fd, &mut hexadecimal);
-    let unhexed = hex::unhex(&hexadecimal[..size], &mut file);
+    let unhexed = hexadecimal::unhex(&hexadecimal[..size], &mut file);
     let size = unhexed.length;
     let length = rehearsal(&file[..size], &mut out);
     print::text(&out[..length]);

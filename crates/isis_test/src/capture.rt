@@ -98,7 +98,7 @@ fn bytes(folder: &[u8], file: &[u8], out: &mut [u8]) -> usize
 {
     let mut text = [0u8; 8192];
     let size = contents(folder, file, &mut text);
-    let unhexed = hex::unhex(&text[..size], out);
+    let unhexed = hexadecimal::unhex(&text[..size], out);
     unhexed.length
 }
 

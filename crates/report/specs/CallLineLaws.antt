@@ -23,7 +23,7 @@ use Rattle.sheet.specs.Follow.{each, call_each, call_members, turn, hold_ticks, 
 use Rattle.sheet.specs.EachLaws.{each_none, each_more}
 use Rattle.text.specs.Text.{Appended, word, line}
 use Rattle.text.specs.TextLaws.{appended_none, appended_then}
-use Rattle.hex.specs.Digits.{hex_byte}
+use Rattle.hexadecimal.specs.Digits.{hex_byte}
 use Rattle.report.specs.Lines.{count_line, call_line, call_lines, step_section}
 
 -- ---- lines

@@ -21,7 +21,7 @@ use Rattle.machine.specs.Run.{Call}
 use Rattle.needs.specs.Needs.{unwritten_of}
 use Rattle.text.specs.Text.{word}
 use Rattle.text.specs.TextLaws.{field_most, line_most, refused_most}
-use Rattle.hex.specs.PrintingLaws.{byte_length}
+use Rattle.hexadecimal.specs.PrintingLaws.{byte_length}
 use Rattle.report.specs.declared.lines.Path.{Path}
 use Rattle.report.specs.Lines.{router_line, router_lines, answer_text, step_line, step_lines}
 use Rattle.report.specs.Lines.{path_text, route_line, is_printed, pair_text, path, row_lines, route_lines}

@@ -15,7 +15,7 @@ use Rattle.machine.specs.Run.{Call, run, replies, calls_of}
 use Rattle.needs.specs.Needs.{needs, unwritten_of, missing}
 use Rattle.sheet.specs.Sheet.{sheet_of}
 use Rattle.text.specs.Text.{word, field, line, refused_line}
-use Rattle.hex.specs.Digits.{hex_byte}
+use Rattle.hexadecimal.specs.Digits.{hex_byte}
 use Rattle.report.specs.declared.lines.Path.{Path}
 
 -- ---- the rehearsal

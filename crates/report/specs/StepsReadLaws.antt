@@ -29,8 +29,8 @@ use Rattle.sheet.specs.LengthLaws.{always_fit, fresh_fits}
 use Rattle.sheet.specs.EachLaws.{each_none, each_more}
 use Rattle.bench_file.specs.declared.Format.TheVariants.{New}
 use Rattle.bench_file.specs.Sections.{routers, changes, hold_time, step_time}
-use Rattle.hex.specs.Hex.{most, unhexed}
-use Rattle.hex.specs.PairLaws.{Says, says_none, says_then, byte_says, says_blank, says_newline, says_whole}
+use Rattle.hexadecimal.specs.Hex.{most, unhexed}
+use Rattle.hexadecimal.specs.PairLaws.{Says, says_none, says_then, byte_says, says_blank, says_newline, says_whole}
 use Rattle.prepare.specs.Bench.{metrics, refusal, planned}
 use Rattle.prepare.specs.BenchLaws.{file_of_lem, plan_passed}
 use Rattle.report.specs.Lines.{count_line, call_line, call_lines, step_section}

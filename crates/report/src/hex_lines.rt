@@ -2,10 +2,10 @@
 ghost use Rattle.std.specs.Prelude.{◌++◌};
 ghost use Rattle.machine.specs.Run.{call};
 ghost use Rattle.text.specs.Text.{Appended};
-ghost use Rattle.hex.specs.Digits.{hex_byte};
+ghost use Rattle.hexadecimal.specs.Digits.{hex_byte};
 ghost use Rattle.report.specs.Lines.{count_line, call_line};
 
-use hex::hex_byte;
+use hexadecimal::hex_byte;
 use text::append;
 
 // The count of steps.

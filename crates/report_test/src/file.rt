@@ -38,7 +38,7 @@ fn lend(words: &[u8], file: &[u8; LARGEST + 1], length: usize) {
 
 fn written(words: &[u8], hexadecimal: &[u8]) {
     let mut file = [0u8; 8192];
-    let unhexed = hex::unhex(hexadecimal, &mut file);
+    let unhexed = hexadecimal::unhex(hexadecimal, &mut file);
     let length = unhexed.length;
     texts::print(words, &file[..length]);
 }

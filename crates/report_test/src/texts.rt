@@ -10,7 +10,7 @@ use report::{ROUTES_ROOM, Text};
 pub fn print(words: &[u8], file: &[u8]) {
     if !has(words, b'b') {
         of_file(words, file);
-    } else if hex::is_text(file) {
+    } else if hexadecimal::is_text(file) {
         print::text(b"text\n");
     } else {
         print::text(b"binary\n");

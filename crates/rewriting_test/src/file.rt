@@ -15,7 +15,7 @@ pub fn run(words: &[u8]) {
 
 fn written(hexadecimal: &[u8]) {
     let mut file = [0u8; 1024];
-    let unhexed = hex::unhex(hexadecimal, &mut file);
+    let unhexed = hexadecimal::unhex(hexadecimal, &mut file);
     let length = unhexed.length;
     output::print(&file[..length]);
 }

@@ -1,6 +1,6 @@
 -- What the program writes for an input, a list of bytes.
 use Rattle.std.specs.Prelude.{ℕ, ◌+◌, Bool, cond, ◌&&◌, List, take}
-use Rattle.hex.specs.Hex.{most, unhexed, is_faulty, is_text}
+use Rattle.hexadecimal.specs.Hex.{most, unhexed, is_faulty, is_text}
 
 -- What is read of it: one byte more than a text may have, so that a longer one is seen to be too long.
 abbrev pub part : (input : List ℕ) → List ℕ

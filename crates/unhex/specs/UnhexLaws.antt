@@ -14,11 +14,11 @@ use Rattle.bench_file.specs.declared.Format.{Format}
 use Rattle.bench_file.specs.Faults.{file_refusal}
 use Rattle.bench_file.specs.FaultLaws.{accepted_of}
 use Rattle.bench_file.specs.FileLaws.{accepted_largest}
-use Rattle.hex.specs.Hex.{most, unhexed, is_faulty, is_text}
-use Rattle.hex.specs.Digits.{hexed}
-use Rattle.hex.specs.HexLaws.{room, length_hexed, unhexed_fits, unhexed_hexed}
-use Rattle.hex.specs.FaultLaws.{hexed_sound, unhexed_first, faulty_first}
-use Rattle.hex.specs.BinaryLaws.{accepted_binary, hexed_text}
+use Rattle.hexadecimal.specs.Hex.{most, unhexed, is_faulty, is_text}
+use Rattle.hexadecimal.specs.Digits.{hexed}
+use Rattle.hexadecimal.specs.HexLaws.{room, length_hexed, unhexed_fits, unhexed_hexed}
+use Rattle.hexadecimal.specs.FaultLaws.{hexed_sound, unhexed_first, faulty_first}
+use Rattle.hexadecimal.specs.BinaryLaws.{accepted_binary, hexed_text}
 use Rattle.unhex.specs.Unhex.{part, written, is_error}
 
 -- ---- an input that is read as a whole

@@ -1,13 +1,13 @@
 // Reads a text in hexadecimal from standard input, and writes the bytes that it stands for to standard output, or the
 // line of its first fault to standard error. What is no text goes to standard output as it is, up to the most bytes
-// that are read, which no bench file has. What is written is specs/Unhex.antt; what a text stands for is crates/hex.
+// that are read, which no bench file has. What is written is specs/Unhex.antt; what a text stands for is crates/hexadecimal.
 ghost use Rattle.std.specs.Prelude.{◌≡◌, List, ℕ, ◌+◌, ◌≤◌, length, take};
 ghost use Rattle.io.specs.Counts.{IsPrefixLen};
-ghost use Rattle.hex.specs.Hex.{most};
+ghost use Rattle.hexadecimal.specs.Hex.{most};
 ghost use Rattle.streams.specs.Streams.{ReadOf};
 ghost use Rattle.unhex.specs.Unhex.{written, is_error};
 
-use hex::{MOST, Unhexed};
+use hexadecimal::{MOST, Unhexed};
 
 fn main() {
     // One byte more than a text may have, so that a longer one is seen to be too long.
@@ -41,8 +41,8 @@ fn whole(buffer: &[u8], count: usize, out: &mut [u8]) -> Unhexed
         → result.is_faulty ≡ is_error input }
 {
     let input = &buffer[..count];
-    if hex::is_text(input) {
-        return hex::unhex(input, out);
+    if hexadecimal::is_text(input) {
+        return hexadecimal::unhex(input, out);
     }
     Unhexed {
         length: text::append(out, 0, input),

@@ -9,7 +9,7 @@ use borrow.Author.Rules.{rules}
 use lib.ListN.{length, take, length-take}
 use Rattle.io.specs.Counts.{IsPrefixLen}
 use Rattle.text.specs.Text.{Appended}
-use Rattle.hex.specs.Hex.{most}
+use Rattle.hexadecimal.specs.Hex.{most}
 use Rattle.streams.specs.Streams.{ReadOf}
 use Rattle.streams.specs.StreamLaws.{whole_text_lem}
 use Rattle.unhex.specs.Unhex.{written, is_error}

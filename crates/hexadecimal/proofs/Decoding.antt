@@ -1,0 +1,199 @@
+-- A text that is decoded up to a place.
+--     Decoded t o p n at s     the buffer was o and is p; its first n bytes are what comes of the first `at` bytes of
+--                              the text t, of which the last was read as s
+--     decoded_none                     nothing is read yet
+--     decoded_byte, decoded_quiet      the next byte of the text ends a byte, or it neither does nor is a fault
+--     decoded_bad, decoded_odd         it is the first fault: its line is all that is written
+--     decoded_all, decoded_lone        the text ends, and after a first digit that is a fault too
+use Prim.Native.Nat.{ℕ, ◌+◌, ◌-◌, ◌≤◌, ◌<◌}
+use mathlib.Core.Path.{◌≡◌, refl, sym, ap, ◌∙◌}
+use mathlib.Core.Bool.{Bool, true, false}
+use mathlib.Core.Logic.{⊎_elim}
+use mathlib.Core.List.{List, [], ◌∷◌, ◌++◌}
+use native.Mathlib.Omega.{arith}
+use native.Mathlib.Numerals.{add-one}
+use denote.Enum.Declared.{tag_of}
+use types.Run.{OneOf}
+use lib.ListN.{length, get_or, drop, drop_of_length-le}
+use lib.Seq.{drop-cons}
+use Rattle.text.specs.Text.{Appended, line}
+use Rattle.text.specs.TextLaws.{appended_none, appended_then, appended_anew}
+use Rattle.hexadecimal.specs.declared.Reading.{Reading}
+use Rattle.hexadecimal.specs.declared.Reading.TheVariants.{Between, Comment, High, Byte, Bad, Odd}
+use Rattle.hexadecimal.specs.Hex.{digit, is_space, first, second, next, byte_of, bad_digit, odd_digit}
+use Rattle.hexadecimal.specs.Hex.{unless_fault, decode, decoded, is_fault, has_fault}
+use Rattle.hexadecimal.specs.ReadingLaws.{high_half, first_not_odd, high_small}
+use Rattle.hexadecimal.specs.FaultLaws.{fault_now, fault_later, fault_end, unless_sound}
+use Rattle.hexadecimal.specs.contracts.Reading.{the_type}
+
+pub record Decoded (t o p : List ℕ) (n at : ℕ) (s : Reading) : Type 0 where
+  pub done : List ℕ
+  pub rest : decoded t ≡ decode done at s (drop at t)
+  pub written : Appended o 0 done p n
+  pub small : high_half s < 16
+  pub fine : is_fault s ≡ false
+  pub faults : has_fault Between t ≡ has_fault s (drop at t)
+  pub started : (b : ℕ) → next s b ≡ Odd → 1 ≤ at
+
+pub decoded_none : (t o : List ℕ) → Decoded t o o 0 0 Between
+unfolding decoded high_half is_fault next
+decoded_none t o = record {
+  done = [];
+  rest = refl;
+  written = appended_none o 0 (omega arith);
+  small = omega arith;
+  fine = refl;
+  faults = refl;
+  started = λ b e. absurd (first_not_odd b e);
+}
+
+-- ---- a reading that ends a byte, and one that is neither that nor a fault
+fine_byte : (r : Reading) (x : ℕ) → r ≡ Byte x → is_fault r ≡ false
+unfolding is_fault
+fine_byte r x e = rw e refl
+
+-- the tags of the others: no byte ends with them
+abbrev Quiet : (tag : ℕ) → Type 0
+Quiet tag = OneOf (0 ∷ 1 ∷ 2 ∷ []) tag
+
+loud : (tag : ℕ) → 2 < tag → Quiet tag → ⊥
+loud tag more h = ⊎_elim (λ e. omega arith) (⊎_elim (λ e. omega arith) (λ e. omega arith)) h
+
+fine_quiet : (r : Reading) → Quiet (tag_of the_type r) → is_fault r ≡ false
+unfolding is_fault
+fine_quiet Between h = refl
+fine_quiet Comment h = refl
+fine_quiet (High x) h = refl
+fine_quiet (Byte x) h = refl
+fine_quiet Bad h = absurd (loud 4 (omega arith) h)
+fine_quiet Odd h = absurd (loud 5 (omega arith) h)
+
+no_byte : (r : Reading) → Quiet (tag_of the_type r) → byte_of r ≡ []
+unfolding byte_of
+no_byte Between h = refl
+no_byte Comment h = refl
+no_byte (High x) h = refl
+no_byte (Byte x) h = absurd (loud 3 (omega arith) h)
+no_byte Bad h = refl
+no_byte Odd h = refl
+
+-- ---- the byte at place `at` is read as r
+module _
+    {t o p : List ℕ} {n at : ℕ} {s : Reading} (so_far : Decoded t o p n at s)
+    (more : at < length t) (r : Reading) (is : r ≡ next s (get_or t at 0))
+  where
+    byte_read : decoded t ≡ unless_fault at r (decode (so_far.done ++ byte_of r) (at + 1) r (drop (at + 1) t))
+    unfolding decode
+    byte_read = so_far.rest ∙ rw (drop-cons t at 0 more, add-one, is) refl
+
+    faults_read : has_fault Between t ≡ has_fault s (get_or t at 0 ∷ drop (at + 1) t)
+    faults_read = so_far.faults ∙ rw (drop-cons t at 0 more, add-one) refl
+
+    decoded_more :
+        {q : List ℕ} {m : ℕ}
+        → is_fault r ≡ false
+        → Appended p n (byte_of r) q m
+        → Decoded t o q m (at + 1) r
+    decoded_more fine kept = record {
+      done = so_far.done ++ byte_of r;
+      rest = byte_read ∙ unless_sound at r (decode (so_far.done ++ byte_of r) (at + 1) r (drop (at + 1) t)) fine;
+      written = appended_then so_far.written kept;
+      small = rw is (high_small s (get_or t at 0));
+      fine = fine;
+      faults =
+          faults_read
+          ∙ fault_later s (get_or t at 0) (drop (at + 1) t) (rw is at fine)
+          ∙ ap (λ (x : Reading). has_fault x (drop (at + 1) t)) (sym is);
+      started = λ b e. omega arith;
+    }
+
+    pub decoded_byte :
+        {q : List ℕ} {m : ℕ} (x : ℕ)
+        → r ≡ Byte x
+        → Appended p n (x ∷ []) q m
+        → Decoded t o q m (at + 1) (Byte x)
+    unfolding byte_of
+    decoded_byte {q} {m} x e kept =
+        let so : Decoded t o q m (at + 1) r = decoded_more (fine_byte r x e) (rw e kept) in
+        rw e at so
+
+    pub decoded_quiet : Quiet (tag_of the_type r) → Decoded t o p n (at + 1) r
+    decoded_quiet h = decoded_more (fine_quiet r h) (rw (no_byte r h) (appended_none p n so_far.written.within))
+
+    -- the first fault
+    faulty : is_fault r ≡ true → has_fault Between t ≡ true
+    faulty e = faults_read ∙ fault_now s (get_or t at 0) (drop (at + 1) t) (rw is at e)
+
+    pub decoded_bad :
+        {q : List ℕ} {m : ℕ} {f : Bool}
+        → r ≡ Bad
+        → Appended p 0 (line bad_digit at) q m × (f ≡ true)
+        → Appended o 0 (decoded t) q m × (f ≡ has_fault Between t)
+    unfolding unless_fault is_fault
+    decoded_bad e x =
+        (rw (byte_read, e) (appended_anew so_far.written.size x.0), x.1 ∙ sym (faulty (rw e refl)))
+
+    pub decoded_odd :
+        {q : List ℕ} {m : ℕ} {f : Bool}
+        → r ≡ Odd
+        → Appended p 0 (line odd_digit (at - 1)) q m × (f ≡ true)
+        → Appended o 0 (decoded t) q m × (f ≡ has_fault Between t)
+    unfolding unless_fault is_fault
+    decoded_odd e x =
+        (rw (byte_read, e) (appended_anew so_far.written.size x.0), x.1 ∙ sym (faulty (rw e refl)))
+
+    pub some_before : r ≡ Odd → 1 ≤ at
+    some_before e = so_far.started (get_or t at 0) (sym is ∙ e)
+
+-- ---- the end of the text, after s
+-- the tags of all readings but `High`
+abbrev Ended : (tag : ℕ) → Type 0
+Ended tag = OneOf (0 ∷ 1 ∷ 3 ∷ 4 ∷ 5 ∷ []) tag
+
+-- the tag of `High` is not among them
+not_ended : Ended 2 → ⊥
+not_ended h =
+    ⊎_elim
+    (λ e. omega arith)
+    (⊎_elim (λ e. omega arith) (⊎_elim (λ e. omega arith) (⊎_elim (λ e. omega arith) (λ e. omega arith))))
+    h
+
+end_fine : (s : Reading) → is_fault s ≡ false → Ended (tag_of the_type s) → is_fault (next s 10) ≡ false
+unfolding is_fault next first digit is_space
+end_fine Between f h = refl
+end_fine Comment f h = refl
+end_fine (High x) f h = absurd (not_ended h)
+end_fine (Byte x) f h = refl
+end_fine Bad f h = f
+end_fine Odd f h = f
+
+module _ {t o p : List ℕ} {n at : ℕ} {s : Reading} (so_far : Decoded t o p n at s) (ends : at ≡ length t) where
+  at_end : decoded t ≡ unless_fault at (next s 10) so_far.done
+  unfolding decode
+  at_end = so_far.rest ∙ rw (drop_of_length-le t {i = at} (omega arith)) refl
+
+  faults_end : has_fault Between t ≡ is_fault (next s 10)
+  faults_end = so_far.faults ∙ rw (drop_of_length-le t {i = at} (omega arith)) (fault_end s)
+
+  pub decoded_all : Ended (tag_of the_type s) → Appended o 0 (decoded t) p n × (false ≡ has_fault Between t)
+  decoded_all h =
+      let fine = end_fine s so_far.fine h in
+      (rw (at_end, unless_sound at (next s 10) so_far.done fine) so_far.written, sym (faults_end ∙ fine))
+
+  module _ (h : ℕ) (e : s ≡ High h) where
+    lone : next s 10 ≡ Odd
+    unfolding next second digit is_space
+    lone = rw e refl
+
+    pub some_text : 1 ≤ length t
+    some_text = omega (arith, so_far.started 10 lone)
+
+    pub decoded_lone :
+        {q : List ℕ} {m : ℕ} {f : Bool}
+        → Appended p 0 (line odd_digit (length t - 1)) q m × (f ≡ true)
+        → Appended o 0 (decoded t) q m × (f ≡ has_fault Between t)
+    unfolding unless_fault is_fault
+    decoded_lone x = (
+      rw (at_end, lone, ends) (appended_anew so_far.written.size x.0),
+      x.1 ∙ sym (faults_end ∙ rw lone refl),
+    )

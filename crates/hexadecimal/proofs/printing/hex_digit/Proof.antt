@@ -1,0 +1,20 @@
+-- One law for each kind of digit.
+use borrow.Author.Rules.{rules}
+use Rattle.hexadecimal.specs.PrintingLaws.{printed_low, printed_high}
+use Rattle.hexadecimal.proofs.printing.hex_digit.Statement.{statement}
+use Rattle.hexadecimal.proofs.printing.hex_digit.Tie as tie
+
+add-result : tie.Need-overflow-add-result
+add-result c = search rules
+
+add-result-2 : tie.Need-overflow-add-result-2
+add-result-2 c = search rules
+
+returns : tie.Need-returns
+returns c = search printed_low
+
+returns-2 : tie.Need-returns-2
+returns-2 c = search printed_high
+
+pub hex-digit-spec : {M : Type 1} → statement M
+hex-digit-spec = tie.close (tie.spec add-result add-result-2 returns returns-2)
