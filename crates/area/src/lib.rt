@@ -5,6 +5,8 @@
 //     refusal      why a call is refused, and the answer of a call
 // What 01 means by them is defined in specs/, and so are tests, tables and lists, which every layer shares: see the top
 // of specs/Lib.antt.
+#![tactic(auto)]
+
 pub mod bytes;
 pub mod limits;
 pub mod metrics;

@@ -2,7 +2,7 @@
 ghost use Rattle.std.specs.Prelude.{◌≡◌, eqb};
 ghost use Rattle.area.specs.Refusals.{refusal_number, verdict_number};
 
-#[derive(Drop)]
+#[derive(Clone, Copy)]
 pub enum Refusal {
     // Of Paths, Plan and Read.
     Incomplete,
@@ -42,7 +42,7 @@ pub enum Refusal {
 }
 
 // What a call says of the input that it was handed.
-#[derive(Drop)]
+#[derive(Clone, Copy)]
 pub enum Verdict {
     Accepted,
     Refused(Refusal),

@@ -4,6 +4,8 @@
 //     of_four       the four lowest members of a set
 //     listed        the entries of a list
 //     refusals      the number of each refusal
+#![tactic(auto)]
+
 use area::limits::Set;
 use area::refusal::{Refusal, Verdict};
 use cases::print;

@@ -6,6 +6,8 @@
 // Definitions, in reading order: specs/Formats.antt (how the formats differ), Sections.antt (what stands where),
 // Faults.antt (the refusals), Read.antt (the promise). What a caller may conclude from them is specs/FileLaws.antt; the
 // loops' arguments are proofs/Pairs.antt (repeated pairs) and proofs/Linking.antt (the table).
+#![tactic(auto)]
+
 mod faults;
 mod metrics;
 
@@ -23,21 +25,21 @@ use faults::judge;
 
 // The format of stored files, in which links may be listed that are not used and which is without the times, and the
 // format of Read.
-#[derive(Drop)]
+#[derive(Clone, Copy)]
 pub enum Format {
     Old,
     New,
 }
 
 // How many entries or steps a section has, and the place of its first byte in the file.
-#[derive(Drop)]
+#[derive(Clone, Copy)]
 pub struct Section {
     pub count: usize,
     pub at: usize,
 }
 
 // What a file says of itself.
-#[derive(Drop)]
+#[derive(Clone, Copy)]
 pub struct Contents {
     pub n: usize,
     pub links: usize,
@@ -49,7 +51,7 @@ pub struct Contents {
 }
 
 // What Read hands back: the answer, and what the file says of itself, which is all 0 with a refusal.
-#[derive(Drop)]
+#[derive(Clone, Copy)]
 pub struct BenchFile {
     pub answer: Verdict,
     pub contents: Contents,

@@ -7,7 +7,7 @@ use crate::LONG_TABLE;
 use area::limits::{CELLS, WIDTH};
 
 // Which cells are compared.
-#[derive(Drop)]
+#[derive(Clone, Copy)]
 enum Cells {
     // The cells of the table and the one after them.
     All,

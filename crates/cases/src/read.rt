@@ -7,7 +7,7 @@ use area::limits::CELLS;
 pub const MOST: usize = 200;
 
 // What is looked for in a text.
-#[derive(Drop)]
+#[derive(Clone, Copy)]
 pub enum Sought {
     // A byte.
     Byte(u8),

@@ -4,6 +4,8 @@
 //     check        the fault of an entry by itself; that no pair comes twice is for the crates that go over a list
 // What each promises is specs/Entries.antt. `bench_file` reads links by these functions, `changes` reads changes; both
 // find a repeated pair by sets, and specs/SeenLaws.antt says why.
+#![tactic(auto)]
+
 ghost use Rattle.std.specs.Prelude.{◌≡◌, ◌<◌};
 ghost use Rattle.area.specs.Refusals.{verdict_number};
 ghost use Rattle.entries.specs.Entries.{entry_count, entry_of, entry_refusal};
@@ -11,7 +13,7 @@ ghost use Rattle.entries.specs.Entries.{entry_count, entry_of, entry_refusal};
 use area::limits::ENTRY;
 use area::refusal::{Refusal, Verdict};
 
-#[derive(Drop)]
+#[derive(Clone, Copy)]
 pub struct Entry {
     pub from: usize,
     pub to: usize,

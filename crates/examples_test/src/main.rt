@@ -4,6 +4,8 @@
 //     open         the file of an example
 //     rehearse     from its hexadecimal to the text that is printed
 //     rehearsal    the rehearsal, in tables that hold nothing
+#![tactic(auto)]
+
 ghost use Rattle.std.specs.Prelude.{◌≡◌, ◌≤◌, length, take};
 
 use area::limits::{CELLS, LARGEST, Set};

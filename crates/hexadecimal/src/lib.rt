@@ -11,6 +11,8 @@
 // is none, is specs/FaultLaws.antt; that no bench file is taken for a text is specs/BinaryLaws.antt; the argument of
 // the loop over a text is proofs/Decoding.antt. The digits of bytes are specs/Digits.antt; that they say these bytes is
 // specs/PairLaws.antt.
+#![tactic(auto)]
+
 mod printing;
 
 ghost use Rattle.std.specs.Prelude.{◌≡◌, true, [], ◌∷◌, ◌≤◌, ◌<◌, length};
@@ -30,7 +32,7 @@ pub const MOST: usize = 262144;
 pub const ROOM: usize = MOST / 2;
 
 // What a byte of a text is, by the bytes before it.
-#[derive(Drop)]
+#[derive(Clone, Copy)]
 enum Reading {
     // White space, or the end of a comment.
     Between,
@@ -47,7 +49,7 @@ enum Reading {
 }
 
 // What was written for a text: how many bytes, and whether they are the line of a fault.
-#[derive(Drop)]
+#[derive(Clone, Copy)]
 pub struct Unhexed {
     pub length: usize,
     pub is_faulty: bool,

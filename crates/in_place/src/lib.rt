@@ -4,6 +4,8 @@
 // Both contracts are the machine's `step_of` (crate machine, specs/Machine.antt). The toolchain makes no proof of a
 // function over a reference to a struct, so both are proved by hand, statement after statement; what the two proofs
 // share is proofs/Walking.antt.
+#![tactic(auto)]
+
 ghost use Rattle.std.specs.Prelude.{◌≡◌};
 ghost use Rattle.machine.specs.Answers.{reply_of, gives};
 ghost use Rattle.machine.specs.Machine.{step_of};

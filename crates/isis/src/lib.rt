@@ -5,6 +5,8 @@
 //     read         judges all, and fills the metric table
 // Definitions, in reading order: specs/Identities.antt, Lists.antt, Isis.antt (the promise). What a caller may conclude
 // from them is specs/AreaLaws.antt. The entries themselves are read by crate `tlv`.
+#![tactic(auto)]
+
 mod identities;
 mod lists;
 mod rows;

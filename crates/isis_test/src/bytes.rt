@@ -3,7 +3,7 @@
 ghost use Rattle.std.specs.Prelude.{◌≡◌, ◌≤◌, ◌<◌};
 
 // What has been read of a text.
-#[derive(Drop)]
+#[derive(Clone, Copy)]
 struct Reading {
     // How many bytes it has given.
     length: usize,

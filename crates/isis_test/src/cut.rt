@@ -6,7 +6,7 @@ use area::limits::CELLS;
 use cases::{LONG_TABLE, print};
 
 // What came of a call.
-#[derive(Drop)]
+#[derive(Clone, Copy)]
 struct Outcome {
     answer: u64,
     links: u64,

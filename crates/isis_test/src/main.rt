@@ -7,6 +7,8 @@
 //     cut        a call for every prefix of the lists or of the table of identities
 //     items      the entries of one list
 //     capture    the data of a real implementation, and the links that are expected of it
+#![tactic(auto)]
+
 mod bytes;
 mod call;
 mod capture;

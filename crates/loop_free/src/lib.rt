@@ -6,3 +6,4 @@
 //     HandedBackLaws   the theorem: `handed_back_free`; its premises are lines of the contracts of Plan and Step
 //     Examples         two changes on three routers, and the loops that the order of writes rules out
 // The argument over any two topologies is in the crate convergence; what a list of calls keeps, in the crate machine.
+#![tactic(auto)]

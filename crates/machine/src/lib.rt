@@ -16,11 +16,13 @@
 //     OrderedLaws  what is ordered in a plan's record: `Ordered`; crates needs and sheet build on these three
 //     TimelyLaws   ticks, and what has come of a router whose due time has come
 // The code of Step is in the crate steps.
+#![tactic(auto)]
+
 pub mod states;
 
 use area::refusal::Refusal;
 
-#[derive(Drop)]
+#[derive(Clone, Copy)]
 pub enum Answer {
     Ok,
     // A message that nobody listens for.

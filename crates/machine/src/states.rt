@@ -6,7 +6,7 @@ ghost use Rattle.machine.specs.States.{state_number, named, next_state};
 use crate::{DONE, HOLDING, IDLE, ONGOING};
 
 // With the name that each has in section 8. Its OFIB_ABANDONED is no state here.
-#[derive(Drop)]
+#[derive(Clone, Copy)]
 pub enum State {
     // OFIB_STABLE, before the change is known.
     Idle,
@@ -18,7 +18,7 @@ pub enum State {
     Done,
 }
 
-#[derive(Drop)]
+#[derive(Clone, Copy)]
 pub enum Event {
     // A link-state packet describes the change.
     Learn,
@@ -31,7 +31,7 @@ pub enum Event {
 }
 
 // The state after an event, or none where the event has no place.
-#[derive(Drop)]
+#[derive(Clone, Copy)]
 pub enum NextState {
     To(State),
     Nowhere,

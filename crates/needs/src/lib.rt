@@ -5,6 +5,8 @@
 //     lent         the same by the parts of a record that they read
 // Both are definitions in specs/Needs.antt. specs/CountedLaws.antt has the one invariant of every list of calls,
 // specs/ProgressLaws.antt why none gets stuck, and specs/NeedsLaws.antt the promises themselves.
+#![tactic(auto)]
+
 pub mod lent;
 
 ghost use Rattle.std.specs.Prelude.{◌≡◌};

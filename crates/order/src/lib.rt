@@ -6,6 +6,8 @@
 //     due         the same, from tables that can be read
 // Ranks are found by crate ranks. What is promised is specs/Order.antt; specs/EnteringLaws.antt says why `converse`
 // finds the telling sets, proofs/Converse.antt why the table of waiting sets is all that they and ranks need.
+#![tactic(auto)]
+
 mod due;
 mod waiting;
 
@@ -16,7 +18,7 @@ ghost use Rattle.order.specs.Order.{is_orderable, ordered, no_order, order_of, d
 use area::limits::{CELLS, Set, WIDTH};
 
 // Entry r of each table belongs to router r, and is 0 from n on.
-#[derive(Drop)]
+#[derive(Clone, Copy)]
 pub struct Order {
     pub waiting: [Set; WIDTH],
     pub telling: [Set; WIDTH],

@@ -7,6 +7,8 @@
 //     are_valid    are the metrics such as Paths takes? (metrics.rt)
 // What it promises is specs/Paths.antt; that a cell is then the least sum of a walk, and a set all next hops of equal
 // cost, is at the end of specs/PathsLaws.antt.
+#![tactic(auto)]
+
 mod metrics;
 
 ghost use Rattle.std.specs.Prelude.{◌≡◌, ◌*◌, ◌≤◌, length, get_or};

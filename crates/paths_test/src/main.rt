@@ -2,6 +2,8 @@
 //     run     the lines of the input: of a case its name is printed, and then it is called
 //     call    the call that the words of a case say
 //     show    what is shown of the three tables after it
+#![tactic(auto)]
+
 mod call;
 mod show;
 

@@ -12,7 +12,7 @@ use entries::{count, decode};
 use topology::usable;
 
 // Does no usable metric become smaller, and does none become larger? Both where every pair keeps its own.
-#[derive(Drop)]
+#[derive(Clone, Copy)]
 pub struct Direction {
     pub rising: bool,
     pub falling: bool,

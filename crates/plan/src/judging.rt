@@ -24,7 +24,7 @@ use entries::count;
 use paths::is_area;
 
 // What is found of an input. Where it is refused, nothing is said of root and direction.
-#[derive(Drop)]
+#[derive(Clone, Copy)]
 pub struct Judged {
     pub answer: Verdict,
     pub root: usize,

@@ -9,6 +9,8 @@
 // the functions below promise to each other is specs/Parts.antt. The argument is in specs/PlanLaws.antt for the
 // refusals, in specs/DirectionLaws.antt for the direction, in proofs/Copying.antt and proofs/Applying.antt for the
 // metrics, in proofs/Filling.antt for the tables and proofs/Recording.antt for the record.
+#![tactic(auto)]
+
 mod direction;
 mod judging;
 mod metrics;
@@ -30,7 +32,7 @@ use order::{due_table, order_of};
 use paths::{are_paths, paths};
 
 // A plan's record. Entry r of a table per router belongs to router r, and is 0 from n on.
-#[derive(Drop)]
+#[derive(Clone, Copy)]
 pub struct Record {
     pub n: u8,
     pub root: u8,
@@ -52,7 +54,7 @@ pub struct Record {
 }
 
 // What Plan hands back: the answer, with the record.
-#[derive(Drop)]
+#[derive(Clone, Copy)]
 pub struct Planned {
     pub answer: Verdict,
     pub record: Record,

@@ -3,6 +3,8 @@
 //     call     the call that the words of a case say
 //     show     what is shown of it: the verdict and the record, and what became of the tables
 //     fresh    the routers of the record
+#![tactic(auto)]
+
 mod call;
 mod fresh;
 mod show;

@@ -3,6 +3,8 @@
 //     changes      the part of the file that Plan gets
 //     started      both answers put together; `first` takes the first refusal of the two
 // What it promises is specs/Bench.antt; that Plan gets what the file says is specs/BenchLaws.antt.
+#![tactic(auto)]
+
 ghost use Rattle.std.specs.Prelude.{◌≡◌, ◌+◌, ◌*◌, ◌≤◌, length};
 ghost use Rattle.area.specs.Refusals.{verdict_number};
 ghost use Rattle.area.specs.Tests.{or_then};
@@ -15,7 +17,7 @@ use bench_file::{BenchFile, Contents, Section, read};
 use plan::{Planned, Record, plan};
 
 // The number of Read's refusal or else of Plan's, 0 where neither refuses; Plan's record; and where the steps are.
-#[derive(Drop)]
+#[derive(Clone, Copy)]
 pub struct Start {
     pub refusal: u8,
     pub record: Record,

@@ -6,6 +6,8 @@
 //     agree        whether a round has changed nothing
 // What they promise is specs/Rank.antt; why the rounds end with the ranks is specs/RankLaws.antt and
 // proofs/Rounds.antt.
+#![tactic(auto)]
+
 ghost use Rattle.std.specs.Prelude.{◌≡◌, ℕ, ◌≤◌, ◌<◌, eqb, get_or};
 ghost use Rattle.area.specs.Limits.{width};
 ghost use Rattle.area.specs.Tests.{all};

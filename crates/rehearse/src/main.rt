@@ -1,6 +1,8 @@
 // Reads a bench file from standard input, and prints its rehearsal: a line for each router, a line for each step and an
 // end, or the refusal alone. What is printed is `rehearsal` of crates/report/specs/Report.antt, the whole of it, of the
 // whole input; this program lends the tables, and buffers that have room for both.
+#![tactic(auto)]
+
 ghost use Rattle.std.specs.Prelude.{◌≡◌, List, ℕ, ◌<◌, length, take};
 ghost use Rattle.io.specs.Counts.{IsPrefixLen};
 ghost use Rattle.plan.specs.Plan.{tables_in};

@@ -16,6 +16,8 @@
 // it; specs/ReportLaws.antt goes from what `prepare` gives to the whole text; specs/RoomLaws.antt says that ROOM bytes
 // are enough for it, and specs/FirstBytesLaws.antt that 33,089 bytes of an input are. specs/StepsReadLaws.antt reads
 // the steps of the sheet again: they are the calls that the sheet stands for.
+#![tactic(auto)]
+
 mod all_routes;
 mod hex_lines;
 mod lines;
@@ -50,7 +52,7 @@ pub const SHEET_TURNS_ROOM: usize = (67 + 42 * WIDTH) * WIDTH + 4;
 pub const SHEET_STEPS_ROOM: usize = 5 + 9 * MOST_STEPS;
 
 // The texts, each with the name that it has in specs/Report.antt.
-#[derive(Drop)]
+#[derive(Clone, Copy)]
 pub enum Text {
     Rehearsal,
     Routes,

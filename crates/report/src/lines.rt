@@ -16,7 +16,7 @@ use sets::member;
 use text::{append, field, line};
 
 // The distance between two routers, and the next-hop set by which it is reached.
-#[derive(Drop)]
+#[derive(Clone, Copy)]
 pub struct Path {
     pub distance: u32,
     pub hops: Set,

@@ -6,6 +6,8 @@
 //     largest     the largest file, by a rule
 //     texts       the text of a file
 //     summary     prints a text, or of a long one some lines
+#![tactic(auto)]
+
 mod by_words;
 mod file;
 mod largest;

@@ -1,6 +1,8 @@
 // Reads a stored bench file from standard input, and writes it without its dead links, or its refusal alone. What is
 // written is `written` of crates/rewriting/specs/Rewriting.antt, the whole of it, of the whole input; this
 // program has buffers with room for both.
+#![tactic(auto)]
+
 ghost use Rattle.std.specs.Prelude.{◌≡◌, List, ℕ, ◌≤◌, ◌<◌, length, take};
 ghost use Rattle.io.specs.Counts.{IsPrefixLen};
 ghost use Rattle.bench_file.specs.Sections.{largest};

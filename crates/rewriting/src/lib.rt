@@ -6,6 +6,8 @@
 //     timed_rest   what follows the links
 // What is written is specs/Rewriting.antt, the links that are kept are specs/Live.antt. That Read accepts the rewritten
 // file and gives the old metric table, and what else is the same, is specs/RewritingLaws.antt.
+#![tactic(auto)]
+
 ghost use Rattle.std.specs.Prelude.{◌≡◌, ◌≤◌, ◌<◌, ◌*◌, ◌+◌, length};
 ghost use Rattle.bench_file.specs.Sections.{change_count_at, times_at};
 ghost use Rattle.text.specs.Text.{Appended};

@@ -17,7 +17,7 @@ const LINKS: usize = WIDTH * OTHERS;
 const ROOM: usize = 33089;
 
 // What a file has.
-#[derive(Drop)]
+#[derive(Clone, Copy)]
 struct Shape {
     links: usize,
     // The links are those at the odd places of all links.

@@ -4,6 +4,8 @@
 //     file      the file of a case, from its hexadecimal or by a rule
 //     large     files by a rule: all links of most routers
 //     output    prints what is written for a file
+#![tactic(auto)]
+
 mod file;
 mod large;
 mod output;

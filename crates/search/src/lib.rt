@@ -6,6 +6,8 @@
 //     offer      a neighbour takes what is nearer, and joins what is as near (offers.rt)
 // What it promises is specs/Rows.antt. Why it is right is proofs/Dijkstra.antt, on distances and next hops alone;
 // proofs/Settling.antt says the same of the two rows.
+#![tactic(auto)]
+
 mod nearest;
 mod offers;
 

@@ -7,6 +7,8 @@
 //     four                             the four lowest members
 // What each promises is specs/Sets.antt, Counts.antt and Four.antt; why bit operations do it is the last part of
 // specs/SetLaws.antt, and of specs/FourLaws.antt; the laws of a loop over the members are specs/VisitLaws.antt.
+#![tactic(auto)]
+
 ghost use Rattle.std.specs.Prelude.{◌≡◌, ◌≤◌, eqb, get_or};
 ghost use Rattle.area.specs.Limits.{width};
 ghost use Rattle.area.specs.Tests.{lowest};

@@ -7,6 +7,8 @@
 //     could_come    whether a router could
 // What they promise is specs/Sheet.antt; what makes it a sheet is specs/SheetLaws.antt. The calls of following a sheet
 // are specs/Follow.antt; that they finish every router is specs/FollowLaws.antt, and how many they are LengthLaws.antt.
+#![tactic(auto)]
+
 ghost use Rattle.std.specs.Prelude.{◌≡◌, not, ◌&&◌, ◌≤◌, get_or};
 ghost use Rattle.area.specs.Limits.{width};
 ghost use Rattle.area.specs.Refusals.{verdict_number};
@@ -21,7 +23,7 @@ use plan::{Record, plan};
 use sets::{add, is_subset, member};
 
 // What the running sheet of a change is: Plan's answer, and the routers in turn.
-#[derive(Drop)]
+#[derive(Clone, Copy)]
 pub struct RunningSheet {
     pub answer: Verdict,
     // The router at each of the n places, 0 from n on. All is 0 where Plan refuses.

@@ -2,6 +2,8 @@
 // to be put into the file in place of its own: their count, and a line for each; or the refusal alone. What is printed
 // is `sheet_steps` of crates/report/specs/Report.antt, the whole of it, of the whole input; this program lends the
 // tables, and buffers that have room for both.
+#![tactic(auto)]
+
 ghost use Rattle.std.specs.Prelude.{◌≡◌, List, ℕ, ◌<◌, length, take};
 ghost use Rattle.io.specs.Counts.{IsPrefixLen};
 ghost use Rattle.plan.specs.Plan.{tables_in};

@@ -3,6 +3,8 @@
 //     call       the call that the words of a case say, for a change or for a record made by hand
 //     by_hand    such a record
 //     show       what is shown of a call
+#![tactic(auto)]
+
 mod by_hand;
 mod call;
 mod show;

@@ -2,6 +2,8 @@
 // destinations that the router writes and the routers that it tells, and an end; or the refusal alone. What is printed
 // is `sheet_turns` of crates/report/specs/Report.antt, the whole of it, of the whole input; this program lends the
 // tables, and buffers that have room for both.
+#![tactic(auto)]
+
 ghost use Rattle.std.specs.Prelude.{◌≡◌, List, ℕ, ◌<◌, length, take};
 ghost use Rattle.io.specs.Counts.{IsPrefixLen};
 ghost use Rattle.plan.specs.Plan.{tables_in};

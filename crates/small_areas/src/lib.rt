@@ -2,3 +2,4 @@
 // of the other crates give the same results:
 //     Questions.antt       what can be asked of a bench file, and what the definitions answer
 //     SmallAreas.antt      C1 to C13, each drawn, with its results, rows of requests, and the theorem over all of them
+#![tactic(auto)]

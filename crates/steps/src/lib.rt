@@ -8,6 +8,8 @@
 //                              two, and tick. Here a router's entries are read and written, by its index
 // The machine is defined in the crate machine, specs/Machine.antt. What the functions over lent tables promise of it
 // has a name in specs/Lent.antt; their proofs cite a law of machine's StepLaws for each way that a call can end.
+#![tactic(auto)]
+
 pub mod lent;
 mod messages;
 mod moves;
@@ -23,14 +25,14 @@ use machine::{Answer, DELIVER, FINISH, LEARN, RELEASE, TICK, WRITE};
 use plan::Record;
 
 // What a call hands back: the record, with the answer. A call that is refused or ignored leaves the record as it was.
-#[derive(Drop)]
+#[derive(Clone, Copy)]
 pub struct Stepped {
     pub next: Record,
     pub answer: Answer,
 }
 
 // A record that takes steps. Every call checks the record and the routers that it is handed.
-#[derive(Drop)]
+#[derive(Clone, Copy)]
 pub struct Machine {
     pub now: Record,
 }

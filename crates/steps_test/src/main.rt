@@ -10,6 +10,8 @@
 //     show       parts of a line of the output
 //     pointers   where packets go after the last step
 //     table      the table of states and events, which comes last
+#![tactic(auto)]
+
 mod call;
 mod compare;
 mod others;

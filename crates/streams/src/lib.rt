@@ -4,13 +4,15 @@
 //     write    writes bytes to standard output
 //     error    writes a line to standard error; `fail` the line of a call that failed
 // What a read leaves in the buffer, no contract can say: specs/Streams.antt is what the programs suppose of it.
+#![tactic(auto)]
+
 ghost use Rattle.std.specs.Prelude.{◌≤◌, length};
 ghost use Rattle.io.specs.Counts.{IsPrefixLen};
 
 use libc::{STDERR_FILENO, STDIN_FILENO, STDOUT_FILENO};
 
 // What was read: how many bytes, and whether a read failed.
-#[derive(Drop)]
+#[derive(Clone, Copy)]
 pub struct Input {
     pub length: usize,
     pub is_failed: bool,

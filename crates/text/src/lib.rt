@@ -7,6 +7,8 @@
 //     refused_line     the line of a refusal
 // What they promise is specs/Text.antt, and what a caller may conclude specs/TextLaws.antt. The loops' arguments are
 // proofs/Copying.antt (append) and proofs/Spelling.antt (spell).
+#![tactic(auto)]
+
 ghost use Rattle.std.specs.Prelude.{◌≡◌, [], ◌∷◌, ◌≤◌, min, length, drop};
 ghost use Rattle.text.specs.Text.{Appended, decimal, field, line, refused_line};
 

@@ -5,6 +5,8 @@
 //     decode       the work: what stands at a place of a list
 // What stands where is specs/Items.antt. That two identities are equal as numbers exactly if their bytes are, and what
 // a loop over the items of a list needs, is specs/ItemLaws.antt. Functions over a `Reader` are proved by hand.
+#![tactic(auto)]
+
 ghost use Rattle.std.specs.Prelude.{◌≡◌, ◌<◌, ◌≤◌, ◌+◌, length};
 ghost use Rattle.area.specs.Bytes.{three};
 ghost use Rattle.tlv.specs.Items.{seven, item_at, place_after};
@@ -21,7 +23,7 @@ const IDENTITY: usize = 7;
 const MOST_SUB_TLVS: usize = 244;
 
 // What an entry says: its neighbour's identity as one number, the metric, and the place after the sub-TLVs.
-#[derive(Drop)]
+#[derive(Clone, Copy)]
 pub struct Neighbour {
     pub identity: u64,
     pub metric: u32,
@@ -29,7 +31,7 @@ pub struct Neighbour {
 }
 
 // What stands at a place of a list: nothing more, a fault, or an entry.
-#[derive(Drop)]
+#[derive(Clone, Copy)]
 pub enum Item {
     End,
     Refused(Refusal),
@@ -37,7 +39,7 @@ pub enum Item {
 }
 
 // The lent bytes of a list, and a position in them.
-#[derive(Drop)]
+#[derive(Clone, Copy)]
 pub struct Reader<'a> {
     pub bytes: &'a [u8],
     pub at: usize,

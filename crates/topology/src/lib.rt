@@ -1,5 +1,7 @@
 // Distances and next hops are defined here; the way round is on top of specs/Lib.antt. The code is what all others ask:
 // the usable metric of a pair of routers. A link is used only if both directions have a metric (02, No. 4).
+#![tactic(auto)]
+
 ghost use Rattle.std.specs.Prelude.{◌≡◌, ◌*◌, ◌≤◌, length};
 ghost use Rattle.area.specs.Limits.{width};
 ghost use Rattle.topology.specs.Topology.{is_used, topology};

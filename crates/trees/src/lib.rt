@@ -9,6 +9,8 @@
 //     neighbours   the routers that have a link to each, once for all searches (neighbours.rt)
 // What it promises is specs/Trees.antt. Why it is right is proofs/Dijkstra.antt, on distances and next hops alone;
 // proofs/Growing.antt says the same of the column.
+#![tactic(auto)]
+
 mod nearest;
 mod neighbours;
 mod tree;

@@ -1,5 +1,7 @@
 // A program of one's own over the libraries: three routers, the link of 1 and 2 goes down, and four steps. It prints
 // Plan's answer, the ranks, and the answers of the steps. README.md shows lines of `main`.
+#![tactic(auto)]
+
 use area::limits::{CELLS, Set, UNUSED, WIDTH};
 use libc::STDOUT_FILENO;
 use machine::{Answer, LEARN};

@@ -2,6 +2,8 @@
 // not done, with its state, the routers that it still waits for and what is due there and unwritten, and how many
 // answers "ok" are missing; or the refusal alone. What is printed is `unfinished` of crates/report/specs/Report.antt,
 // the whole of it, of the whole input; this program lends the tables, and buffers that have room for both.
+#![tactic(auto)]
+
 ghost use Rattle.std.specs.Prelude.{◌≡◌, List, ℕ, ◌<◌, length, take};
 ghost use Rattle.io.specs.Counts.{IsPrefixLen};
 ghost use Rattle.plan.specs.Plan.{tables_in};
