@@ -15,14 +15,3 @@ pub mod Sizes
 pub mod Tables
 pub mod Lists
 pub mod Bytes
-pub mod RefusalLaws
-pub mod ByteLaws
-pub mod TestLaws
-pub mod LowestLaws
-pub mod SizeLaws
-pub mod TableLaws
-pub mod RowLaws
-pub mod ColumnLaws
-pub mod PerRouterLaws
-pub mod MemberLaws
-pub mod PigeonholeLaws

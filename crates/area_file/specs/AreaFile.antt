@@ -8,6 +8,7 @@ use Rattle.area.specs.Sizes.{is_router_count, is_table}
 use Rattle.entries.specs.declared.Entry.{Entry}
 use Rattle.text.specs.Text.{word, field, line}
 use Rattle.hexadecimal.specs.Digits.{hexed}
+use Rattle.std.specs.Prelude.{◌+◌}
 
 -- ---- the links
 abbrev pub link : (from to metric : ℕ) → Entry
@@ -106,3 +107,7 @@ is_sized n m = is_router_count n && is_table m
 
 unfoldable pub area_text : (n : ℕ) (m : List ℕ) → List ℕ
 area_text n m = pick (is_sized n m) (all_lines n m) []
+
+-- so many bytes have room for the text of any area: a line for each cell, and the other five lines
+abbrev pub room : ℕ
+room = 37 * (width * width) + 150

@@ -2,8 +2,3 @@
 -- them.
 pub mod AreaFile
 pub mod FromIsis
-pub mod LinkLaws
-pub mod LineLaws
-pub mod AreaFileLaws
-pub mod ReadAgainLaws
-pub mod FromIsisLaws

@@ -12,10 +12,10 @@ use lib.ListN.{length, set, length-set}
 use Rattle.area.specs.Limits.{width, unused}
 use Rattle.area.specs.Tests.{pick}
 use Rattle.area.specs.Tables.{cell}
-use Rattle.area.specs.TableLaws.{length_tabulate, cell_tabulate, is_tabulate}
+use Rattle.area.proofs.TableLaws.{length_tabulate, cell_tabulate, is_tabulate}
 use Rattle.entries.specs.declared.Entry.{Entry}
 use Rattle.entries.specs.Entries.{entry_of, from, to, metric, is_for_pair, listed_metric}
-use Rattle.entries.specs.EntryLaws.{given_start, given_next, cell_entered}
+use Rattle.entries.proofs.EntryLaws.{given_start, given_next, cell_entered}
 use Rattle.bench_file.specs.Read.{linked}
 
 pub record Linked (l : List ℕ) (k : ℕ) (t : List ℕ) : Type 0 where

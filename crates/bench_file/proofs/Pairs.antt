@@ -10,14 +10,14 @@ use native.Mathlib.Omega.{arith}
 use Rattle.area.specs.Limits.{width}
 use Rattle.area.specs.Refusals.{repeated}
 use Rattle.area.specs.Tests.{pick, or_then}
-use Rattle.area.specs.TestLaws.{then_some}
+use Rattle.area.proofs.TestLaws.{then_some}
 use Rattle.entries.specs.declared.Entry.{Entry}
 use Rattle.entries.specs.Entries.{entry_count, entry_of, from, to, is_first, entry_refusal}
-use Rattle.entries.specs.EntryLaws.{read_from, faultless_of}
-use Rattle.entries.specs.SeenLaws.{Seen}
+use Rattle.entries.proofs.EntryLaws.{read_from, faultless_of}
+use Rattle.entries.specs.Seen.{Seen}
 use Rattle.bench_file.specs.declared.Format.{Format}
 use Rattle.bench_file.specs.Faults.{dead_refusal, link_refusal, seen_refusal}
-use Rattle.bench_file.specs.FaultLaws.{whole_refusal, link_whole, link_sound}
+use Rattle.bench_file.proofs.FaultLaws.{whole_refusal, link_whole, link_sound}
 
 -- ---- the refusal of the next link
 -- a pair that was seen is not free

@@ -3,7 +3,3 @@ pub mod Formats
 pub mod Sections
 pub mod Faults
 pub mod Read
-pub mod FaultLaws
-pub mod ReadLaws
-pub mod FileLaws
-pub mod LargestLaws

@@ -14,6 +14,8 @@ use Rattle.bench_file.specs.Faults.{file_refusal}
 use Rattle.bench_file.specs.declared.Format.{Format}
 use Rattle.bench_file.specs.declared.Format.TheVariants.{New}
 use Rattle.bench_file.specs.declared.Contents.{Contents}
+use Rattle.std.specs.Prelude.{◌<◌}
+use Rattle.entries.specs.Entries.{from, to}
 
 -- the number of the answer: a table of the wrong size comes before every fault of the file
 unfoldable pub read_refusal : (f t : List ℕ) → ℕ
@@ -64,3 +66,7 @@ metrics_by format f t =
 -- that of Read
 abbrev pub metrics_of : (f t : List ℕ) → List ℕ
 metrics_of f t = metrics_by New f t
+
+-- the ends of the first k links have a row and a column of a table
+abbrev pub InTable : (l : List ℕ) (k : ℕ) → Type 0
+InTable l k = (e : ℕ) → e < k → (from l e < width) × (to l e < width)

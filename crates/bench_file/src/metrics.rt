@@ -2,7 +2,7 @@
 //     put      the links, one after another, into a table without a link
 ghost use Rattle.std.specs.Prelude.{◌≡◌, []};
 ghost use Rattle.bench_file.specs.Read.{linked};
-ghost use Rattle.bench_file.specs.ReadLaws.{InTable};
+ghost use Rattle.bench_file.specs.Read.{InTable};
 
 use area::limits::WIDTH;
 use entries::decode;

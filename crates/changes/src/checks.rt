@@ -8,7 +8,7 @@ ghost use Rattle.std.specs.Prelude.{◌≡◌};
 ghost use Rattle.area.specs.Refusals.{verdict_number};
 ghost use Rattle.area.specs.Tests.{first};
 ghost use Rattle.entries.specs.Entries.{entry_count, entry_of, is_first, listed_refusal};
-ghost use Rattle.entries.specs.SeenLaws.{Seen};
+ghost use Rattle.entries.specs.Seen.{Seen};
 
 use area::limits::{Set, WIDTH};
 use area::refusal::{Refusal, Verdict};

@@ -9,7 +9,7 @@ use Rattle.std.specs.Prelude.{ℕ, ◌≤◌, ◌≡◌, Bool, true, ◌≢◌, 
 use Rattle.sets.specs.Sets.{bit}
 use Rattle.topology.specs.Topology.{Topology}
 use Rattle.topology.specs.NextHops.{Next}
-use Rattle.topology.specs.WalkLaws.{Graph}
+use Rattle.topology.specs.Graph.{Graph}
 use Rattle.convergence.specs.Pointers.{Pointers}
 
 -- No link has a smaller metric in hi than in lo, and those that differ have the root as an end.

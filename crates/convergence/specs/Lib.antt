@@ -10,9 +10,4 @@
 --     Convergence      both, for a rise and for a fall
 pub mod Pointers
 pub mod Change
-pub mod PointerLaws
-pub mod ThroughRoot
-pub mod Separation
-pub mod NoLoop
-pub mod Arrival
 pub mod Convergence

@@ -1,5 +1,3 @@
 -- Lists of entries of five bytes. First the definitions, then the laws about them.
 pub mod Entries
-pub mod EntryLaws
-pub mod DifferentLaws
-pub mod SeenLaws
+pub mod Seen

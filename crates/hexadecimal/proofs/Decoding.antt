@@ -17,13 +17,14 @@ use types.Run.{OneOf}
 use lib.ListN.{length, get_or, drop, drop_of_length-le}
 use lib.Seq.{drop-cons}
 use Rattle.text.specs.Text.{Appended, line}
-use Rattle.text.specs.TextLaws.{appended_none, appended_then, appended_anew}
+use Rattle.text.proofs.TextLaws.{appended_none, appended_then, appended_anew}
 use Rattle.hexadecimal.specs.declared.Reading.{Reading}
 use Rattle.hexadecimal.specs.declared.Reading.TheVariants.{Between, Comment, High, Byte, Bad, Odd}
 use Rattle.hexadecimal.specs.Hex.{digit, is_space, first, second, next, byte_of, bad_digit, odd_digit}
 use Rattle.hexadecimal.specs.Hex.{unless_fault, decode, decoded, is_fault, has_fault}
-use Rattle.hexadecimal.specs.ReadingLaws.{high_half, first_not_odd, high_small}
-use Rattle.hexadecimal.specs.FaultLaws.{fault_now, fault_later, fault_end, unless_sound}
+use Rattle.hexadecimal.specs.Reading.{high_half}
+use Rattle.hexadecimal.proofs.ReadingLaws.{first_not_odd, high_small}
+use Rattle.hexadecimal.proofs.FaultLaws.{fault_now, fault_later, fault_end, unless_sound}
 use Rattle.hexadecimal.specs.contracts.Reading.{the_type}
 
 pub record Decoded (t o p : List ℕ) (n at : ℕ) (s : Reading) : Type 0 where

@@ -20,7 +20,7 @@ ghost use Rattle.text.specs.Text.{Appended, line};
 ghost use Rattle.hexadecimal.specs.declared.Reading.TheVariants.{Between};
 ghost use Rattle.hexadecimal.specs.Hex.{digit, is_space, first, second, next, is_control, is_text};
 ghost use Rattle.hexadecimal.specs.Hex.{bad_digit, odd_digit, most, decoded, unhexed, has_fault, is_faulty};
-ghost use Rattle.hexadecimal.specs.ReadingLaws.{high_half};
+ghost use Rattle.hexadecimal.specs.Reading.{high_half};
 
 pub use printing::{hex_byte, hex_bytes};
 use text::{append, line};

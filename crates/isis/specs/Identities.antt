@@ -34,3 +34,15 @@ is_known t x = ltb (row_of t x) (row_count t)
 -- the identity x is in the table, and is router j's
 unfoldable pub is_of : (t : List ℕ) (x j : ℕ) → Bool
 is_of t x j = is_known t x && eqb (router t (row_of t x)) j
+
+-- the number in the four bytes at place p, high byte first
+abbrev pub four : (l : List ℕ) (p : ℕ) → ℕ
+four l p = 16777216 * get_or l p 0 + 65536 * get_or l (p + 1) 0 + 256 * get_or l (p + 2) 0 + get_or l (p + 3) 0
+
+-- the routers of the first e rows are below n
+abbrev pub RowsIn : (n : ℕ) (t : List ℕ) (e : ℕ) → Type 0
+RowsIn n t e = (k : ℕ) → k < e → router t k < n
+
+-- row e has the identity x
+abbrev pub has_identity : (t : List ℕ) (x e : ℕ) → Bool
+has_identity t x e = eqb (identity_of t e) x

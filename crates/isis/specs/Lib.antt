@@ -3,10 +3,3 @@ pub mod Identities
 pub mod Lists
 pub mod Isis
 pub mod Rows
-pub mod IdentityLaws
-pub mod ListLaws
-pub mod LoopLaws
-pub mod IsisLaws
-pub mod LowerLaws
-pub mod FillLaws
-pub mod AreaLaws

@@ -5,7 +5,8 @@
 ghost use Rattle.std.specs.Prelude.{◌≡◌, ◌<◌, ◌≤◌, ◌+◌, length};
 ghost use Rattle.area.specs.Refusals.{verdict_number};
 ghost use Rattle.isis.specs.Identities.{row_count, router, rows_refusal, row_of};
-ghost use Rattle.isis.specs.IdentityLaws.{has_identity, four};
+ghost use Rattle.isis.specs.Identities.{four};
+ghost use Rattle.isis.specs.Identities.{has_identity};
 
 use area::bytes::{byte, two};
 use area::refusal::{Refusal, Verdict};

@@ -5,7 +5,7 @@ ghost use Rattle.std.specs.Prelude.{◌≡◌, length};
 ghost use Rattle.area.specs.Limits.{width};
 ghost use Rattle.tlv.specs.Items.{items};
 ghost use Rattle.isis.specs.Identities.{row_count};
-ghost use Rattle.isis.specs.IdentityLaws.{RowsIn};
+ghost use Rattle.isis.specs.Identities.{RowsIn};
 ghost use Rattle.isis.specs.Isis.{area_refusal, no_links, listed};
 ghost use Rattle.isis.specs.Rows.{AllKnown, lowered_row};
 

@@ -5,12 +5,3 @@ pub mod Machine
 pub mod States
 pub mod Run
 pub mod Timely
-pub mod StepLaws
-pub mod StateLaws
-pub mod MoveLaws
-pub mod CallLaws
-pub mod RunLaws
-pub mod HeldLaws
-pub mod OkLaws
-pub mod OrderedLaws
-pub mod TimelyLaws

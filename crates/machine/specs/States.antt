@@ -60,3 +60,10 @@ next_of r a event = next_state (named (state_of r a)) event
 -- by the event router a goes on to its next state, which it has in the record `next`
 abbrev pub Goes : (r : Record) (a : ℕ) (event : Event) (next : Record) → Type 0
 Goes r a event next = (s : State) × (next_of r a event ≡ To s) × (state_of next a ≡ state_number s)
+
+-- the state that an event leads to
+abbrev pub enters : Event → State
+enters Learn = Holding
+enters Release = Ongoing
+enters Write = Ongoing
+enters Finish = Done

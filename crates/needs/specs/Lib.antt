@@ -1,5 +1,2 @@
 -- How many calls a change takes. First the definitions; then the laws about them.
 pub mod Needs
-pub mod CountedLaws
-pub mod ProgressLaws
-pub mod NeedsLaws

@@ -4,10 +4,10 @@ use mathlib.Core.Path.{◌≡◌, ap, ◌∙◌}
 use mathlib.Core.List.{List}
 use lib.ListN.{get_or}
 use Rattle.area.specs.Tables.{per_router}
-use Rattle.area.specs.PerRouterLaws.{per_at}
+use Rattle.area.proofs.PerRouterLaws.{per_at}
 use Rattle.ranks.specs.Rank.{rank}
 use Rattle.order.specs.Order.{telling_by}
-use Rattle.order.specs.OrderLaws.{telling_same, ranks_same}
+use Rattle.order.proofs.OrderLaws.{telling_same, ranks_same}
 
 module _ (w n : ℕ) (f : ℕ → ℕ) (t : List ℕ) (most : n ≤ w) (e : t ≡ per_router w n f) where
   entry_of : (s : ℕ) → s < n → get_or t s 0 ≡ f s

@@ -1,4 +1,3 @@
 -- The order of a change, by next hops alone. First the definitions, in reading order; then the laws about them.
 pub mod Order
-pub mod OrderLaws
-pub mod EnteringLaws
+pub mod Entered

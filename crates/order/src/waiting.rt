@@ -3,7 +3,7 @@ ghost use Rattle.std.specs.Prelude.{◌≡◌, ◌≤◌, ◌<◌, ◌*◌, leng
 ghost use Rattle.area.specs.Limits.{width};
 ghost use Rattle.area.specs.Tables.{cell, per_router};
 ghost use Rattle.order.specs.Order.{waiting_by, telling_by};
-ghost use Rattle.order.specs.EnteringLaws.{Entered};
+ghost use Rattle.order.specs.Entered.{Entered};
 
 use area::limits::{Set, WIDTH};
 use sets::{add, lowest, rest};

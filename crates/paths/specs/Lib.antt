@@ -1,4 +1,3 @@
 -- What Paths answers and fills, as 01 means it: first the definition, then the laws about it.
 pub mod Paths
-pub mod FilledLaws
-pub mod PathsLaws
+pub mod Ready

@@ -17,12 +17,12 @@ use borrow.Author.Tests.{lt-ltb, ne_eqb}
 use Rattle.area.specs.Limits.{width, unused}
 use Rattle.area.specs.Tests.{pick}
 use Rattle.area.specs.Tables.{cell, tabulate}
-use Rattle.area.specs.TestLaws.{look}
-use Rattle.area.specs.TableLaws.{length_tabulate, cell_tabulate, is_tabulate}
+use Rattle.area.proofs.TestLaws.{look}
+use Rattle.area.proofs.TableLaws.{length_tabulate, cell_tabulate, is_tabulate}
 use Rattle.entries.specs.declared.Entry.{Entry}
 use Rattle.entries.specs.Entries.{entry_count, entry_of, from, to, metric, is_for_pair, listed_metric}
-use Rattle.entries.specs.EntryLaws.{entry_count_is, of_pair, given_start, given_more, given_kept, cell_entered}
-use Rattle.changes.specs.ChangeLaws.{Change}
+use Rattle.entries.proofs.EntryLaws.{entry_count_is, of_pair, given_start, given_more, given_kept, cell_entered}
+use Rattle.changes.specs.Sound.{Change}
 use Rattle.plan.specs.NewMetrics.{new_cell, new_metrics}
 
 abbrev pub cell_after : (n : ℕ) (m l : List ℕ) (k i j : ℕ) → ℕ

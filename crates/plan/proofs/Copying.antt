@@ -11,9 +11,9 @@ use lib.ListN.{length, get_or, set, length-set}
 use lib.Seq.{get_or-set_same, get_or-set_other}
 use Rattle.area.specs.Limits.{width, unused}
 use Rattle.area.specs.Tables.{build, cell, tabulate}
-use Rattle.area.specs.TableLaws.{length_build, build_at, is_tabulate}
+use Rattle.area.proofs.TableLaws.{length_build, build_at, is_tabulate}
 use Rattle.plan.specs.NewMetrics.{new_cell}
-use Rattle.plan.specs.MetricLaws.{cell_own, cell_beyond, pair_copied}
+use Rattle.plan.proofs.MetricLaws.{cell_own, cell_beyond, pair_copied}
 use Rattle.plan.specs.Parts.{RowCopied}
 
 -- ---- one row

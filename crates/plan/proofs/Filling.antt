@@ -5,13 +5,14 @@ use Prim.Native.Nat.{ℕ, ◌<◌}
 use mathlib.Core.Path.{◌≡◌, refl, ap, ◌∙◌}
 use mathlib.Core.List.{List}
 use lib.ListN.{get_or}
-use Rattle.entries.specs.EntryLaws.{metric_fits}
+use Rattle.entries.proofs.EntryLaws.{metric_fits}
 use Rattle.paths.specs.Paths.{PathTables, paths_of}
-use Rattle.paths.specs.PathsLaws.{SizedPaths, ready_accepted, tables_filled}
+use Rattle.paths.specs.Ready.{SizedPaths}
+use Rattle.paths.proofs.PathsLaws.{ready_accepted, tables_filled}
 use Rattle.plan.specs.NewMetrics.{new_metrics}
 use Rattle.plan.specs.Plan.{filled}
-use Rattle.plan.specs.MetricLaws.{new_ready}
-use Rattle.plan.specs.PlanLaws.{Plan}
+use Rattle.plan.proofs.MetricLaws.{new_ready}
+use Rattle.plan.specs.Planned.{Plan}
 
 pub filled_is :
     (n : ℕ) (m l : List ℕ)

@@ -4,3 +4,10 @@ pub mod Copying
 pub mod Applying
 pub mod Recording
 pub mod Filling
+pub mod DirectionLaws
+pub mod FilledLaws
+pub mod FreshLaws
+pub mod MetricLaws
+pub mod PlanLaws
+pub mod SameLaws
+pub mod WaitingLaws

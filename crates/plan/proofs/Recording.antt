@@ -11,17 +11,17 @@ use lib.Dec.{eqb}
 use Rattle.area.specs.Limits.{width}
 use Rattle.area.specs.Tests.{pick}
 use Rattle.area.specs.Tables.{cell, per_router}
-use Rattle.area.specs.PerRouterLaws.{per_same}
+use Rattle.area.proofs.PerRouterLaws.{per_same}
 use Rattle.sets.specs.Sets.{bit}
-use Rattle.sets.specs.SetLaws.{set_of_same}
+use Rattle.sets.proofs.SetLaws.{set_of_same}
 use Rattle.order.specs.Order.{waiting_by, telling_by, due_by, order_of, due_table}
-use Rattle.order.specs.OrderLaws.{telling_same, ranks_same, order_waiting, order_telling, order_ranks, due_of_lem}
+use Rattle.order.proofs.OrderLaws.{telling_same, ranks_same, order_waiting, order_telling, order_ranks, due_of_lem}
 use Rattle.plan.specs.Direction.{is_rise}
 use Rattle.changes.specs.Root.{root}
 use Rattle.plan.specs.Waiting.{old_hops, old_fours, new_fours, waiting, telling, due}
 use Rattle.plan.specs.Plan.{Tables, fresh, filled}
-use Rattle.plan.specs.PlanLaws.{filled_size}
-use Rattle.plan.specs.FilledLaws.{filled_old_hops, filled_new_hops, filled_old_fours, filled_new_fours}
+use Rattle.plan.proofs.PlanLaws.{filled_size}
+use Rattle.plan.proofs.FilledLaws.{filled_old_hops, filled_new_hops, filled_old_fours, filled_new_fours}
 use Rattle.plan.specs.Parts.{started}
 
 module _ (n h s : ℕ) (m l : List ℕ) (most : n ≤ width) (c : root l < n) where

@@ -3,11 +3,5 @@ pub mod NewMetrics
 pub mod Direction
 pub mod Waiting
 pub mod Plan
-pub mod MetricLaws
-pub mod DirectionLaws
-pub mod WaitingLaws
-pub mod PlanLaws
-pub mod FreshLaws
-pub mod FilledLaws
-pub mod SameLaws
+pub mod Planned
 pub mod Parts

@@ -2,7 +2,7 @@
 // no other goes a way of its own.
 ghost use Rattle.std.specs.Prelude.{◌≡◌, ◌≤◌, ◌*◌, length};
 ghost use Rattle.area.specs.Limits.{width};
-ghost use Rattle.changes.specs.ChangeLaws.{Sound};
+ghost use Rattle.changes.specs.Sound.{Sound};
 ghost use Rattle.plan.specs.Direction.{is_rise, is_fall};
 ghost use Rattle.plan.specs.Parts.{is_at_most, are_listed_at_most};
 

@@ -9,9 +9,9 @@
 ghost use Rattle.std.specs.Prelude.{◌≡◌, Bool, true, ◌&&◌, ◌||◌, List, ℕ, ◌*◌, length};
 ghost use Rattle.area.specs.Limits.{width};
 ghost use Rattle.area.specs.Refusals.{refusal_number};
-ghost use Rattle.paths.specs.PathsLaws.{Ready};
-ghost use Rattle.changes.specs.ChangeLaws.{Sound};
-ghost use Rattle.plan.specs.PlanLaws.{Listed};
+ghost use Rattle.paths.specs.Ready.{Ready};
+ghost use Rattle.changes.specs.Sound.{Sound};
+ghost use Rattle.plan.specs.Planned.{Listed};
 ghost use Rattle.plan.specs.Plan.{plan_refusal};
 ghost use Rattle.plan.specs.Parts.{Judges, JudgesPlan};
 

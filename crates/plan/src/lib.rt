@@ -22,7 +22,7 @@ ghost use Rattle.order.specs.Order.{order_of, due_table};
 ghost use Rattle.changes.specs.Root.{root};
 ghost use Rattle.plan.specs.Direction.{is_rise};
 ghost use Rattle.plan.specs.Plan.{tables_in, are_tables, plan_refusal, fresh, blank, filled, record_of, tables_of};
-ghost use Rattle.plan.specs.PlanLaws.{Plan, Sized};
+ghost use Rattle.plan.specs.Planned.{Plan, Sized};
 ghost use Rattle.plan.specs.Parts.{started};
 
 use area::limits::{CELLS, Set, WIDTH};

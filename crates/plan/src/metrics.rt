@@ -2,7 +2,7 @@
 ghost use Rattle.std.specs.Prelude.{◌≡◌, [], ◌≤◌, ◌<◌, ◌*◌, length};
 ghost use Rattle.area.specs.Limits.{width};
 ghost use Rattle.area.specs.Tables.{tabulate};
-ghost use Rattle.changes.specs.ChangeLaws.{Sound};
+ghost use Rattle.changes.specs.Sound.{Sound};
 ghost use Rattle.plan.specs.NewMetrics.{new_cell, new_metrics};
 ghost use Rattle.plan.specs.Parts.{RowCopied};
 

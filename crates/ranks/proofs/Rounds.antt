@@ -9,9 +9,9 @@ use mathlib.Core.List.{List}
 use native.Mathlib.Omega.{arith}
 use lib.ListN.{get_or, replicate, length-replicate, get_or-replicate}
 use Rattle.area.specs.Tables.{per_router}
-use Rattle.area.specs.PerRouterLaws.{per_at, per_same, is_per}
+use Rattle.area.proofs.PerRouterLaws.{per_at, per_same, is_per}
 use Rattle.ranks.specs.Rank.{above, longest}
-use Rattle.ranks.specs.RankLaws.{above_same, longest_le, longest_stays}
+use Rattle.ranks.proofs.RankLaws.{above_same, longest_le, longest_stays}
 
 abbrev pub Made : (width n : ℕ) (w : ℕ → ℕ) (h : ℕ) (ranks : List ℕ) → Type 0
 Made width n w h ranks = ranks ≡ per_router width n (longest n w h)

@@ -4,7 +4,7 @@ ghost use Rattle.std.specs.Prelude.{◌≡◌, ◌≤◌, ◌<◌, length};
 ghost use Rattle.area.specs.Limits.{width};
 ghost use Rattle.text.specs.Text.{Appended};
 ghost use Rattle.report.specs.Lines.{is_printed, pair_text, row_lines, route_lines, routes_lines};
-ghost use Rattle.report.specs.ReportLaws.{Full};
+ghost use Rattle.report.specs.Parts.{Full};
 
 use crate::lines::{Path, route_line};
 use area::limits::{Set, UNREACHED, WIDTH};

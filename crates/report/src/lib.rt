@@ -32,7 +32,7 @@ ghost use Rattle.bench_file.specs.Read.{metrics_of};
 ghost use Rattle.text.specs.Text.{Appended};
 ghost use Rattle.prepare.specs.Bench.{tables_at};
 ghost use Rattle.report.specs.Report.{unless_refused, text_of};
-ghost use Rattle.report.specs.ReportLaws.{Within, Ready, lines_by, step_bytes};
+ghost use Rattle.report.specs.Parts.{Within, Ready, lines_by, step_bytes};
 
 use area::limits::{CELLS, MOST_STEPS, STEP, Set, WIDTH};
 use bench_file::Section;

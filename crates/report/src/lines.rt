@@ -7,7 +7,7 @@ ghost use Rattle.text.specs.Text.{Appended, word, field};
 ghost use Rattle.report.specs.Lines.{router_line, answer_text, step_line, path_text, route_line};
 ghost use Rattle.report.specs.Lines.{member_word, member_text, set_text, turn_line};
 ghost use Rattle.report.specs.Lines.{state_word, hold_text, last_wait, wait_text, unfinished_line};
-ghost use Rattle.report.specs.UnfinishedLaws.{times_end};
+ghost use Rattle.report.specs.Parts.{times_end};
 
 use area::limits::{Set, UNREACHED, WIDTH};
 use machine::Answer;

@@ -8,8 +8,8 @@ ghost use Rattle.needs.specs.Needs.{needs};
 ghost use Rattle.sheet.specs.Follow.{each, call_each, call_members, turn, following, sheet_calls};
 ghost use Rattle.text.specs.Text.{Appended};
 ghost use Rattle.report.specs.Lines.{call_lines, step_section};
-ghost use Rattle.report.specs.CallLineLaws.{opening};
-ghost use Rattle.report.specs.ReportLaws.{Counted};
+ghost use Rattle.report.specs.Parts.{opening};
+ghost use Rattle.report.specs.Parts.{Counted};
 
 use crate::hex_lines::{call_line, count_line};
 use area::limits::{MOST_STEPS, Set, WIDTH};

@@ -26,17 +26,18 @@ use native.Mathlib.Omega.{arith}
 use borrow.Author.Tests.{eq-eqb, ne_eqb, eqb-true}
 use lib.Dec.{eqb}
 use Rattle.area.specs.Limits.{width, unused, unreached}
-use Rattle.area.specs.TestLaws.{look, or_cases, or_left, or_right, or_none, same_test}
+use Rattle.area.proofs.TestLaws.{look, or_cases, or_left, or_right, or_none, same_test}
 use Rattle.sets.specs.Sets.{num, bit, added, union}
-use Rattle.sets.specs.SetLaws.{bit_zero, bit_added, bit_union}
+use Rattle.sets.proofs.SetLaws.{bit_zero, bit_added, bit_union}
 use Rattle.topology.specs.Walk.{Walk, stay, link, sum}
 use Rattle.topology.specs.Distance.{distance}
 use Rattle.topology.specs.NextHops.{is_next, next_hops, Next}
-use Rattle.topology.specs.SumLaws.{Within}
-use Rattle.topology.specs.WalkLaws.{Graph, then, sum_then, links_then}
-use Rattle.topology.specs.DistanceLaws.{sum_bound, distance_le, distance_walk, distance_top, distance_self}
-use Rattle.topology.specs.NextHopLaws.{next_true, true_next, same_next_hops, next_near, next_nearer}
-use Rattle.topology.specs.NextHopLaws.{Over, direct, over, over_next, next_over}
+use Rattle.topology.proofs.SumLaws.{Within}
+use Rattle.topology.specs.Graph.{Graph}
+use Rattle.topology.proofs.WalkLaws.{then, sum_then, links_then}
+use Rattle.topology.proofs.DistanceLaws.{sum_bound, distance_le, distance_walk, distance_top, distance_self}
+use Rattle.topology.proofs.NextHopLaws.{next_true, true_next, same_next_hops, next_near, next_nearer}
+use Rattle.topology.proofs.NextHopLaws.{Over, direct, over, over_next, next_over}
 use Rattle.search.specs.Offers.{first_hop, nearer, equal, farther}
 use Rattle.search.specs.Search.{Relaxed, no_link, linked, Turn}
 

@@ -1,3 +1,4 @@
 pub mod Sweep
 pub mod Dijkstra
 pub mod Settling
+pub mod RowsLaws

@@ -13,12 +13,12 @@ use lib.ListN.{length, get_or, set, length-set}
 use lib.Seq.{get_or-set_same, get_or-set_other}
 use Rattle.area.specs.Limits.{width, unused, unreached}
 use Rattle.area.specs.Tables.{build}
-use Rattle.area.specs.TableLaws.{is_build}
+use Rattle.area.proofs.TableLaws.{is_build}
 use Rattle.sets.specs.Sets.{bit, added}
 use Rattle.topology.specs.Topology.{topology}
 use Rattle.topology.specs.Cells.{distance_cell, hop_cell}
-use Rattle.topology.specs.TopologyLaws.{topology_graph}
-use Rattle.topology.specs.CellLaws.{distance_in, distance_out, hops_in, hops_out}
+use Rattle.topology.proofs.TopologyLaws.{topology_graph}
+use Rattle.topology.proofs.CellLaws.{distance_in, distance_out, hops_in, hops_out}
 use Rattle.search.specs.Nearest.{Nearest}
 use Rattle.search.specs.Search.{entry, RowsRelaxed}
 use Rattle.search.proofs.Dijkstra.{count, count_le, count_more}

@@ -1,6 +1,5 @@
 -- The search for one source: what it promises, the laws about that, and what only contracts of private functions cite.
 pub mod Rows
-pub mod RowsLaws
 pub mod Nearest
 pub mod Offers
 pub mod Search

@@ -2,7 +2,3 @@
 pub mod Sets
 pub mod Counts
 pub mod Four
-pub mod SetLaws
-pub mod CountLaws
-pub mod FourLaws
-pub mod VisitLaws

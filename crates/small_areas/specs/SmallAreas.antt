@@ -1,5 +1,5 @@
--- The small areas of 01, "Small areas, checked by hand": one list of inputs and results, and one theorem, that the
--- definitions agree with every row of it.
+-- The small areas of 01, "Small areas, checked by hand": one list of inputs and results. That the
+-- definitions agree with every row of it is proofs/Agreed.antt.
 --     C1 .. C13        the rows of 01's table, each drawn above it
 --     sheets           after them, running sheets (02, No. 1)
 --     orders           lists of changes in several orders (02, No. 2)
@@ -12,7 +12,6 @@
 --     five_next_hops     more next hops than a set of four holds (02, No. 9)
 --     timers           clock, hold-down and due times; files with times and without (02, No. 10)
 --     rehearsed        and all that the rehearsal replies and prints
---     agreed           the theorem
 use Rattle.std.specs.Prelude.{ℕ, zero, suc, ◌/◌, ◌%◌, ◌≡◌, refl, List, [], ◌∷◌, ◌++◌, map, length, take, replicate}
 use Rattle.machine.specs.Answers.{ok, ignored, refused}
 use Rattle.text.specs.Text.{word}
@@ -113,7 +112,7 @@ rehearsal =
     ∷ []
 
 -- the same bytes from `bench`: of C1's links 1–2 goes down, and ten steps follow
-ten_steps : List ℕ
+unfoldable pub ten_steps : List ℕ
 ten_steps =
     learn 1 ++ release 1 ++ write 1 2
     ++ learn 0 ++ release 0 ++ write 0 2 ++ finish 0
@@ -275,7 +274,7 @@ lowest_first =
     case (bench 4 (both 0 1 1 ++ both 1 3 1 ++ both 2 3 1) (link 2 3 2 ++ link 1 3 2) [])
     (ranks is (0 ∷ 1 ∷ 0 ∷ 2 ∷ []) ∷ sheet is places (0 ∷ 1 ∷ 2 ∷ 3 ∷ []) ∷ [])
 
-abbrev sheets : List Case
+abbrev pub sheets : List Case
 sheets = sheet_c1 ∷ sheet_c2 ∷ sheet_c4 ∷ sheet_c9 ∷ lowest_first ∷ []
 
 -- ---- the order of the changes (02, No. 2)
@@ -294,7 +293,7 @@ three_changes changes =
 abbrev two_faults : (changes : List ℕ) (number : ℕ) → Case
 two_faults changes number = case (bench 3 (triangle 3) changes []) (refusal is number ∷ [])
 
-abbrev orders : List Case
+abbrev pub orders : List Case
 orders =
     three_changes (link 1 2 1 ++ link 1 0 1 ++ link 0 1 1)
     ∷ three_changes (link 0 1 1 ++ link 1 2 1 ++ link 1 0 1)
@@ -356,7 +355,7 @@ mixed = case (bench 3 (both 0 1 5 ++ both 0 2 5) (link 0 1 7 ++ link 0 2 3) []) 
 abbrev not_mixed : Case
 not_mixed = case (bench 3 (both 0 1 5 ++ link 0 2 5) (link 0 1 7 ++ link 0 2 3) []) (refusal is 0 ∷ [])
 
-abbrev half_links : List Case
+abbrev pub half_links : List Case
 half_links =
     half_link ∷ half_comes_up ∷ other_comes_up ∷ half_goes_down ∷ smaller_and_down ∷ without_effect ∷ without_common
     ∷ after_entries ∷ before_common ∷ mixed ∷ not_mixed ∷ []
@@ -400,7 +399,7 @@ stored_change =
     case (stored 3 (triangle 3) (both 1 2 down) ten_steps)
     (refusal is 2 ∷ old_refusal is 0 ∷ rewrites is rehearsal ∷ [])
 
-abbrev dead_links : List Case
+abbrev pub dead_links : List Case
 dead_links =
     dead_link ∷ dead_among_live ∷ dead_twice
     ∷ dead_elsewhere (link 0 2 down) 4 4
@@ -454,7 +453,7 @@ after_refusal =
     case (list (entry 0xB 5 []) ++ list (entry 0xC 7 []))
     (isis 2 identities 4_096 is 5 ∷ isis_link 0 1 down ∷ [])
 
-abbrev isis_areas : List Case
+abbrev pub isis_areas : List Case
 isis_areas = both_ends ∷ lowest_entry ∷ dead_entry ∷ after_refusal ∷ []
 
 -- lists of two routers, and the number with which they are refused: 0 where they are not, as for 244 bytes of sub-TLVs
@@ -465,7 +464,7 @@ isis_row lists number = case lists (isis 2 identities 4_096 is number ∷ [])
 abbrev table_order : (n : ℕ) (table : List ℕ) (cells number : ℕ) → Case
 table_order n table cells number = case [] (isis n table cells is number ∷ [])
 
-abbrev isis_faults : List Case
+abbrev pub isis_faults : List Case
 isis_faults =
     isis_row (0x00 ∷ 0x05 ∷ word "abcd") 1
     ∷ isis_row (list (word "ab") ++ list []) 31
@@ -482,7 +481,7 @@ isis_faults =
 
 -- ---- the largest areas (02, No. 7)
 -- the links between router 0 and each of the next k, all of them down
-hub : (k : ℕ) → List ℕ
+unfoldable pub hub : (k : ℕ) → List ℕ
 hub zero = []
 hub (suc k) = hub k ++ both 0 (suc k) down
 
@@ -508,7 +507,7 @@ last_two =
     ∷ isis_metric 64 (row 0xA 62 ++ row 0xB 63) 62 63 is 5
     ∷ isis_metric 64 (row 0xA 62 ++ row 0xB 63) 63 62 is 7 ∷ [])
 
-abbrev largest : List Case
+abbrev pub largest : List Case
 largest = sixty_four ∷ sixty_five ∷ most_changes ∷ more_changes ∷ last_two ∷ []
 
 -- ---- how many calls (02, No. 8)
@@ -559,7 +558,7 @@ all_done =
     ++ release 0 ++ write 0 1 ++ finish 0))
     (all_steps is (ok ∷ ok ∷ ok ∷ ok ∷ ok ∷ ok ∷ ignored ∷ ok ∷ ok ∷ ok ∷ []) ∷ needs is 9 ∷ missing is 0 ∷ [])
 
-abbrev counted : List Case
+abbrev pub counted : List Case
 counted =
     counted_c1 ∷ counted_c4 ∷ counted_c2 ∷ counted_c3
     ∷ other_root (triangle 3) (both 1 2 down) (0 ∷ 1 ∷ 2 ∷ [])
@@ -628,7 +627,7 @@ not_due_waits =
     (root is 4 ∷ old_four 5 4 is 15 ∷ new_set 5 4 is 31 ∷ new_four 5 4 is 15 ∷ due 5 is 0
     ∷ waits is (16 ∷ 16 ∷ 16 ∷ 16 ∷ 0 ∷ 31 ∷ []) ∷ [])
 
-abbrev five_next_hops : List Case
+abbrev pub five_next_hops : List Case
 five_next_hops = five_equal ∷ highest_goes ∷ lowest_goes ∷ not_due_waited_for ∷ not_due_waits ∷ []
 
 -- ---- rank timers (02, No. 10)
@@ -711,7 +710,7 @@ due_times =
     case (timed 300 1_000 2 (both 0 1 1) (both 0 1 down) (tick 0 0 ++ learn 0 ++ tick 0 0 ++ learn 1))
     (due_time 0 is 1_301 ∷ due_time 1 is 302 ∷ [])
 
-abbrev timers : List Case
+abbrev pub timers : List Case
 timers =
     fresh_times ∷ longest_times ∷ no_step_time ∷ no_step_time_first ∷ learn_times ∷ hold_down ∷ by_timer
     ∷ late_message ∷ lost_message ∷ due_times ∷ []
@@ -740,68 +739,21 @@ replied =
 abbrev whole_text : Case
 whole_text = case rehearsal (printed is (router_lines ++ needs_line ++ step_lines) ∷ [])
 
-abbrev rehearsed : List Case
+abbrev pub rehearsed : List Case
 rehearsed = replied ∷ whole_text ∷ []
 
 -- ---- the theorem
-cases : List Case
+unfoldable pub cases : List Case
 cases =
     C1 ∷ C2 ∷ C3 ∷ C4 ∷ C5 ∷ C6 ∷ C7 ∷ C8 ∷ C9 ∷ C10 ∷ C11 ∷ C12 ∷ C13
     ∷ sheets ++ orders ++ half_links ++ dead_links ++ isis_areas ++ isis_faults ++ largest ++ counted ++ five_next_hops
     ++ timers ++ rehearsed
 
 -- the questions of a row, with the definitions' answers
-abbrev answered : (c : Case) → List Result
+abbrev pub answered : (c : Case) → List Result
 answered c = map (λ r. r.asked is answer c.file r.asked) c.results
 
 -- in every row these are its results
-abbrev Agree : (cs : List Case) → Type 0
+abbrev pub Agree : (cs : List Case) → Type 0
 Agree [] = Unit {0}
 Agree (c ∷ cs) = (answered c ≡ c.results) × Agree cs
-
--- The definitions agree with the list: both sides are computed, in each of its 89 rows.
-last_rows : Agree rehearsed
-unfolding answer
-last_rows = (refl, (refl, tt))
-
-timed_rows : Agree (timers ++ rehearsed)
-unfolding answer
-timed_rows = (refl, (refl, (refl, (refl, (refl, (refl, (refl, (refl, (refl, (refl, last_rows))))))))))
-
-five_rows : Agree (five_next_hops ++ timers ++ rehearsed)
-unfolding answer
-five_rows = (refl, (refl, (refl, (refl, (refl, timed_rows)))))
-
-counted_rows : Agree (counted ++ five_next_hops ++ timers ++ rehearsed)
-unfolding answer
-counted_rows = (refl, (refl, (refl, (refl, (refl, (refl, (refl, (refl, (refl, five_rows)))))))))
-
-large_rows : Agree (largest ++ counted ++ five_next_hops ++ timers ++ rehearsed)
-unfolding answer hub
-large_rows = (refl, (refl, (refl, (refl, (refl, counted_rows)))))
-
-isis_rows : Agree (isis_faults ++ largest ++ counted ++ five_next_hops ++ timers ++ rehearsed)
-unfolding answer
-isis_rows = (refl, (refl, (refl, (refl, (refl, (refl, (refl, (refl, (refl, (refl, (refl, (refl, large_rows))))))))))))
-
-dead_rows : Agree (dead_links ++ isis_areas ++ isis_faults ++ largest ++ counted ++ five_next_hops ++ timers ++ rehearsed)
-unfolding answer ten_steps
-dead_rows =
-    (refl, (refl, (refl, (refl, (refl, (refl, (refl, (refl, (refl, (refl, (refl, (refl, (refl, isis_rows)))))))))))))
-
-half_rows :
-    Agree
-    (half_links ++ dead_links ++ isis_areas ++ isis_faults ++ largest ++ counted ++ five_next_hops ++ timers ++ rehearsed)
-unfolding answer
-half_rows = (refl, (refl, (refl, (refl, (refl, (refl, (refl, (refl, (refl, (refl, (refl, dead_rows)))))))))))
-
-others :
-    Agree
-    (sheets ++ orders ++ half_links ++ dead_links ++ isis_areas ++ isis_faults ++ largest ++ counted ++ five_next_hops
-    ++ timers ++ rehearsed)
-unfolding answer
-others = (refl, (refl, (refl, (refl, (refl, (refl, (refl, (refl, (refl, half_rows)))))))))
-
-agreed : Agree cases
-unfolding cases answer
-agreed = (refl, (refl, (refl, (refl, (refl, (refl, (refl, (refl, (refl, (refl, (refl, (refl, (refl, others)))))))))))))

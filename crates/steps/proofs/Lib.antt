@@ -1,2 +1,3 @@
 -- What the proofs of the moves share.
 mod Moving
+pub mod OutcomeLaws

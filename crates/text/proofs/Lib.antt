@@ -1,3 +1,4 @@
 -- What the proofs say of lists and numbers, apart from the code.
 pub mod Copying
 pub mod Spelling
+pub mod TextLaws

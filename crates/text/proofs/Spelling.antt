@@ -13,7 +13,7 @@ use native.Mathlib.Numerals.{add-one}
 use lib.ListN.{length, take, drop, set, length-set, length-drop, drop_of_length-le}
 use lib.Seq.{take_all, drop-cons, drop-set-lt, get_or-set_same}
 use Rattle.text.specs.Text.{Appended, digits, decimal}
-use Rattle.text.specs.TextLaws.{digits_one, digits_more, shorter}
+use Rattle.text.proofs.TextLaws.{digits_one, digits_more, shorter}
 
 pub record Spelled (x : ℕ) (d : List ℕ) (from rest : ℕ) : Type 0 where
   pub size : length d ≡ 20

@@ -1,3 +1,2 @@
 -- What the contracts of `text` say. First the definitions, then the laws about them.
 pub mod Text
-pub mod TextLaws

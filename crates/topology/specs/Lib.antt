@@ -21,11 +21,4 @@ pub mod Walk
 pub mod Distance
 pub mod NextHops
 pub mod Cells
-pub mod WalkLaws
-pub mod SumLaws
-pub mod DistanceLaws
-pub mod ReversalLaws
-pub mod NextHopLaws
-pub mod TopologyLaws
-pub mod CellLaws
-pub mod LargestLaws
+pub mod Graph

@@ -22,3 +22,7 @@ is_link n m i j =
 -- The topology of this area: the usable metric of (i, j) is the table's where the link is used.
 unfoldable pub topology : (n : ℕ) (m : List ℕ) → Topology
 topology n m i j = pick (is_link n m i j) (cell width m i j) unused
+
+-- a topology with every link turned round
+abbrev pub turned : (g : Topology) → Topology
+turned g i j = g j i

@@ -23,18 +23,18 @@ use mathlib.Core.Logic.{◌≢◌, ◌↔◌, ◌⊎◌, inl, inr, ⊎_elim}
 use native.Mathlib.Decide.{dec_lt, ℕ_discrete}
 use native.Mathlib.Omega.{arith}
 use Rattle.area.specs.Limits.{width, unused, unreached}
-use Rattle.area.specs.TestLaws.{look, or_cases, or_left, or_right, or_false, same_test}
+use Rattle.area.proofs.TestLaws.{look, or_cases, or_left, or_right, or_false, same_test}
 use Rattle.sets.specs.Sets.{bit, added, union}
-use Rattle.sets.specs.SetLaws.{bit_zero, bit_union, added_cases}
+use Rattle.sets.proofs.SetLaws.{bit_zero, bit_union, added_cases}
 use Rattle.sets.specs.Counts.{size}
-use Rattle.sets.specs.CountLaws.{size_added, size_le, size_most}
+use Rattle.sets.proofs.CountLaws.{size_added, size_le, size_most}
 use Rattle.topology.specs.Walk.{Walk, stay, link, sum}
 use Rattle.topology.specs.Distance.{distance}
 use Rattle.topology.specs.NextHops.{is_next, next_hops, Next}
-use Rattle.topology.specs.SumLaws.{Within}
-use Rattle.topology.specs.WalkLaws.{Graph}
-use Rattle.topology.specs.DistanceLaws.{sum_bound, distance_le, distance_walk, distance_top}
-use Rattle.topology.specs.NextHopLaws.{next_true, true_next, same_next_hops, next_nearer}
+use Rattle.topology.proofs.SumLaws.{Within}
+use Rattle.topology.specs.Graph.{Graph}
+use Rattle.topology.proofs.DistanceLaws.{sum_bound, distance_le, distance_walk, distance_top}
+use Rattle.topology.proofs.NextHopLaws.{next_true, true_next, same_next_hops, next_nearer}
 use Rattle.trees.specs.Turns.{Best}
 
 -- ---- the invariant

@@ -19,20 +19,20 @@ use lib.Dec.{ltb}
 use borrow.Author.Tests.{ltb-true, lt-ltb, not-true}
 use Rattle.area.specs.Limits.{width, unused, unreached}
 use Rattle.area.specs.Tables.{build, cell, per_router}
-use Rattle.area.specs.TableLaws.{is_build}
-use Rattle.area.specs.PerRouterLaws.{per_at}
+use Rattle.area.proofs.TableLaws.{is_build}
+use Rattle.area.proofs.PerRouterLaws.{per_at}
 use Rattle.area.specs.Tests.{lowest}
-use Rattle.area.specs.TestLaws.{both_true, and_true, or_cases, or_left, or_right, or_false}
-use Rattle.area.specs.LowestLaws.{lowest_passes, lowest_below}
+use Rattle.area.proofs.TestLaws.{both_true, and_true, or_cases, or_left, or_right, or_false}
+use Rattle.area.proofs.LowestLaws.{lowest_passes, lowest_below}
 use Rattle.sets.specs.Sets.{bit, added, union, without}
-use Rattle.sets.specs.SetLaws.{bit_zero, bit_lt, bit_set_of, set_of_lt, bit_union, bit_without}
-use Rattle.sets.specs.SetLaws.{added_self, added_cases, no_members, union_lt}
+use Rattle.sets.proofs.SetLaws.{bit_zero, bit_lt, bit_set_of, set_of_lt, bit_union, bit_without}
+use Rattle.sets.proofs.SetLaws.{added_self, added_cases, no_members, union_lt}
 use Rattle.sets.specs.Counts.{size}
-use Rattle.sets.specs.CountLaws.{size_most}
+use Rattle.sets.proofs.CountLaws.{size_most}
 use Rattle.topology.specs.Topology.{topology}
 use Rattle.topology.specs.Cells.{distance_cell, hop_cell}
-use Rattle.topology.specs.TopologyLaws.{topology_graph, metric_link, link_metric}
-use Rattle.topology.specs.CellLaws.{distance_in, distance_out, hops_in, hops_out}
+use Rattle.topology.proofs.TopologyLaws.{topology_graph, metric_link, link_metric}
+use Rattle.topology.proofs.CellLaws.{distance_in, distance_out, hops_in, hops_out}
 use Rattle.trees.specs.Turns.{entry, links_to, Nearest, Offers, Turned}
 use Rattle.trees.proofs.Offering.{best_as}
 use Rattle.trees.proofs.Dijkstra.{Front, Next-to, Offering, begin, bound, grows, step, distances, nexts}

@@ -2,3 +2,4 @@ pub mod Offering
 pub mod Turning
 pub mod Dijkstra
 pub mod Growing
+pub mod TreesLaws

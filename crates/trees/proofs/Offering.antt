@@ -10,9 +10,9 @@ use native.Mathlib.Omega.{arith}
 use borrow.Author.Tests.{eq-eqb, eqb-true}
 use lib.Dec.{eqb}
 use Rattle.area.specs.Limits.{width}
-use Rattle.area.specs.TestLaws.{or_cases, or_left, or_right}
+use Rattle.area.proofs.TestLaws.{or_cases, or_left, or_right}
 use Rattle.sets.specs.Sets.{bit, added, union}
-use Rattle.sets.specs.SetLaws.{bit_zero, bit_added, bit_union}
+use Rattle.sets.proofs.SetLaws.{bit_zero, bit_added, bit_union}
 use Rattle.trees.specs.Turns.{Offered, nearer, equal, farther, Best}
 
 pub best_none : {Q : ℕ → Type 0} (f : ℕ → ℕ) (x h : ℕ) → ((q : ℕ) → Q q → ⊥) → Best Q f x h x h

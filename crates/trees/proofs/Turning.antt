@@ -17,11 +17,11 @@ use borrow.Author.Tests.{not-true}
 use Rattle.area.specs.Limits.{width, unreached}
 use Rattle.area.specs.Tables.{cell}
 use Rattle.area.specs.Tests.{lowest}
-use Rattle.area.specs.TestLaws.{look, both_true, and_true, or_cases, or_left, or_right}
+use Rattle.area.proofs.TestLaws.{look, both_true, and_true, or_cases, or_left, or_right}
 use Rattle.sets.specs.Sets.{bit, union, without}
-use Rattle.sets.specs.SetLaws.{bit_zero, bit_lt, bit_union, bit_without, without_lt, member_some}
+use Rattle.sets.proofs.SetLaws.{bit_zero, bit_lt, bit_union, bit_without, without_lt, member_some}
 use Rattle.sets.specs.Four.{beyond}
-use Rattle.sets.specs.VisitLaws.{visit_member, visit_left, visit_gone, visit_less}
+use Rattle.sets.proofs.VisitLaws.{visit_member, visit_left, visit_gone, visit_less}
 use Rattle.trees.specs.Turns.{entry, Relaxed, Offers, Best, Turned}
 use Rattle.trees.proofs.Offering.{best_none, best_as, best_more}
 

@@ -1,3 +1,2 @@
 -- What the program writes. First the definitions, then the laws about them.
 pub mod Unhex
-pub mod UnhexLaws

@@ -1,6 +1,6 @@
 -- `append_area` has two returns: there is no area, and nothing is appended; or its lines are, one after another.
 use borrow.Author.Rules.{rules}
-use Rattle.area_file.specs.LineLaws.{area_sized, area_none, area_appended}
+use Rattle.area_file.proofs.LineLaws.{area_sized, area_none, area_appended}
 use Rattle.area_file.proofs.append_area.Statement.{statement}
 use Rattle.area_file.proofs.append_area.Tie as tie
 

@@ -1,7 +1,7 @@
 -- One law for each return: the cell is a link, or nothing is appended.
 use native.Mathlib.Omega.{arith}
 use borrow.Author.Rules.{rules}
-use Rattle.area_file.specs.LineLaws.{listed_used, cell_listed, cell_none}
+use Rattle.area_file.proofs.LineLaws.{listed_used, cell_listed, cell_none}
 use Rattle.area_file.proofs.cell_line.Statement.{statement}
 use Rattle.area_file.proofs.cell_line.Tie as tie
 

@@ -1,6 +1,6 @@
 -- The two bytes, and then the comment.
 use borrow.Author.Rules.{rules}
-use Rattle.area_file.specs.LineLaws.{count_appended}
+use Rattle.area_file.proofs.LineLaws.{count_appended}
 use Rattle.area_file.proofs.count_line.Statement.{statement}
 use Rattle.area_file.proofs.count_line.Tie as tie
 

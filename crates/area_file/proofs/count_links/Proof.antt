@@ -6,7 +6,7 @@ use native.Mathlib.Omega.{arith}
 use lib.ListN.{length}
 use Rattle.area.specs.Limits.{width}
 use Rattle.area_file.specs.AreaFile.{listed}
-use Rattle.area_file.specs.LineLaws.{counted_none, counted_more, counted_less}
+use Rattle.area_file.proofs.LineLaws.{counted_none, counted_more, counted_less}
 use Rattle.area_file.proofs.count_links.Statement.{statement}
 use Rattle.area_file.proofs.count_links.Tie as tie
 

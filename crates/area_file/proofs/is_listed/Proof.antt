@@ -1,5 +1,5 @@
 -- One law for each return.
-use Rattle.area_file.specs.LineLaws.{listed_beyond, listed_own, listed_told}
+use Rattle.area_file.proofs.LineLaws.{listed_beyond, listed_own, listed_told}
 use Rattle.area_file.proofs.is_listed.Statement.{statement}
 use Rattle.area_file.proofs.is_listed.Tie as tie
 

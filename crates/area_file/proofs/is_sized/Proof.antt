@@ -1,5 +1,5 @@
 -- One law for each return.
-use Rattle.area_file.specs.LineLaws.{area_low, area_high, area_told}
+use Rattle.area_file.proofs.LineLaws.{area_low, area_high, area_told}
 use Rattle.area_file.proofs.is_sized.Statement.{statement}
 use Rattle.area_file.proofs.is_sized.Tie as tie
 

@@ -1,6 +1,6 @@
 -- The parts, one after another.
 use borrow.Author.Rules.{rules}
-use Rattle.area_file.specs.LineLaws.{last_appended}
+use Rattle.area_file.proofs.LineLaws.{last_appended}
 use Rattle.area_file.proofs.last_lines.Statement.{statement}
 use Rattle.area_file.proofs.last_lines.Tie as tie
 

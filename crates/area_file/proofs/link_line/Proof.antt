@@ -1,6 +1,6 @@
 -- The five bytes, and then the comment.
 use borrow.Author.Rules.{rules}
-use Rattle.area_file.specs.LineLaws.{link_appended}
+use Rattle.area_file.proofs.LineLaws.{link_appended}
 use Rattle.area_file.proofs.link_line.Statement.{statement}
 use Rattle.area_file.proofs.link_line.Tie as tie
 

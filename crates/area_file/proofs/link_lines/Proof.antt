@@ -6,7 +6,7 @@ use lib.ListN.{length}
 use Rattle.area.specs.Limits.{width}
 use Rattle.text.specs.Text.{Appended}
 use Rattle.area_file.specs.AreaFile.{listed, link_lines}
-use Rattle.area_file.specs.LineLaws.{lines_start, lines_next}
+use Rattle.area_file.proofs.LineLaws.{lines_start, lines_next}
 use Rattle.area_file.proofs.link_lines.Statement.{statement}
 use Rattle.area_file.proofs.link_lines.Tie as tie
 

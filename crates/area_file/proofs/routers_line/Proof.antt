@@ -1,6 +1,6 @@
 -- The byte, and then the comment.
 use borrow.Author.Rules.{rules}
-use Rattle.area_file.specs.LineLaws.{routers_appended}
+use Rattle.area_file.proofs.LineLaws.{routers_appended}
 use Rattle.area_file.proofs.routers_line.Statement.{statement}
 use Rattle.area_file.proofs.routers_line.Tie as tie
 

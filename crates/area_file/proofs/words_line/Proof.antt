@@ -1,6 +1,6 @@
 -- The parts, one after another.
 use borrow.Author.Rules.{rules}
-use Rattle.area_file.specs.LineLaws.{words_appended}
+use Rattle.area_file.proofs.LineLaws.{words_appended}
 use Rattle.area_file.proofs.words_line.Statement.{statement}
 use Rattle.area_file.proofs.words_line.Tie as tie
 

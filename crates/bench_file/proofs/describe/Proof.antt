@@ -7,7 +7,7 @@ use borrow.Author.Rules.{rules}
 use Rattle.bench_file.specs.declared.Format.{Format}
 use Rattle.bench_file.specs.Formats.{times_size, time_at}
 use Rattle.bench_file.specs.Sections.{routers, link_count, change_count, hold_time, step_time, step_count}
-use Rattle.bench_file.specs.FaultLaws.{read_changes, times_place, read_steps}
+use Rattle.bench_file.proofs.FaultLaws.{read_changes, times_place, read_steps}
 use Rattle.bench_file.specs.declared.Contents.{Contents}
 use Rattle.bench_file.specs.Read.{contents}
 use Rattle.bench_file.proofs.describe.Statement.{statement}

@@ -14,7 +14,7 @@ use Rattle.bench_file.specs.declared.Format.{Format}
 use Rattle.bench_file.specs.declared.Contents.{Contents}
 use Rattle.bench_file.specs.Faults.{file_refusal}
 use Rattle.bench_file.specs.Read.{contents, no_contents, contents_by}
-use Rattle.bench_file.specs.ReadLaws.{by_refused, by_accepted}
+use Rattle.bench_file.proofs.ReadLaws.{by_refused, by_accepted}
 use Rattle.bench_file.proofs.examine.Statement.{statement}
 use Rattle.bench_file.proofs.examine.Tie as tie
 

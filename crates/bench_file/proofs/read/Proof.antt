@@ -15,18 +15,19 @@ use lib.ListN.{length, take, drop, length-drop}
 use lib.Seq.{take_all}
 use Rattle.area.specs.Limits.{width}
 use Rattle.area.specs.Refusals.{table_size, verdict_number}
-use Rattle.area.specs.SizeLaws.{router_count_most}
+use Rattle.area.proofs.SizeLaws.{router_count_most}
 use Rattle.bench_file.specs.Sections.{routers, link_count, links}
 use Rattle.bench_file.specs.Faults.{file_refusal}
-use Rattle.bench_file.specs.FaultLaws.{Accepted, accepted_of}
+use Rattle.bench_file.proofs.FaultLaws.{Accepted, accepted_of}
 use Rattle.bench_file.specs.declared.BenchFile.{BenchFile}
 use Rattle.bench_file.specs.declared.Contents.{Contents}
 use Rattle.bench_file.specs.declared.Format.TheVariants.{New}
 use Rattle.bench_file.specs.Read.{read_refusal, contents, no_contents, contents_by, contents_of, linked, metrics_of}
-use Rattle.bench_file.specs.ReadLaws.{InTable, linked_clear, read_size, read_file}
-use Rattle.bench_file.specs.ReadLaws.{contents_refused, contents_accepted}
-use Rattle.bench_file.specs.ReadLaws.{by_refused, by_accepted, metrics_kept, metrics_refused, metrics_accepted}
-use Rattle.bench_file.specs.FileLaws.{contents_links}
+use Rattle.bench_file.specs.Read.{InTable}
+use Rattle.bench_file.proofs.ReadLaws.{linked_clear, read_size, read_file}
+use Rattle.bench_file.proofs.ReadLaws.{contents_refused, contents_accepted}
+use Rattle.bench_file.proofs.ReadLaws.{by_refused, by_accepted, metrics_kept, metrics_refused, metrics_accepted}
+use Rattle.bench_file.proofs.FileLaws.{contents_links}
 use Rattle.bench_file.proofs.read.Statement.{statement}
 use Rattle.bench_file.proofs.read.Tie as tie
 

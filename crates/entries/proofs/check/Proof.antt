@@ -1,6 +1,6 @@
 -- Each return gives the refusal of the tests that led to it.
 use mathlib.Core.Path.{sym}
-use Rattle.entries.specs.EntryLaws.{faulty_from, faulty_to, faulty_self, faulty_metric, faultless}
+use Rattle.entries.proofs.EntryLaws.{faulty_from, faulty_to, faulty_self, faulty_metric, faultless}
 use Rattle.entries.proofs.check.Statement.{statement}
 use Rattle.entries.proofs.check.Tie as tie
 

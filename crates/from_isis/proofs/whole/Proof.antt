@@ -4,8 +4,8 @@ use native.Mathlib.Omega.{arith}
 use borrow.Author.Rules.{rules}
 use lib.ListN.{length}
 use Rattle.area_file.specs.FromIsis.{isis_text}
-use Rattle.area_file.specs.FromIsisLaws.{isis_room, isis_first}
-use Rattle.streams.specs.StreamLaws.{whole_bytes}
+use Rattle.area_file.proofs.FromIsisLaws.{isis_room, isis_first}
+use Rattle.streams.proofs.StreamLaws.{whole_bytes}
 use Rattle.from_isis.proofs.whole.Statement.{statement}
 use Rattle.from_isis.proofs.whole.Tie as tie
 

@@ -1,8 +1,8 @@
 -- Each range of bytes has its law.
 use native.Mathlib.Omega.{arith}
 use borrow.Author.Rules.{rules}
-use Rattle.hexadecimal.specs.ReadingLaws.{digit_decimal, digit_upper, digit_lower}
-use Rattle.hexadecimal.specs.ReadingLaws.{digit_low, digit_middle, digit_between, digit_high}
+use Rattle.hexadecimal.proofs.ReadingLaws.{digit_decimal, digit_upper, digit_lower}
+use Rattle.hexadecimal.proofs.ReadingLaws.{digit_low, digit_middle, digit_between, digit_high}
 use Rattle.hexadecimal.proofs.digit.Statement.{statement}
 use Rattle.hexadecimal.proofs.digit.Tie as tie
 

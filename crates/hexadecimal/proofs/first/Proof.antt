@@ -1,6 +1,6 @@
 -- Each return has its law.
 use borrow.Author.Rules.{rules}
-use Rattle.hexadecimal.specs.ReadingLaws.{first_digit, first_space, first_hash, first_bad}
+use Rattle.hexadecimal.proofs.ReadingLaws.{first_digit, first_space, first_hash, first_bad}
 use Rattle.hexadecimal.proofs.first.Statement.{statement}
 use Rattle.hexadecimal.proofs.first.Tie as tie
 

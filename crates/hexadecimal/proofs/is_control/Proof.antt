@@ -1,6 +1,6 @@
 -- White space is no control byte; of the other bytes those below 32 are.
 use borrow.Author.Rules.{rules}
-use Rattle.hexadecimal.specs.BinaryLaws.{control_space, control_other}
+use Rattle.hexadecimal.proofs.BinaryLaws.{control_space, control_other}
 use Rattle.hexadecimal.proofs.is_control.Statement.{statement}
 use Rattle.hexadecimal.proofs.is_control.Tie as tie
 

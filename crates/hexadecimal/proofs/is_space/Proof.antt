@@ -1,7 +1,7 @@
 -- The bytes from 9 to 13, and 32.
 use native.Mathlib.Omega.{arith}
 use borrow.Author.Rules.{rules}
-use Rattle.hexadecimal.specs.ReadingLaws.{space_line, space_space, space_low, space_other}
+use Rattle.hexadecimal.proofs.ReadingLaws.{space_line, space_space, space_low, space_other}
 use Rattle.hexadecimal.proofs.is_space.Statement.{statement}
 use Rattle.hexadecimal.proofs.is_space.Tie as tie
 

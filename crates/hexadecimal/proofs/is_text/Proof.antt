@@ -4,7 +4,7 @@ use Prim.Native.Nat.{◌-◌, ◌≤◌}
 use native.Mathlib.Omega.{arith}
 use lib.ListN.{length, drop}
 use Rattle.hexadecimal.specs.Hex.{is_text}
-use Rattle.hexadecimal.specs.BinaryLaws.{text_more, text_end, text_control}
+use Rattle.hexadecimal.proofs.BinaryLaws.{text_more, text_end, text_control}
 use Rattle.hexadecimal.proofs.is_text.Statement.{statement}
 use Rattle.hexadecimal.proofs.is_text.Tie as tie
 

@@ -1,6 +1,6 @@
 -- Each return has its law.
 use borrow.Author.Rules.{rules}
-use Rattle.hexadecimal.specs.ReadingLaws.{second_digit, second_space, second_hash, second_bad}
+use Rattle.hexadecimal.proofs.ReadingLaws.{second_digit, second_space, second_hash, second_bad}
 use Rattle.hexadecimal.proofs.second.Statement.{statement}
 use Rattle.hexadecimal.proofs.second.Tie as tie
 

@@ -1,7 +1,8 @@
 -- The reading before decides which law holds.
 use mathlib.Core.Path.{refl}
 use borrow.Author.Rules.{rules}
-use Rattle.hexadecimal.specs.ReadingLaws.{high_half, comment_ends, comment_lasts}
+use Rattle.hexadecimal.specs.Reading.{high_half}
+use Rattle.hexadecimal.proofs.ReadingLaws.{comment_ends, comment_lasts}
 use Rattle.hexadecimal.specs.Hex.{next}
 use Rattle.hexadecimal.proofs.step.Statement.{statement}
 use Rattle.hexadecimal.proofs.step.Tie as tie

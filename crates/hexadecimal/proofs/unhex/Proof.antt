@@ -5,8 +5,8 @@ use native.Mathlib.Omega.{arith}
 use borrow.Author.Rules.{rules}
 use lib.ListN.{length}
 use Rattle.hexadecimal.specs.Hex.{most}
-use Rattle.hexadecimal.specs.HexLaws.{unhexed_long, unhexed_decoded}
-use Rattle.hexadecimal.specs.FaultLaws.{faulty_long, faulty_decoded}
+use Rattle.hexadecimal.proofs.HexLaws.{unhexed_long, unhexed_decoded}
+use Rattle.hexadecimal.proofs.FaultLaws.{faulty_long, faulty_decoded}
 use Rattle.hexadecimal.proofs.unhex.Statement.{statement}
 use Rattle.hexadecimal.proofs.unhex.Tie as tie
 

@@ -1,6 +1,6 @@
 -- A law for each return.
 use borrow.Author.Rules.{rules}
-use Rattle.isis.specs.IsisLaws.{area_few, area_many, rows_refused, rows_accepted}
+use Rattle.isis.proofs.IsisLaws.{area_few, area_many, rows_refused, rows_accepted}
 use Rattle.isis.proofs.judge.Statement.{statement}
 use Rattle.isis.proofs.judge.Tie as tie
 

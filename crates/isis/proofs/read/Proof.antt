@@ -5,8 +5,8 @@ use native.Mathlib.Omega.{arith}
 use borrow.Author.Rules.{rules}
 use lib.ListN.{length}
 use Rattle.area.specs.Limits.{width}
-use Rattle.isis.specs.IsisLaws.{isis_size, metrics_kept, read_clear, read_answer, read_none}
-use Rattle.isis.specs.IsisLaws.{read_filled, read_refused}
+use Rattle.isis.proofs.IsisLaws.{isis_size, metrics_kept, read_clear, read_answer, read_none}
+use Rattle.isis.proofs.IsisLaws.{read_filled, read_refused}
 use Rattle.isis.proofs.read.Statement.{statement}
 use Rattle.isis.proofs.read.Tie as tie
 

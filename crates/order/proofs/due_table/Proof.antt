@@ -8,7 +8,7 @@ use lib.ListN.{length, replicate}
 use Rattle.area.specs.Limits.{width}
 use Rattle.area.specs.Tables.{cell, per_router}
 use Rattle.order.specs.Order.{due_by, due_table}
-use Rattle.order.specs.OrderLaws.{due_many, due_old, due_new, due_of_lem}
+use Rattle.order.proofs.OrderLaws.{due_many, due_old, due_new, due_of_lem}
 use Rattle.order.proofs.due_table.Statement.{statement}
 use Rattle.order.proofs.due_table.Tie as tie
 

@@ -8,7 +8,7 @@ use lib.Dec.{eqb}
 use lib.ListN.{length}
 use Rattle.area.specs.Limits.{width}
 use Rattle.order.specs.Order.{is_orderable}
-use Rattle.order.specs.OrderLaws.{orderable_many, orderable_root, orderable_old, orderable_last}
+use Rattle.order.proofs.OrderLaws.{orderable_many, orderable_root, orderable_old, orderable_last}
 use Rattle.order.proofs.is_orderable.Statement.{statement}
 use Rattle.order.proofs.is_orderable.Tie as tie
 

@@ -9,7 +9,7 @@ use lib.ListN.{length}
 use Rattle.area.specs.Limits.{width}
 use Rattle.order.specs.declared.Order.{Order}
 use Rattle.order.specs.Order.{is_orderable, ordered, no_order, order_of}
-use Rattle.order.specs.OrderLaws.{orderable_sizes, order_of_lem, order_none}
+use Rattle.order.proofs.OrderLaws.{orderable_sizes, order_of_lem, order_none}
 use Rattle.order.proofs.order_of.Statement.{statement}
 use Rattle.order.proofs.order_of.Tie as tie
 

@@ -9,7 +9,7 @@ use lib.ListN.{get_or}
 use Rattle.area.specs.Limits.{width}
 use Rattle.area.specs.Tables.{cell, per_router}
 use Rattle.ranks.specs.Rank.{ranks_of}
-use Rattle.ranks.specs.RankLaws.{ranks_in}
+use Rattle.ranks.proofs.RankLaws.{ranks_in}
 use Rattle.order.specs.Order.{waiting_by, telling_by, ordered}
 use Rattle.order.proofs.Converse.{converse_of, ranks_of_lem}
 use Rattle.order.proofs.ordered.Statement.{statement}

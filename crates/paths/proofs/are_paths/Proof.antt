@@ -7,7 +7,7 @@ use Prim.Native.Nat.{ℕ, ◌*◌}
 use lib.Dec.{eqb}
 use lib.ListN.{length}
 use Rattle.area.specs.Limits.{width}
-use Rattle.area.specs.SizeLaws.{table_true, table_false, table_is}
+use Rattle.area.proofs.SizeLaws.{table_true, table_false, table_is}
 use Rattle.paths.specs.Paths.{are_paths}
 use Rattle.paths.proofs.are_paths.Statement.{statement}
 use Rattle.paths.proofs.are_paths.Tie as tie

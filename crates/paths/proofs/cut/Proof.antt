@@ -4,7 +4,7 @@ use Prim.Native.Nat.{◌-◌, ◌*◌, ◌≤◌}
 use native.Mathlib.Omega.{arith}
 use lib.ListN.{length, get_or, length-set}
 use Rattle.area.specs.Limits.{width}
-use Rattle.area.specs.TableLaws.{Front, front_none, front_more, is_build}
+use Rattle.area.proofs.TableLaws.{Front, front_none, front_more, is_build}
 use Rattle.sets.specs.Four.{four}
 use Rattle.paths.proofs.cut.Statement.{statement}
 use Rattle.paths.proofs.cut.Tie as tie

@@ -5,9 +5,9 @@ use Prim.Native.Nat.{◌-◌, ◌<◌, ◌≤◌}
 use native.Mathlib.Omega.{arith}
 use borrow.Author.Rules.{rules}
 use Rattle.area.specs.Limits.{width}
-use Rattle.area.specs.RowLaws.{lent_length, Rows, rows_none, rows_more, rows_all}
+use Rattle.area.proofs.RowLaws.{lent_length, Rows, rows_none, rows_more, rows_all}
 use Rattle.topology.specs.Cells.{distance_cell, hop_cell}
-use Rattle.search.specs.RowsLaws.{sizes_true, distances_row, hops_row}
+use Rattle.search.proofs.RowsLaws.{sizes_true, distances_row, hops_row}
 use Rattle.paths.proofs.fill.Statement.{statement}
 use Rattle.paths.proofs.fill.Tie as tie
 

@@ -2,8 +2,8 @@
 use mathlib.Core.Path.{sym, ◌∙◌}
 use native.Mathlib.Omega.{arith}
 use borrow.Author.Rules.{rules}
-use Rattle.area.specs.SizeLaws.{router_count_true, router_count_low, router_count_high, table_true, table_false}
-use Rattle.paths.specs.PathsLaws.{area_uncounted, area_unsized, area_metrics}
+use Rattle.area.proofs.SizeLaws.{router_count_true, router_count_low, router_count_high, table_true, table_false}
+use Rattle.paths.proofs.PathsLaws.{area_uncounted, area_unsized, area_metrics}
 use Rattle.paths.proofs.is_area.Statement.{statement}
 use Rattle.paths.proofs.is_area.Tie as tie
 

@@ -15,17 +15,17 @@ use lib.ListN.{length, get_or}
 use Rattle.area.specs.Limits.{width}
 use Rattle.area.specs.Refusals.{router_count, bad_metric, table_size}
 use Rattle.area.specs.Tables.{build, tabulate}
-use Rattle.area.specs.TableLaws.{length_tabulate}
-use Rattle.area.specs.TestLaws.{and_true, and_false}
+use Rattle.area.proofs.TableLaws.{length_tabulate}
+use Rattle.area.proofs.TestLaws.{and_true, and_false}
 use Rattle.area.specs.Sizes.{is_router_count, is_table}
-use Rattle.area.specs.SizeLaws.{router_count_true, router_count_low, router_count_high, table_true, table_false}
+use Rattle.area.proofs.SizeLaws.{router_count_true, router_count_low, router_count_high, table_true, table_false}
 use Rattle.sets.specs.Four.{four}
 use Rattle.topology.specs.Cells.{distance_cell, hop_cell}
 use Rattle.paths.specs.Paths.{PathTables, paths_in, are_paths, are_metrics, paths_refusal, filled_paths, paths_of}
-use Rattle.paths.specs.FilledLaws.{fours_mapped}
-use Rattle.paths.specs.PathsLaws.{sized_paths_of}
-use Rattle.paths.specs.PathsLaws.{refused_count, refused_tables, refused_metrics, accepted}
-use Rattle.paths.specs.PathsLaws.{tables_kept, tables_filled}
+use Rattle.paths.proofs.FilledLaws.{fours_mapped}
+use Rattle.paths.proofs.PathsLaws.{sized_paths_of}
+use Rattle.paths.proofs.PathsLaws.{refused_count, refused_tables, refused_metrics, accepted}
+use Rattle.paths.proofs.PathsLaws.{tables_kept, tables_filled}
 use Rattle.paths.proofs.paths.Statement.{statement}
 use Rattle.paths.proofs.paths.Tie as tie
 

@@ -8,7 +8,7 @@ use borrow.Author.Rules.{rules}
 use borrow.Author.Tests.{not-true, not-false}
 use lib.ListN.{length}
 use Rattle.area.specs.Limits.{width}
-use Rattle.area.specs.SizeLaws.{table_true, table_false}
+use Rattle.area.proofs.SizeLaws.{table_true, table_false}
 use Rattle.paths.specs.Paths.{PathTables, are_paths}
 use Rattle.plan.specs.Plan.{are_tables}
 use Rattle.plan.proofs.are_tables.Statement.{statement}

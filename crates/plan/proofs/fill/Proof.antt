@@ -2,7 +2,7 @@
 use mathlib.Core.Path.{◌∙◌}
 use native.Mathlib.Omega.{arith}
 use borrow.Author.Rules.{rules}
-use Rattle.plan.specs.FreshLaws.{plan_root}
+use Rattle.plan.proofs.FreshLaws.{plan_root}
 use Rattle.plan.proofs.Recording.{fresh_is}
 use Rattle.plan.proofs.fill.Statement.{statement}
 use Rattle.plan.proofs.fill.Tie as tie

@@ -53,7 +53,7 @@ returns c =
     let way = c.before.before.before.before in
     let made = way.before.order_of_lem in
     let a = way.before.before.before.before.before.before.args in
-    let order = order_of a.n a.root a.rising a.old_hops_lem.now a.new_hops_lem.now in
+    let order = order_of a.n a.root a.rising a.old_hops.now a.new_hops.now in
     let due = due_table a.n a.old-fours.now a.new-fours.now in
     started-is a.n a.hold-time a.step-time a.root way.if1.t22 a.rising made.result order
     c.due-table.result due

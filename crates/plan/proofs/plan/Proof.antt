@@ -12,8 +12,8 @@ use lib.Dec.{eqb}
 use Rattle.area.specs.declared.refusal.Verdict.{Verdict}
 use Rattle.area.specs.Refusals.{verdict_number}
 use Rattle.plan.specs.Plan.{Tables, tables_in, are_tables, plan_refusal, is_planned}
-use Rattle.plan.specs.PlanLaws.{sized_of, planned_is, planned_true, planned_false}
-use Rattle.plan.specs.PlanLaws.{record_planned, record_refused, tables_planned, tables_refused}
+use Rattle.plan.proofs.PlanLaws.{sized_of, planned_is, planned_true, planned_false}
+use Rattle.plan.proofs.PlanLaws.{record_planned, record_refused, tables_planned, tables_refused}
 use Rattle.plan.proofs.plan.Statement.{statement}
 use Rattle.plan.proofs.plan.Tie as tie
 
@@ -39,7 +39,7 @@ module _
 abbrev lent : tie.Start → Tables
 lent s =
     let a = s.args in
-    tables_in a.new a.old-dist a.old_hops_lem a.old-fours a.new-dist a.new_hops_lem a.new-fours
+    tables_in a.new a.old-dist a.old_hops a.old-fours a.new-dist a.new_hops a.new-fours
 
 are-tables-requires : tie.Need-are-tables-requires
 are-tables-requires c κs = search rules

@@ -46,8 +46,8 @@ returns c =
     let lists = changed.before.before.before.before.before.before.before.before.before in
     let start = lists.before.before in
     let a = start.args in
-    let old = paths_in a.old-dist a.old_hops_lem a.old-fours in
-    let new = paths_in a.new-dist a.new_hops_lem a.new-fours in
+    let old = paths_in a.old-dist a.old_hops a.old-fours in
+    let new = paths_in a.new-dist a.new_hops a.new-fours in
     let z = start.requires.1 in
     let bytes : (k : ℕ) → get_or a.list.now k 0 < 256 = λ k. (lists.shared-slice-known2.given k).fits in
     filled_is a.n a.old.now a.list.now start.requires.0 bytes old new z.old z.new _ _ _

@@ -1,7 +1,7 @@
 -- The first number decides, unless it is 0: these are the two laws of `or_then`.
 use mathlib.Core.Path.{sym}
 use native.Mathlib.Omega.{arith}
-use Rattle.area.specs.TestLaws.{then_some, then_none}
+use Rattle.area.proofs.TestLaws.{then_some, then_none}
 use Rattle.prepare.proofs.first.Statement.{statement}
 use Rattle.prepare.proofs.first.Tie as tie
 

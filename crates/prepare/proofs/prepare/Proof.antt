@@ -4,7 +4,7 @@ use mathlib.Core.Path.{ap, ◌∙◌}
 use borrow.Author.Rules.{rules}
 use Rattle.plan.specs.Plan.{tables_in}
 use Rattle.bench_file.specs.declared.Contents.{Contents}
-use Rattle.prepare.specs.BenchLaws.{changes_within, refusal_given, record_given, tables_given}
+use Rattle.prepare.proofs.BenchLaws.{changes_within, refusal_given, record_given, tables_given}
 use Rattle.prepare.proofs.prepare.Statement.{statement}
 use Rattle.prepare.proofs.prepare.Tie as tie
 
@@ -66,7 +66,7 @@ returns c =
     let f = a.file.now in
     let m = a.old.now in
     let t =
-    tables_in a.new a.old-dist a.old_hops_lem a.old-fours a.new-dist a.new_hops_lem a.new-fours in
+    tables_in a.new a.old-dist a.old_hops a.old-fours a.new-dist a.new_hops a.new-fours in
     let contents = read.result.contents in
     let answer =
     refusal_given f m t contents said _ old _ list read.ensures.0 plan.ensures.0 both.ensures.0 in

@@ -7,9 +7,9 @@ use native.Mathlib.Omega.{arith}
 use lib.ListN.{get_or}
 use Rattle.area.specs.Limits.{width}
 use Rattle.sets.specs.Sets.{bit}
-use Rattle.sets.specs.VisitLaws.{Visited, visit_start, visit_next, visit_end, visit_member, visit_less}
+use Rattle.sets.proofs.VisitLaws.{Visited, visit_start, visit_next, visit_end, visit_member, visit_less}
 use Rattle.ranks.specs.Rank.{above}
-use Rattle.ranks.specs.RankLaws.{above_le, above_least}
+use Rattle.ranks.proofs.RankLaws.{above_le, above_least}
 use Rattle.ranks.proofs.after.Statement.{statement}
 use Rattle.ranks.proofs.after.Tie as tie
 

@@ -7,7 +7,7 @@ use borrow.Author.Count.{below_none, below_more}
 use borrow.Author.Tests.{eq-eqb, ne_eqb}
 use lib.Dec.{eqb}
 use lib.ListN.{get_or}
-use Rattle.area.specs.TestLaws.{all_true, all_false}
+use Rattle.area.proofs.TestLaws.{all_true, all_false}
 use Rattle.ranks.proofs.agree.Statement.{statement}
 use Rattle.ranks.proofs.agree.Tie as tie
 

@@ -6,7 +6,7 @@ use borrow.Author.Tests.{eqb-true}
 use lib.Dec.{eqb}
 use lib.ListN.{get_or}
 use Rattle.area.specs.Limits.{width}
-use Rattle.area.specs.TestLaws.{all_at}
+use Rattle.area.proofs.TestLaws.{all_at}
 use Rattle.ranks.specs.Rank.{rank}
 use Rattle.ranks.proofs.Rounds.{Made, made_none, made_le, made_more, made_stays}
 use Rattle.ranks.proofs.by_rounds.Statement.{statement}

@@ -4,7 +4,7 @@ use Prim.Native.Nat.{◌-◌, ◌≤◌}
 use native.Mathlib.Omega.{arith}
 use lib.ListN.{get_or}
 use Rattle.area.specs.Limits.{width}
-use Rattle.area.specs.PerRouterLaws.{Filled, filled_none, filled_more, filled_all}
+use Rattle.area.proofs.PerRouterLaws.{Filled, filled_none, filled_more, filled_all}
 use Rattle.ranks.specs.Rank.{above}
 use Rattle.ranks.proofs.longer.Statement.{statement}
 use Rattle.ranks.proofs.longer.Tie as tie

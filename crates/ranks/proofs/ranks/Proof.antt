@@ -7,7 +7,7 @@ use lib.ListN.{get_or, replicate}
 use Rattle.area.specs.Limits.{width}
 use Rattle.area.specs.Tables.{per_router}
 use Rattle.ranks.specs.Rank.{rank, ranks_of}
-use Rattle.ranks.specs.RankLaws.{ranks_in, ranks_beyond}
+use Rattle.ranks.proofs.RankLaws.{ranks_in, ranks_beyond}
 use Rattle.ranks.proofs.ranks.Statement.{statement}
 use Rattle.ranks.proofs.ranks.Tie as tie
 

@@ -1,6 +1,6 @@
 -- What is printed is what the file gives, and the tables are left as `prepare` leaves them.
 use borrow.Author.Rules.{rules}
-use Rattle.report.specs.ReportLaws.{ready, text_printed}
+use Rattle.report.proofs.ReportLaws.{ready, text_printed}
 use Rattle.report.proofs.print.Statement.{statement}
 use Rattle.report.proofs.print.Tie as tie
 

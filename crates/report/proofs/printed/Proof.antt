@@ -2,7 +2,7 @@
 use mathlib.Core.Path.{◌≡◌}
 use native.Mathlib.Omega.{arith}
 use borrow.Author.Rules.{rules}
-use Rattle.report.specs.ReportLaws.{refused_printed, lines_printed}
+use Rattle.report.proofs.ReportLaws.{refused_printed, lines_printed}
 use Rattle.report.proofs.printed.Statement.{statement}
 use Rattle.report.proofs.printed.Tie as tie
 

@@ -1,6 +1,6 @@
 -- The arms of the match, one by one: each is told its text.
 use borrow.Author.Rules.{rules}
-use Rattle.report.specs.ReportLaws.{lines_of}
+use Rattle.report.proofs.ReportLaws.{lines_of}
 use Rattle.report.proofs.text_lines.Statement.{statement}
 use Rattle.report.proofs.text_lines.Tie as tie
 

@@ -4,8 +4,8 @@ use native.Mathlib.Omega.{arith}
 use borrow.Author.Rules.{rules}
 use lib.ListN.{length}
 use Rattle.rewriting.specs.Rewriting.{written}
-use Rattle.rewriting.specs.RewritingLaws.{written_first, written_room}
-use Rattle.streams.specs.StreamLaws.{whole_text_lem}
+use Rattle.rewriting.proofs.RewritingLaws.{written_first, written_room}
+use Rattle.streams.proofs.StreamLaws.{whole_text_lem}
 use Rattle.rewrite.proofs.whole.Statement.{statement}
 use Rattle.rewrite.proofs.whole.Tie as tie
 

@@ -9,9 +9,9 @@ use borrow.Author.Tests.{eq-eqb, ne_eqb}
 use Rattle.area.specs.Limits.{unused}
 use Rattle.entries.specs.declared.Entry.{Entry}
 use Rattle.entries.specs.Entries.{entry_of, metric}
-use Rattle.entries.specs.EntryLaws.{read_metric}
+use Rattle.entries.proofs.EntryLaws.{read_metric}
 use Rattle.rewriting.specs.Live.{live_count}
-use Rattle.rewriting.specs.LiveLaws.{count_none, count_kept, count_dropped}
+use Rattle.rewriting.proofs.LiveLaws.{count_none, count_kept, count_dropped}
 use Rattle.rewriting.proofs.count_live.Statement.{statement}
 use Rattle.rewriting.proofs.count_live.Tie as tie
 

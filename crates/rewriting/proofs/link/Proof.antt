@@ -11,9 +11,9 @@ use lib.ListN.{length, take, drop}
 use Rattle.area.specs.Limits.{unused}
 use Rattle.entries.specs.declared.Entry.{Entry}
 use Rattle.entries.specs.Entries.{entry_of, metric}
-use Rattle.entries.specs.EntryLaws.{read_metric}
+use Rattle.entries.proofs.EntryLaws.{read_metric}
 use Rattle.text.specs.Text.{Appended}
-use Rattle.text.specs.TextLaws.{appended_none}
+use Rattle.text.proofs.TextLaws.{appended_none}
 use Rattle.rewriting.specs.Live.{kept_of}
 use Rattle.rewriting.proofs.link.Statement.{statement}
 use Rattle.rewriting.proofs.link.Tie as tie

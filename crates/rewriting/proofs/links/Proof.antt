@@ -5,7 +5,7 @@ use native.Mathlib.Omega.{arith}
 use lib.ListN.{length}
 use Rattle.text.specs.Text.{Appended}
 use Rattle.rewriting.specs.Live.{live}
-use Rattle.rewriting.specs.LiveLaws.{appended_start, appended_live}
+use Rattle.rewriting.proofs.LiveLaws.{appended_start, appended_live}
 use Rattle.rewriting.proofs.links.Statement.{statement}
 use Rattle.rewriting.proofs.links.Tie as tie
 

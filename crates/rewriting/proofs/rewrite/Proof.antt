@@ -11,19 +11,19 @@ use borrow.Author.Rules.{rules}
 use borrow.Author.Tests.{eqb-true, eqb-false, not-true, not-false}
 use lib.Dec.{eqb}
 use Rattle.area.specs.Refusals.{verdict_number}
-use Rattle.area.specs.SizeLaws.{router_count_most}
+use Rattle.area.proofs.SizeLaws.{router_count_most}
 use Rattle.bench_file.specs.declared.BenchFile.{BenchFile}
 use Rattle.bench_file.specs.declared.Contents.{Contents}
 use Rattle.bench_file.specs.declared.Format.TheVariants.{Old}
 use Rattle.bench_file.specs.Sections.{routers, link_count, change_count, changes_at, times_at}
 use Rattle.bench_file.specs.Faults.{file_refusal}
-use Rattle.bench_file.specs.FaultLaws.{Accepted, accepted_of}
+use Rattle.bench_file.proofs.FaultLaws.{Accepted, accepted_of}
 use Rattle.bench_file.specs.Read.{contents, contents_by}
-use Rattle.bench_file.specs.ReadLaws.{by_accepted}
-use Rattle.bench_file.specs.FileLaws.{links_most, contents_n, contents_links, contents_changes}
+use Rattle.bench_file.proofs.ReadLaws.{by_accepted}
+use Rattle.bench_file.proofs.FileLaws.{links_most, contents_n, contents_links, contents_changes}
 use Rattle.text.specs.Text.{Appended, refused_line}
 use Rattle.rewriting.specs.Rewriting.{rewritten, written, Counted}
-use Rattle.rewriting.specs.RewritingLaws.{written_refused, written_accepted}
+use Rattle.rewriting.proofs.RewritingLaws.{written_refused, written_accepted}
 use Rattle.rewriting.proofs.rewrite.Statement.{statement}
 use Rattle.rewriting.proofs.rewrite.Tie as tie
 

@@ -1,6 +1,6 @@
 -- The three parts that are appended make what follows the links: `appended_rest`.
 use borrow.Author.Rules.{rules}
-use Rattle.rewriting.specs.RewritingLaws.{appended_rest}
+use Rattle.rewriting.proofs.RewritingLaws.{appended_rest}
 use Rattle.rewriting.proofs.timed_rest.Statement.{statement}
 use Rattle.rewriting.proofs.timed_rest.Tie as tie
 

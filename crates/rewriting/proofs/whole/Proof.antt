@@ -1,6 +1,6 @@
 -- The three parts that are appended make the rewritten file: `appended_file`.
 use borrow.Author.Rules.{rules}
-use Rattle.rewriting.specs.RewritingLaws.{appended_file}
+use Rattle.rewriting.proofs.RewritingLaws.{appended_file}
 use Rattle.rewriting.proofs.whole.Statement.{statement}
 use Rattle.rewriting.proofs.whole.Tie as tie
 

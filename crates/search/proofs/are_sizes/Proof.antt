@@ -1,6 +1,6 @@
 -- One law for each return: RowsLaws.antt has them in the same order.
 use mathlib.Core.Path.{sym}
-use Rattle.search.specs.RowsLaws.{many_routers, other_table, other_row, last_size}
+use Rattle.search.proofs.RowsLaws.{many_routers, other_table, other_row, last_size}
 use Rattle.search.proofs.are_sizes.Statement.{statement}
 use Rattle.search.proofs.are_sizes.Tie as tie
 

@@ -6,7 +6,7 @@ use Prim.Native.Nat.{◌-◌, ◌≤◌}
 use native.Mathlib.Omega.{arith}
 use native.Mathlib.Decide.{dec_lt}
 use Rattle.topology.specs.Topology.{topology}
-use Rattle.topology.specs.TopologyLaws.{metric_link, usable_is}
+use Rattle.topology.proofs.TopologyLaws.{metric_link, usable_is}
 use Rattle.search.specs.Offers.{first_hop}
 use Rattle.search.specs.Search.{Relaxed, no_link, linked}
 use Rattle.search.proofs.Sweep.{Swept, swept_none, swept_more, swept_same}

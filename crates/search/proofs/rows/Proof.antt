@@ -5,9 +5,9 @@ use mathlib.Core.Logic.{inl}
 use native.Mathlib.Omega.{arith}
 use borrow.Author.Rules.{rules}
 use Rattle.area.specs.Limits.{width}
-use Rattle.area.specs.TableLaws.{is_build}
+use Rattle.area.proofs.TableLaws.{is_build}
 use Rattle.topology.specs.Cells.{distance_cell, hop_cell}
-use Rattle.topology.specs.CellLaws.{distance_out, hops_out}
+use Rattle.topology.proofs.CellLaws.{distance_out, hops_out}
 use Rattle.search.proofs.rows.Statement.{statement}
 use Rattle.search.proofs.rows.Tie as tie
 

@@ -9,7 +9,7 @@ use Rattle.area.specs.Limits.{width}
 use Rattle.area.specs.Tables.{build}
 use Rattle.topology.specs.Cells.{distance_cell, hop_cell}
 use Rattle.search.specs.Rows.{are_sizes, distance_row, hop_row}
-use Rattle.search.specs.RowsLaws.{sizes_are, distances_row, hops_row, distances_left, hops_left}
+use Rattle.search.proofs.RowsLaws.{sizes_are, distances_row, hops_row, distances_left, hops_left}
 use Rattle.search.proofs.search.Statement.{statement}
 use Rattle.search.proofs.search.Tie as tie
 

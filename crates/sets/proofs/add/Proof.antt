@@ -1,7 +1,7 @@
 -- Below the width `|` sets the bit; no set has a router from there on, so none can be added.
 use borrow.Author.Rules.{rules}
 use Rattle.area.specs.Limits.{width}
-use Rattle.sets.specs.SetLaws.{or_added, same_added}
+use Rattle.sets.proofs.SetLaws.{or_added, same_added}
 use Rattle.sets.proofs.add.Statement.{statement}
 use Rattle.sets.proofs.add.Tie as tie
 

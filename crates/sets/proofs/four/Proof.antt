@@ -4,7 +4,7 @@ use borrow.Author.Rules.{rules}
 use Prim.Native.Nat.{ℕ, suc}
 use Rattle.sets.specs.Sets.{without}
 use Rattle.sets.specs.Four.{four, beyond}
-use Rattle.sets.specs.FourLaws.{beyond_next, beyond_four}
+use Rattle.sets.proofs.FourLaws.{beyond_next, beyond_four}
 use Rattle.sets.proofs.four.Statement.{statement}
 use Rattle.sets.proofs.four.Tie as tie
 

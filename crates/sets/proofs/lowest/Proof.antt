@@ -2,7 +2,7 @@
 use native.Mathlib.Omega.{arith}
 use lib.Count.{trailing_le}
 use Rattle.area.specs.Limits.{width}
-use Rattle.sets.specs.VisitLaws.{trailing_is}
+use Rattle.sets.proofs.VisitLaws.{trailing_is}
 use Rattle.sets.proofs.lowest.Statement.{statement}
 use Rattle.sets.proofs.lowest.Tie as tie
 

@@ -4,7 +4,7 @@ use mathlib.Core.Path.{sym, ◌∙◌}
 use native.Mathlib.Omega.{arith}
 use borrow.Author.Rules.{rules}
 use Rattle.area.specs.Limits.{width}
-use Rattle.sets.specs.SetLaws.{bit_lt, xor_removed, same_removed}
+use Rattle.sets.proofs.SetLaws.{bit_lt, xor_removed, same_removed}
 use Rattle.sets.proofs.remove.Statement.{statement}
 use Rattle.sets.proofs.remove.Tie as tie
 

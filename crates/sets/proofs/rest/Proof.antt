@@ -3,7 +3,7 @@ use mathlib.Core.Path.{sym, ap, ◌∙◌}
 use borrow.Author.Rules.{rules}
 use Rattle.area.specs.Limits.{width}
 use Rattle.sets.specs.Four.{beyond}
-use Rattle.sets.specs.FourLaws.{and_beyond, beyond_empty}
+use Rattle.sets.proofs.FourLaws.{and_beyond, beyond_empty}
 use Rattle.sets.proofs.rest.Statement.{statement}
 use Rattle.sets.proofs.rest.Tie as tie
 

@@ -5,7 +5,7 @@ use native.Mathlib.Omega.{arith}
 use Rattle.area.specs.Limits.{width}
 use Rattle.sets.specs.Sets.{num}
 use Rattle.sets.specs.Counts.{size}
-use Rattle.sets.specs.CountLaws.{size_start, size_found}
+use Rattle.sets.proofs.CountLaws.{size_start, size_found}
 use Rattle.sets.proofs.size.Statement.{statement}
 use Rattle.sets.proofs.size.Tie as tie
 

@@ -1,6 +1,6 @@
 -- `s & t` has the common members, and `^` takes them out of s.
 use Rattle.area.specs.Limits.{width}
-use Rattle.sets.specs.SetLaws.{xor_without}
+use Rattle.sets.proofs.SetLaws.{xor_without}
 use Rattle.sets.proofs.without.Statement.{statement}
 use Rattle.sets.proofs.without.Tie as tie
 

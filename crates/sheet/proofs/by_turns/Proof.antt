@@ -6,7 +6,7 @@ use native.Mathlib.Omega.{arith}
 use native.Mathlib.Numerals.{add-one}
 use lib.ListN.{get_or, set, replicate}
 use Rattle.area.specs.Limits.{width}
-use Rattle.area.specs.PerRouterLaws.{Filled, filled_none, filled_more, filled_all}
+use Rattle.area.proofs.PerRouterLaws.{Filled, filled_none, filled_more, filled_all}
 use Rattle.sets.specs.Sets.{added}
 use Rattle.sheet.specs.Sheet.{next_after, placed, place_at}
 use Rattle.sheet.proofs.by_turns.Statement.{statement}

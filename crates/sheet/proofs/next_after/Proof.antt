@@ -4,7 +4,7 @@ use Prim.Native.Nat.{◌-◌}
 use native.Mathlib.Omega.{arith}
 use lib.ListN.{get_or}
 use Rattle.area.specs.Tests.{lowest}
-use Rattle.area.specs.LowestLaws.{lowest_start, lowest_skip, lowest_hit, lowest_out}
+use Rattle.area.proofs.LowestLaws.{lowest_start, lowest_skip, lowest_hit, lowest_out}
 use Rattle.sheet.specs.Sheet.{could_come}
 use Rattle.sheet.proofs.next_after.Statement.{statement}
 use Rattle.sheet.proofs.next_after.Tie as tie

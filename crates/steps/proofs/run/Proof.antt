@@ -10,7 +10,7 @@ use Rattle.plan.specs.declared.Record.{Record}
 use Rattle.machine.specs.Answers.{Outcome}
 use Rattle.machine.specs.Machine.{with_tables, with_times, step_of}
 use Rattle.machine.specs.Run.{run, calls_of}
-use Rattle.machine.specs.CallLaws.{run_none, run_next}
+use Rattle.machine.proofs.CallLaws.{run_none, run_next}
 use Rattle.steps.proofs.run.Statement.{statement}
 use Rattle.steps.proofs.run.Tie as tie
 

@@ -1,6 +1,6 @@
 -- The name is appended, and then the number: together they are the field (appended_field).
 use borrow.Author.Rules.{rules}
-use Rattle.text.specs.TextLaws.{appended_field}
+use Rattle.text.proofs.TextLaws.{appended_field}
 use Rattle.text.proofs.field.Statement.{statement}
 use Rattle.text.proofs.field.Tie as tie
 

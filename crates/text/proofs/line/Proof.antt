@@ -1,6 +1,6 @@
 -- The field is appended, and then the newline: together they are the line (appended_line).
 use borrow.Author.Rules.{rules}
-use Rattle.text.specs.TextLaws.{appended_line}
+use Rattle.text.proofs.TextLaws.{appended_line}
 use Rattle.text.proofs.line.Statement.{statement}
 use Rattle.text.proofs.line.Tie as tie
 

@@ -1,6 +1,6 @@
 -- The line that `line` appends is the line of the refusal.
 use borrow.Author.Rules.{rules}
-use Rattle.text.specs.TextLaws.{refusal_line}
+use Rattle.text.proofs.TextLaws.{refusal_line}
 use Rattle.text.proofs.refused_line.Statement.{statement}
 use Rattle.text.proofs.refused_line.Tie as tie
 

@@ -1,6 +1,6 @@
 -- A law for each return.
 use borrow.Author.Rules.{rules}
-use Rattle.tlv.specs.ItemLaws.{item_end, item_short, item_past, item_long, item_entry}
+use Rattle.tlv.proofs.ItemLaws.{item_end, item_short, item_past, item_long, item_entry}
 use Rattle.tlv.proofs.decode.Statement.{statement}
 use Rattle.tlv.proofs.decode.Tie as tie
 

@@ -1,6 +1,6 @@
 -- A law for each return.
 use borrow.Author.Rules.{rules}
-use Rattle.tlv.specs.ItemLaws.{after_entry, after_end, after_refused}
+use Rattle.tlv.proofs.ItemLaws.{after_entry, after_end, after_refused}
 use Rattle.tlv.proofs.place_after.Statement.{statement}
 use Rattle.tlv.proofs.place_after.Tie as tie
 

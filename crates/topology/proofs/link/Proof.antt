@@ -11,7 +11,7 @@ use borrow.Author.Tests.{not-true, not-false}
 use Rattle.area.specs.Limits.{width, unused}
 use Rattle.area.specs.Tables.{cell}
 use Rattle.topology.specs.Topology.{is_used, topology}
-use Rattle.topology.specs.TopologyLaws.{Link, used_true, true_used, link_metric, no_link}
+use Rattle.topology.proofs.TopologyLaws.{Link, used_true, true_used, link_metric, no_link}
 use Rattle.topology.proofs.link.Statement.{statement}
 use Rattle.topology.proofs.link.Tie as tie
 

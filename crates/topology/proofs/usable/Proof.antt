@@ -9,7 +9,7 @@ use lib.ListN.{length}
 use Rattle.area.specs.Limits.{width, unused}
 use Rattle.topology.specs.Topology.{topology}
 use Rattle.topology.specs.Usable.{usable}
-use Rattle.topology.specs.TopologyLaws.{usable_many, usable_sized, usable_is}
+use Rattle.topology.proofs.TopologyLaws.{usable_many, usable_sized, usable_is}
 use Rattle.topology.proofs.usable.Statement.{statement}
 use Rattle.topology.proofs.usable.Tie as tie
 

@@ -1,6 +1,6 @@
 -- One law for each return: TreesLaws.antt has them in the same order.
 use mathlib.Core.Path.{sym}
-use Rattle.trees.specs.TreesLaws.{many_routers, other_metrics, other_distances, last_size}
+use Rattle.trees.proofs.TreesLaws.{many_routers, other_metrics, other_distances, last_size}
 use Rattle.trees.proofs.are_sizes.Statement.{statement}
 use Rattle.trees.proofs.are_sizes.Tie as tie
 

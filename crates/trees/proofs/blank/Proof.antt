@@ -4,7 +4,7 @@ use mathlib.Core.Path.{◌≡◌, refl, ◌∙◌}
 use native.Mathlib.Omega.{arith}
 use lib.ListN.{length, length-set}
 use Rattle.area.specs.Limits.{width, unreached}
-use Rattle.area.specs.TableLaws.{Front, front_none, front_more}
+use Rattle.area.proofs.TableLaws.{Front, front_none, front_more}
 use Rattle.trees.proofs.blank.Statement.{statement}
 use Rattle.trees.proofs.blank.Tie as tie
 

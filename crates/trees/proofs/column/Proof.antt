@@ -4,7 +4,7 @@ use native.Mathlib.Omega.{arith}
 use borrow.Author.Rules.{rules}
 use lib.ListN.{get_or-replicate}
 use Rattle.area.specs.Limits.{width, unreached}
-use Rattle.area.specs.ColumnLaws.{column_built}
+use Rattle.area.proofs.ColumnLaws.{column_built}
 use Rattle.topology.specs.Cells.{distance_cell, hop_cell}
 use Rattle.trees.proofs.column.Statement.{statement}
 use Rattle.trees.proofs.column.Tie as tie

@@ -4,10 +4,10 @@ use mathlib.Core.Path.{◌≡◌, sym}
 use mathlib.Core.Logic.{inr}
 use native.Mathlib.Omega.{arith}
 use Rattle.area.specs.Limits.{width, unreached}
-use Rattle.area.specs.TableLaws.{cell_in}
-use Rattle.area.specs.ColumnLaws.{Columns, columns_start, columns_more, columns_all}
+use Rattle.area.proofs.TableLaws.{cell_in}
+use Rattle.area.proofs.ColumnLaws.{Columns, columns_start, columns_more, columns_all}
 use Rattle.topology.specs.Cells.{distance_cell, hop_cell}
-use Rattle.topology.specs.CellLaws.{distance_out, hops_out}
+use Rattle.topology.proofs.CellLaws.{distance_out, hops_out}
 use Rattle.trees.proofs.fill.Statement.{statement}
 use Rattle.trees.proofs.fill.Tie as tie
 

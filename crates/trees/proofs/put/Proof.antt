@@ -3,7 +3,7 @@ use Prim.Native.Nat.{◌-◌, ◌≤◌}
 use mathlib.Core.Path.{◌≡◌, refl}
 use native.Mathlib.Omega.{arith}
 use Rattle.area.specs.Limits.{width}
-use Rattle.area.specs.ColumnLaws.{ColumnTo, column_start, column_more, column_all}
+use Rattle.area.proofs.ColumnLaws.{ColumnTo, column_start, column_more, column_all}
 use Rattle.trees.specs.Turns.{entry}
 use Rattle.trees.proofs.put.Statement.{statement}
 use Rattle.trees.proofs.put.Tie as tie

@@ -9,7 +9,7 @@ use Rattle.area.specs.Limits.{width}
 use Rattle.area.specs.Tables.{tabulate}
 use Rattle.topology.specs.Cells.{distance_cell, hop_cell}
 use Rattle.trees.specs.Trees.{are_sizes, distance_table, hop_table}
-use Rattle.trees.specs.TreesLaws.{sizes_are, distances_filled, hops_filled, distances_left, hops_left}
+use Rattle.trees.proofs.TreesLaws.{sizes_are, distances_filled, hops_filled, distances_left, hops_left}
 use Rattle.trees.proofs.trees.Statement.{statement}
 use Rattle.trees.proofs.trees.Tie as tie
 

@@ -6,9 +6,9 @@ use lib.ListN.{length}
 use Rattle.plan.specs.Plan.{tables_in}
 use Rattle.report.specs.Report.{unfinished}
 use Rattle.report.specs.declared.Text.TheVariants.{Unfinished}
-use Rattle.report.specs.RoomLaws.{unfinished_room_lem}
-use Rattle.report.specs.FirstBytesLaws.{text_first}
-use Rattle.streams.specs.StreamLaws.{whole_text_lem}
+use Rattle.report.proofs.RoomLaws.{unfinished_room_lem}
+use Rattle.report.proofs.FirstBytesLaws.{text_first}
+use Rattle.streams.proofs.StreamLaws.{whole_text_lem}
 use Rattle.unfinished.proofs.whole.Statement.{statement}
 use Rattle.unfinished.proofs.whole.Tie as tie
 
@@ -52,7 +52,7 @@ returns c =
     let file = a.file.now in
     let m = a.old.now in
     let t =
-    tables_in a.new a.old-dist a.old_hops_lem a.old-fours a.new-dist a.new_hops_lem a.new-fours in
+    tables_in a.new a.old-dist a.old_hops a.old-fours a.new-dist a.new_hops a.new-fours in
     whole_text_lem (λ f. unfinished f m t) file a.count called.print.ensures.0
     (λ f. omega (arith, unfinished_room_lem f m t))
     (λ f. text_first f m t (length file) (omega arith) Unfinished)

@@ -11,10 +11,10 @@ use Rattle.io.specs.Counts.{IsPrefixLen}
 use Rattle.text.specs.Text.{Appended}
 use Rattle.hexadecimal.specs.Hex.{most}
 use Rattle.streams.specs.Streams.{ReadOf}
-use Rattle.streams.specs.StreamLaws.{whole_text_lem}
+use Rattle.streams.proofs.StreamLaws.{whole_text_lem}
 use Rattle.unhex.specs.Unhex.{written, is_error}
-use Rattle.unhex.specs.UnhexLaws.{text_written, text_error, binary_written, binary_error}
-use Rattle.unhex.specs.UnhexLaws.{written_first, error_first, written_room}
+use Rattle.unhex.proofs.UnhexLaws.{text_written, text_error, binary_written, binary_error}
+use Rattle.unhex.proofs.UnhexLaws.{written_first, error_first, written_room}
 use Rattle.unhex.proofs.whole.Statement.{statement}
 use Rattle.unhex.proofs.whole.Tie as tie
 

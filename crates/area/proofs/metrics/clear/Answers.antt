@@ -1,6 +1,6 @@
 use Rattle.std.proofs.Common.{arith, length}
 use Rattle.area.specs.Limits.{unused}
-use Rattle.area.specs.TableLaws.{is_build}
+use Rattle.area.proofs.TableLaws.{is_build}
 use Rattle.area.proofs.metrics.clear.Goals as goal
 
 pub returns : goal.returns

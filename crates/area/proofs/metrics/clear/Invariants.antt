@@ -1,5 +1,5 @@
 -- The cells before k are cleared.
-use Rattle.area.specs.TableLaws.{Front}
+use Rattle.area.proofs.TableLaws.{Front}
 use Rattle.area.specs.Limits.{unused}
 use Rattle.area.proofs.metrics.clear.Given as goal
 

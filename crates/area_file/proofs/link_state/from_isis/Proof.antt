@@ -1,6 +1,6 @@
 -- What is printed for the parts of the stream is what is printed for the stream.
 use borrow.Author.Rules.{rules}
-use Rattle.area_file.specs.FromIsisLaws.{isis_is, isis_table_lem}
+use Rattle.area_file.proofs.FromIsisLaws.{isis_is, isis_table_lem}
 use Rattle.area_file.proofs.link_state.from_isis.Statement.{statement}
 use Rattle.area_file.proofs.link_state.from_isis.Tie as tie
 

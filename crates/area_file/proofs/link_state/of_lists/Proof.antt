@@ -1,7 +1,7 @@
 -- One law for each return: the lists are too long, they are refused, or their area is printed.
 use borrow.Author.Rules.{rules}
-use Rattle.area_file.specs.FromIsisLaws.{table_long, long_appended, table_filled}
-use Rattle.area_file.specs.FromIsisLaws.{refused_appended, accepted_appended}
+use Rattle.area_file.proofs.FromIsisLaws.{table_long, long_appended, table_filled}
+use Rattle.area_file.proofs.FromIsisLaws.{refused_appended, accepted_appended}
 use Rattle.area_file.proofs.link_state.of_lists.Statement.{statement}
 use Rattle.area_file.proofs.link_state.of_lists.Tie as tie
 

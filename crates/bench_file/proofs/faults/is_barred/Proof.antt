@@ -10,7 +10,7 @@ use Rattle.entries.specs.declared.Entry.{Entry}
 use Rattle.bench_file.specs.declared.Format.{Format}
 use Rattle.bench_file.specs.Formats.{takes_dead}
 use Rattle.bench_file.specs.Faults.{dead_refusal}
-use Rattle.bench_file.specs.FaultLaws.{dead_taken, dead_told}
+use Rattle.bench_file.proofs.FaultLaws.{dead_taken, dead_told}
 use Rattle.bench_file.proofs.faults.is_barred.Statement.{statement}
 use Rattle.bench_file.proofs.faults.is_barred.Tie as tie
 

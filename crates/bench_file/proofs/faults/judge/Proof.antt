@@ -16,12 +16,12 @@ use Rattle.area.specs.Limits.{width}
 use Rattle.area.specs.Refusals.{incomplete, router_count, too_many, verdict_number}
 use Rattle.area.specs.Tests.{first}
 use Rattle.area.specs.Sizes.{is_router_count}
-use Rattle.area.specs.SizeLaws.{router_count_true, router_count_low, router_count_high}
+use Rattle.area.proofs.SizeLaws.{router_count_true, router_count_low, router_count_high}
 use Rattle.bench_file.specs.Sections.{routers, link_count, links}
 use Rattle.bench_file.specs.declared.Format.{Format}
 use Rattle.bench_file.specs.Faults.{most_links, link_refusal, links_refusal, rest_refusal, file_refusal}
-use Rattle.bench_file.specs.FaultLaws.{most_links_is, pairs_most}
-use Rattle.bench_file.specs.FaultLaws.{file_empty, file_count, file_cut, file_many, file_link, file_rest}
+use Rattle.bench_file.proofs.FaultLaws.{most_links_is, pairs_most}
+use Rattle.bench_file.proofs.FaultLaws.{file_empty, file_count, file_cut, file_many, file_link, file_rest}
 use Rattle.bench_file.proofs.faults.judge.Statement.{statement}
 use Rattle.bench_file.proofs.faults.judge.Tie as tie
 

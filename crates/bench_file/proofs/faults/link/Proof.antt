@@ -15,11 +15,11 @@ use Rattle.area.specs.declared.refusal.Verdict.{Verdict}
 use Rattle.area.specs.Limits.{width}
 use Rattle.area.specs.Refusals.{verdict_number, dead_link, repeated as taken}
 use Rattle.area.specs.Tests.{pick}
-use Rattle.area.specs.TestLaws.{then_some, then_none}
+use Rattle.area.proofs.TestLaws.{then_some, then_none}
 use Rattle.sets.specs.Sets.{bit}
 use Rattle.entries.specs.declared.Entry.{Entry}
 use Rattle.entries.specs.Entries.{entry_refusal}
-use Rattle.entries.specs.EntryLaws.{faultless_of}
+use Rattle.entries.proofs.EntryLaws.{faultless_of}
 use Rattle.bench_file.specs.declared.Format.{Format}
 use Rattle.bench_file.specs.Faults.{dead_refusal, seen_refusal}
 use Rattle.bench_file.proofs.faults.link.Statement.{statement}

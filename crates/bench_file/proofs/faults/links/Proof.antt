@@ -14,14 +14,15 @@ use lib.Dec.{eqb}
 use Rattle.area.specs.declared.refusal.Verdict.{Verdict}
 use Rattle.area.specs.Limits.{width}
 use Rattle.area.specs.Refusals.{verdict_number}
-use Rattle.area.specs.TestLaws.{first_none, first_fault}
+use Rattle.area.proofs.TestLaws.{first_none, first_fault}
 use Rattle.area.specs.Tests.{first}
 use Rattle.entries.specs.declared.Entry.{Entry}
 use Rattle.entries.specs.Entries.{entry_count, entry_of}
-use Rattle.entries.specs.SeenLaws.{Seen, seen_none, seen_next}
+use Rattle.entries.specs.Seen.{Seen}
+use Rattle.entries.proofs.SeenLaws.{seen_none, seen_next}
 use Rattle.bench_file.specs.declared.Format.{Format}
 use Rattle.bench_file.specs.Faults.{link_refusal, seen_refusal}
-use Rattle.bench_file.specs.FaultLaws.{link_cut}
+use Rattle.bench_file.proofs.FaultLaws.{link_cut}
 use Rattle.bench_file.proofs.Pairs.{link_told, in_sets as inside}
 use Rattle.bench_file.proofs.faults.links.Statement.{statement}
 use Rattle.bench_file.proofs.faults.links.Tie as tie

@@ -14,8 +14,8 @@ use Rattle.bench_file.specs.declared.Format.{Format}
 use Rattle.bench_file.specs.Formats.{times_size}
 use Rattle.bench_file.specs.Sections.{link_count, change_count, changes_at, step_count, steps_at, end}
 use Rattle.bench_file.specs.Faults.{rest_refusal}
-use Rattle.bench_file.specs.FaultLaws.{read_changes, read_steps, rest_cut_count, rest_many_changes}
-use Rattle.bench_file.specs.FaultLaws.{rest_cut_changes, rest_many_steps, rest_cut_steps, rest_more, rest_passes}
+use Rattle.bench_file.proofs.FaultLaws.{read_changes, read_steps, rest_cut_count, rest_many_changes}
+use Rattle.bench_file.proofs.FaultLaws.{rest_cut_changes, rest_many_steps, rest_cut_steps, rest_more, rest_passes}
 use Rattle.bench_file.proofs.faults.rest.Statement.{statement}
 use Rattle.bench_file.proofs.faults.rest.Tie as tie
 

@@ -4,7 +4,7 @@ use mathlib.Core.Path.{◌≡◌}
 use mathlib.Core.List.{[]}
 use Prim.Native.Nat.{◌-◌, ◌≤◌}
 use native.Mathlib.Omega.{arith}
-use Rattle.entries.specs.EntryLaws.{read_from, read_to}
+use Rattle.entries.proofs.EntryLaws.{read_from, read_to}
 use Rattle.bench_file.proofs.Linking.{Linked, linked_none, linked_more, linked_all}
 use Rattle.bench_file.proofs.metrics.put.Statement.{statement}
 use Rattle.bench_file.proofs.metrics.put.Tie as tie

@@ -6,9 +6,10 @@ use native.Mathlib.Omega.{arith}
 use borrow.Author.Count.{below_none, below_more}
 use borrow.Author.Tests.{eqb-true, eqb-false, not-true, not-false}
 use Rattle.area.specs.Refusals.{verdict_number}
-use Rattle.area.specs.TestLaws.{first_none, first_fault}
+use Rattle.area.proofs.TestLaws.{first_none, first_fault}
 use Rattle.entries.specs.Entries.{entry_count, listed_refusal}
-use Rattle.entries.specs.SeenLaws.{Seen, seen_none, seen_next, seen_beyond}
+use Rattle.entries.specs.Seen.{Seen}
+use Rattle.entries.proofs.SeenLaws.{seen_none, seen_next, seen_beyond}
 use Rattle.changes.proofs.checks.first_refusal.Statement.{statement}
 use Rattle.changes.proofs.checks.first_refusal.Tie as tie
 

@@ -2,7 +2,7 @@
 use mathlib.Core.Path.{ap, ◌∙◌}
 use mathlib.Core.Bool.{not}
 use borrow.Author.Rules.{rules}
-use Rattle.entries.specs.SeenLaws.{seen_first}
+use Rattle.entries.proofs.SeenLaws.{seen_first}
 use Rattle.changes.proofs.checks.is_new.Statement.{statement}
 use Rattle.changes.proofs.checks.is_new.Tie as tie
 

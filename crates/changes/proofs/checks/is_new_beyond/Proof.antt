@@ -8,10 +8,10 @@ use native.Mathlib.Omega.{arith}
 use borrow.Author.Count.{below_none, below_more}
 use borrow.Author.Tests.{eq-eqb, ne_eqb}
 use lib.Dec.{eqb}
-use Rattle.area.specs.TestLaws.{and_false}
+use Rattle.area.proofs.TestLaws.{and_false}
 use Rattle.entries.specs.declared.Entry.{Entry}
 use Rattle.entries.specs.Entries.{entry_of, from, to, is_for_pair}
-use Rattle.entries.specs.EntryLaws.{read_from, read_to, free_true, free_false}
+use Rattle.entries.proofs.EntryLaws.{read_from, read_to, free_true, free_false}
 use Rattle.changes.proofs.checks.is_new_beyond.Statement.{statement}
 use Rattle.changes.proofs.checks.is_new_beyond.Tie as tie
 

@@ -10,7 +10,7 @@ use Rattle.area.specs.declared.refusal.Verdict.{Verdict}
 use Rattle.area.specs.Refusals.{verdict_number, repeated}
 use Rattle.entries.specs.declared.Entry.{Entry}
 use Rattle.entries.specs.Entries.{entry_of, is_first, entry_refusal, listed_refusal}
-use Rattle.entries.specs.EntryLaws.{listed_faulty, listed_repeated, listed_passes}
+use Rattle.entries.proofs.EntryLaws.{listed_faulty, listed_repeated, listed_passes}
 use Rattle.changes.proofs.checks.refusal.Statement.{statement}
 use Rattle.changes.proofs.checks.refusal.Tie as tie
 

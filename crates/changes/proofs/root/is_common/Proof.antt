@@ -8,10 +8,10 @@ use native.Mathlib.Omega.{arith}
 use borrow.Author.Count.{below_none, below_more}
 use borrow.Author.Tests.{eq-eqb, ne_eqb}
 use lib.Dec.{eqb}
-use Rattle.area.specs.TestLaws.{or_right, all_true, all_false}
+use Rattle.area.proofs.TestLaws.{or_right, all_true, all_false}
 use Rattle.entries.specs.declared.Entry.{Entry}
 use Rattle.entries.specs.Entries.{entry_count, entry_of, from, to}
-use Rattle.entries.specs.EntryLaws.{read_from, read_to}
+use Rattle.entries.proofs.EntryLaws.{read_from, read_to}
 use Rattle.changes.specs.Root.{is_common}
 use Rattle.changes.proofs.root.is_common.Statement.{statement}
 use Rattle.changes.proofs.root.is_common.Tie as tie

@@ -2,8 +2,8 @@
 use mathlib.Core.Path.{◌∙◌}
 use native.Mathlib.Omega.{arith}
 use borrow.Author.Rules.{rules}
-use Rattle.entries.specs.EntryLaws.{read_from, read_to}
-use Rattle.changes.specs.RootLaws.{root_of}
+use Rattle.entries.proofs.EntryLaws.{read_from, read_to}
+use Rattle.changes.proofs.RootLaws.{root_of}
 use Rattle.changes.proofs.root.root.Statement.{statement}
 use Rattle.changes.proofs.root.root.Tie as tie
 

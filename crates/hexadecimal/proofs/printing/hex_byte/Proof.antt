@@ -1,6 +1,6 @@
 -- Both digits are appended at once.
 use borrow.Author.Rules.{rules}
-use Rattle.hexadecimal.specs.PrintingLaws.{byte_appended}
+use Rattle.hexadecimal.proofs.PrintingLaws.{byte_appended}
 use Rattle.hexadecimal.proofs.printing.hex_byte.Statement.{statement}
 use Rattle.hexadecimal.proofs.printing.hex_byte.Tie as tie
 

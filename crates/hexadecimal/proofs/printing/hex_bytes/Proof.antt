@@ -5,7 +5,7 @@ use native.Mathlib.Omega.{arith}
 use lib.ListN.{length, take}
 use Rattle.text.specs.Text.{Appended}
 use Rattle.hexadecimal.specs.Digits.{hexed}
-use Rattle.hexadecimal.specs.PrintingLaws.{hexed_start, hexed_next, hexed_all}
+use Rattle.hexadecimal.proofs.PrintingLaws.{hexed_start, hexed_next, hexed_all}
 use Rattle.hexadecimal.proofs.printing.hex_bytes.Statement.{statement}
 use Rattle.hexadecimal.proofs.printing.hex_bytes.Tie as tie
 

@@ -1,6 +1,6 @@
 -- One law for each kind of digit.
 use borrow.Author.Rules.{rules}
-use Rattle.hexadecimal.specs.PrintingLaws.{printed_low, printed_high}
+use Rattle.hexadecimal.proofs.PrintingLaws.{printed_low, printed_high}
 use Rattle.hexadecimal.proofs.printing.hex_digit.Statement.{statement}
 use Rattle.hexadecimal.proofs.printing.hex_digit.Tie as tie
 

@@ -3,9 +3,10 @@ use mathlib.Core.Path.{◌≡◌, refl, sym, ap, ◌∙◌}
 use Prim.Native.Nat.{◌-◌, ◌*◌, ◌≤◌}
 use native.Mathlib.Omega.{arith}
 use Rattle.area.specs.Tests.{lowest}
-use Rattle.area.specs.LowestLaws.{lowest_start, lowest_skip}
+use Rattle.area.proofs.LowestLaws.{lowest_start, lowest_skip}
 use Rattle.isis.specs.Identities.{row_count}
-use Rattle.isis.specs.IdentityLaws.{has_identity, row_hit, row_none}
+use Rattle.isis.specs.Identities.{has_identity}
+use Rattle.isis.proofs.IdentityLaws.{row_hit, row_none}
 use Rattle.isis.proofs.identities.find.Statement.{statement}
 use Rattle.isis.proofs.identities.find.Tie as tie
 

@@ -1,6 +1,6 @@
 -- A law for each return.
 use borrow.Author.Rules.{rules}
-use Rattle.isis.specs.IdentityLaws.{last_differs, first_told}
+use Rattle.isis.proofs.IdentityLaws.{last_differs, first_told}
 use Rattle.isis.proofs.identities.has_identity.Statement.{statement}
 use Rattle.isis.proofs.identities.has_identity.Tie as tie
 

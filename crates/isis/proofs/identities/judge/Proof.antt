@@ -4,7 +4,8 @@ use Prim.Native.Nat.{◌-◌, ◌<◌, ◌≤◌}
 use native.Mathlib.Omega.{arith}
 use borrow.Author.Count.{below_none, below_more}
 use Rattle.isis.specs.Identities.{row_count, router}
-use Rattle.isis.specs.IdentityLaws.{RowsIn, rows_unknown, rows_cut, rows_pass}
+use Rattle.isis.specs.Identities.{RowsIn}
+use Rattle.isis.proofs.IdentityLaws.{rows_unknown, rows_cut, rows_pass}
 use Rattle.isis.proofs.identities.judge.Statement.{statement}
 use Rattle.isis.proofs.identities.judge.Tie as tie
 

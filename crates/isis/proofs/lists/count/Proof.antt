@@ -5,7 +5,7 @@ use native.Mathlib.Omega.{arith}
 use lib.ListN.{length}
 use Rattle.area.specs.Bytes.{two}
 use Rattle.isis.specs.Lists.{list_count}
-use Rattle.isis.specs.IsisLaws.{count_at, count_start, count_end, count_more}
+use Rattle.isis.proofs.IsisLaws.{count_at, count_start, count_end, count_more}
 use Rattle.isis.proofs.lists.count.Statement.{statement}
 use Rattle.isis.proofs.lists.count.Tie as tie
 

@@ -5,8 +5,8 @@ use native.Mathlib.Omega.{arith}
 use borrow.Author.Count.{below_none, below_more}
 use lib.ListN.{length}
 use Rattle.isis.specs.Lists.{length_at, list_refusal}
-use Rattle.isis.specs.ListLaws.{length_start, length_next, list_cut}
-use Rattle.isis.specs.IsisLaws.{lists_first, lists_trailing, lists_pass, turn_refused, turn_passed}
+use Rattle.isis.proofs.ListLaws.{length_start, length_next, list_cut}
+use Rattle.isis.proofs.IsisLaws.{lists_first, lists_trailing, lists_pass, turn_refused, turn_passed}
 use Rattle.isis.proofs.lists.judge.Statement.{statement}
 use Rattle.isis.proofs.lists.judge.Tie as tie
 

@@ -6,7 +6,7 @@ use borrow.Author.Rules.{rules}
 use lib.ListN.{length}
 use Rattle.tlv.specs.Items.{items, items_at}
 use Rattle.isis.specs.Lists.{items_refusal}
-use Rattle.isis.specs.LoopLaws.{list_end, list_fault, list_first, list_next, list_less}
+use Rattle.isis.proofs.LoopLaws.{list_end, list_fault, list_first, list_next, list_less}
 use Rattle.isis.proofs.lists.list.Statement.{statement}
 use Rattle.isis.proofs.lists.list.Tie as tie
 

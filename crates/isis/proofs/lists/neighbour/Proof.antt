@@ -1,6 +1,6 @@
 -- A law for each return.
 use borrow.Author.Rules.{rules}
-use Rattle.isis.specs.ListLaws.{neighbour_unknown, neighbour_self, neighbour_zero, neighbour_passes}
+use Rattle.isis.proofs.ListLaws.{neighbour_unknown, neighbour_self, neighbour_zero, neighbour_passes}
 use Rattle.isis.proofs.lists.neighbour.Statement.{statement}
 use Rattle.isis.proofs.lists.neighbour.Tie as tie
 

@@ -7,12 +7,12 @@ use borrow.Author.Rules.{rules}
 use lib.ListN.{length}
 use Rattle.area.specs.Bytes.{two}
 use Rattle.area.specs.Limits.{width, unused}
-use Rattle.area.specs.RowLaws.{RowsOver, lent_length, over_start, over_lent, over_more, over_all}
+use Rattle.area.proofs.RowLaws.{RowsOver, lent_length, over_start, over_lent, over_more, over_all}
 use Rattle.isis.specs.Lists.{length_at, listed_to}
-use Rattle.isis.specs.ListLaws.{length_start, length_next}
+use Rattle.isis.proofs.ListLaws.{length_start, length_next}
 use Rattle.isis.specs.Isis.{area_refusal, no_links, listed}
-use Rattle.isis.specs.FillLaws.{few, rows_small, list_there, list_known, lowered_clear}
-use Rattle.isis.specs.FillLaws.{fill_start, fill_all, no_links_size}
+use Rattle.isis.proofs.FillLaws.{few, rows_small, list_there, list_known, lowered_clear}
+use Rattle.isis.proofs.FillLaws.{fill_start, fill_all, no_links_size}
 use Rattle.isis.proofs.rows.fill.Statement.{statement}
 use Rattle.isis.proofs.rows.fill.Tie as tie
 

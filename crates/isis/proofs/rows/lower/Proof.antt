@@ -6,10 +6,10 @@ use borrow.Author.Rules.{rules}
 use lib.ListN.{length}
 use Rattle.area.specs.Limits.{width}
 use Rattle.isis.specs.Identities.{row_count}
-use Rattle.isis.specs.IdentityLaws.{RowsIn}
-use Rattle.isis.specs.LoopLaws.{list_less}
-use Rattle.isis.specs.LowerLaws.{Lowering, lowering_start, lowering_end, lowering_fault, lowering_less}
-use Rattle.isis.specs.LowerLaws.{lowering_stays, entry_known, entry_router}
+use Rattle.isis.specs.Identities.{RowsIn}
+use Rattle.isis.proofs.LoopLaws.{list_less}
+use Rattle.isis.proofs.LowerLaws.{Lowering, lowering_start, lowering_end, lowering_fault, lowering_less}
+use Rattle.isis.proofs.LowerLaws.{lowering_stays, entry_known, entry_router}
 use Rattle.isis.proofs.rows.lower.Statement.{statement}
 use Rattle.isis.proofs.rows.lower.Tie as tie
 

@@ -3,7 +3,7 @@ use Prim.Native.Nat.{◌-◌}
 use lib.ListN.{length}
 use native.Mathlib.Omega.{arith}
 use borrow.Author.Rules.{rules}
-use Rattle.tlv.specs.ItemLaws.{next_inside}
+use Rattle.tlv.proofs.ItemLaws.{next_inside}
 use Rattle.isis_test.proofs.items.from.Statement.{statement}
 use Rattle.isis_test.proofs.items.from.Tie as tie
 

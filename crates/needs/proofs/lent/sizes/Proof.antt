@@ -5,7 +5,7 @@ use native.Mathlib.Omega.{arith}
 use lib.ListN.{get_or}
 use Rattle.area.specs.Limits.{width}
 use Rattle.sets.specs.Counts.{total, size}
-use Rattle.sets.specs.CountLaws.{total_start, total_found}
+use Rattle.sets.proofs.CountLaws.{total_start, total_found}
 use Rattle.needs.proofs.lent.sizes.Statement.{statement}
 use Rattle.needs.proofs.lent.sizes.Tie as tie
 

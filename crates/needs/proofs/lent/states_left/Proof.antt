@@ -4,7 +4,7 @@ use mathlib.Core.Path.{◌≡◌, ap, ◌∙◌}
 use native.Mathlib.Omega.{arith}
 use lib.ListN.{get_or}
 use Rattle.sets.specs.Counts.{total}
-use Rattle.sets.specs.CountLaws.{total_start, total_found}
+use Rattle.sets.proofs.CountLaws.{total_start, total_found}
 use Rattle.machine.specs.Machine.{done}
 use Rattle.needs.proofs.lent.states_left.Statement.{statement}
 use Rattle.needs.proofs.lent.states_left.Tie as tie

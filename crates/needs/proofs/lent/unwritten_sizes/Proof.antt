@@ -6,7 +6,7 @@ use lib.ListN.{get_or}
 use Rattle.area.specs.Limits.{width}
 use Rattle.sets.specs.Sets.{without}
 use Rattle.sets.specs.Counts.{total, size}
-use Rattle.sets.specs.CountLaws.{total_start, total_found}
+use Rattle.sets.proofs.CountLaws.{total_start, total_found}
 use Rattle.needs.proofs.lent.unwritten_sizes.Statement.{statement}
 use Rattle.needs.proofs.lent.unwritten_sizes.Tie as tie
 

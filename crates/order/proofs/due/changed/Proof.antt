@@ -9,7 +9,7 @@ use lib.Dec.{eqb}
 use Rattle.area.specs.Limits.{width}
 use Rattle.area.specs.Tables.{cell}
 use Rattle.sets.specs.Sets.{set_of, added}
-use Rattle.sets.specs.SetLaws.{set_of_start, set_of_skip, set_of_more}
+use Rattle.sets.proofs.SetLaws.{set_of_start, set_of_skip, set_of_more}
 use Rattle.order.proofs.due.changed.Statement.{statement}
 use Rattle.order.proofs.due.changed.Tie as tie
 

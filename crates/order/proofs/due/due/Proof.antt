@@ -4,7 +4,7 @@ use Prim.Native.Nat.{◌-◌, ◌≤◌}
 use native.Mathlib.Omega.{arith}
 use Rattle.area.specs.Limits.{width}
 use Rattle.area.specs.Tables.{cell}
-use Rattle.area.specs.PerRouterLaws.{Filled, filled_none, filled_more, filled_all}
+use Rattle.area.proofs.PerRouterLaws.{Filled, filled_none, filled_more, filled_all}
 use Rattle.sets.specs.Sets.{set_of}
 use mathlib.Core.Bool.{not}
 use lib.Dec.{eqb}

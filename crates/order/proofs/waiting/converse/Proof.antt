@@ -4,7 +4,7 @@ use mathlib.Core.Path.{◌≡◌}
 use native.Mathlib.Omega.{arith}
 use lib.ListN.{get_or}
 use Rattle.area.specs.Limits.{width}
-use Rattle.order.specs.EnteringLaws.{Held, held_none, held_more, held_all}
+use Rattle.order.proofs.EnteringLaws.{Held, held_none, held_more, held_all}
 use Rattle.order.proofs.waiting.converse.Statement.{statement}
 use Rattle.order.proofs.waiting.converse.Tie as tie
 

@@ -2,8 +2,8 @@
 use mathlib.Core.Logic.{⊎_elim}
 use native.Mathlib.Omega.{arith}
 use Rattle.area.specs.Limits.{width}
-use Rattle.sets.specs.VisitLaws.{visit_less}
-use Rattle.order.specs.EnteringLaws.{Entering, entering_start, entering_next, entering_skip, entering_end}
+use Rattle.sets.proofs.VisitLaws.{visit_less}
+use Rattle.order.proofs.EnteringLaws.{Entering, entering_start, entering_next, entering_skip, entering_end}
 use Rattle.order.proofs.waiting.enter.Statement.{statement}
 use Rattle.order.proofs.waiting.enter.Tie as tie
 

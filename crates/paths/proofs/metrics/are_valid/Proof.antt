@@ -6,7 +6,7 @@ use Prim.Native.Nat.{ℕ, ◌-◌, ◌<◌, ◌≤◌}
 use native.Mathlib.Omega.{arith}
 use borrow.Author.Count.{below_none, below_more}
 use borrow.Author.Tests.{not-true, not-false}
-use Rattle.area.specs.TestLaws.{all_true, all_false}
+use Rattle.area.proofs.TestLaws.{all_true, all_false}
 use Rattle.paths.specs.Paths.{are_metrics_from, are_metrics}
 use Rattle.paths.proofs.metrics.are_valid.Statement.{statement}
 use Rattle.paths.proofs.metrics.are_valid.Tie as tie

@@ -7,9 +7,9 @@ use Prim.Native.Nat.{ℕ, suc, ◌+◌, ◌-◌, ◌≤◌}
 use native.Mathlib.Omega.{arith}
 use lib.Dec.{eqb}
 use Rattle.area.specs.Tests.{all}
-use Rattle.area.specs.TestLaws.{and_false, and_one, all_none, all_next}
+use Rattle.area.proofs.TestLaws.{and_false, and_one, all_none, all_next}
 use Rattle.paths.specs.Paths.{is_metric}
-use Rattle.paths.specs.PathsLaws.{metric_good, metric_low, metric_high}
+use Rattle.paths.proofs.PathsLaws.{metric_good, metric_low, metric_high}
 use Rattle.paths.proofs.metrics.are_valid_links.Statement.{statement}
 use Rattle.paths.proofs.metrics.are_valid_links.Tie as tie
 

@@ -11,9 +11,9 @@ use borrow.Author.Rules.{rules}
 use borrow.Author.Tests.{not-true, not-false}
 use lib.Dec.{eqb}
 use Rattle.area.specs.Tests.{all}
-use Rattle.area.specs.TestLaws.{both_true, and_true, same_test, all_at, all_true}
+use Rattle.area.proofs.TestLaws.{both_true, and_true, same_test, all_at, all_true}
 use Rattle.paths.specs.Paths.{is_metric, are_metrics_from}
-use Rattle.paths.specs.PathsLaws.{metric_own}
+use Rattle.paths.proofs.PathsLaws.{metric_own}
 use Rattle.paths.proofs.metrics.is_valid_row.Statement.{statement}
 use Rattle.paths.proofs.metrics.is_valid_row.Tie as tie
 

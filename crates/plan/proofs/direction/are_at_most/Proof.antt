@@ -6,10 +6,10 @@ use Prim.Native.Nat.{ℕ, ◌-◌, ◌<◌, ◌≤◌}
 use native.Mathlib.Omega.{arith}
 use borrow.Author.Count.{below_none, below_more}
 use borrow.Author.Tests.{not-true, not-false}
-use Rattle.area.specs.TestLaws.{all_true, all_false}
+use Rattle.area.proofs.TestLaws.{all_true, all_false}
 use Rattle.entries.specs.declared.Entry.{Entry}
 use Rattle.entries.specs.Entries.{entry_count, entry_of, from, to}
-use Rattle.entries.specs.EntryLaws.{read_from, read_to}
+use Rattle.entries.proofs.EntryLaws.{read_from, read_to}
 use Rattle.plan.specs.Parts.{is_at_most, are_listed_at_most}
 use Rattle.plan.proofs.direction.are_at_most.Statement.{statement}
 use Rattle.plan.proofs.direction.are_at_most.Tie as tie

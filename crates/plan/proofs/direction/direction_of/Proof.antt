@@ -7,7 +7,7 @@ use borrow.Author.Rules.{rules}
 use Rattle.area.specs.Limits.{width}
 use Rattle.plan.specs.NewMetrics.{new_metrics}
 use Rattle.plan.specs.Direction.{is_rise, is_fall}
-use Rattle.plan.specs.DirectionLaws.{listed_rise, listed_fall}
+use Rattle.plan.proofs.DirectionLaws.{listed_rise, listed_fall}
 use Rattle.plan.specs.Parts.{are_listed_at_most}
 use Rattle.plan.proofs.direction.direction_of.Statement.{statement}
 use Rattle.plan.proofs.direction.direction_of.Tie as tie

@@ -4,7 +4,7 @@ use Prim.Native.Nat.{ℕ}
 use native.Mathlib.Omega.{arith}
 use borrow.Author.Rules.{rules}
 use lib.Dec.{leb}
-use Rattle.topology.specs.TopologyLaws.{usable_is}
+use Rattle.topology.proofs.TopologyLaws.{usable_is}
 use Rattle.plan.proofs.direction.is_at_most.Statement.{statement}
 use Rattle.plan.proofs.direction.is_at_most.Tie as tie
 

@@ -9,10 +9,10 @@ use borrow.Author.Rules.{rules}
 use Rattle.area.specs.declared.refusal.Refusal.{Refusal}
 use Rattle.area.specs.declared.refusal.Verdict.{Verdict}
 use Rattle.area.specs.Refusals.{refusal_number, verdict_number}
-use Rattle.area.specs.RefusalLaws.{refusal_positive}
+use Rattle.area.proofs.RefusalLaws.{refusal_positive}
 use Rattle.plan.specs.declared.judging.Judged.{Judged}
 use Rattle.plan.specs.Plan.{plan_refusal}
-use Rattle.plan.specs.PlanLaws.{plan_timed}
+use Rattle.plan.proofs.PlanLaws.{plan_timed}
 use Rattle.plan.specs.Parts.{Found, Judges, JudgesPlan}
 use Rattle.plan.proofs.judging.judge.Statement.{statement}
 use Rattle.plan.proofs.judging.judge.Tie as tie

@@ -10,11 +10,11 @@ use lib.ListN.{length}
 use Rattle.area.specs.declared.refusal.Refusal.{Refusal}
 use Rattle.area.specs.declared.refusal.Verdict.{Verdict}
 use Rattle.area.specs.Limits.{width}
-use Rattle.area.specs.SizeLaws.{router_count_true, router_count_low, router_count_high, table_true}
+use Rattle.area.proofs.SizeLaws.{router_count_true, router_count_low, router_count_high, table_true}
 use Rattle.paths.specs.Paths.{is_area}
-use Rattle.paths.specs.PathsLaws.{area_metrics, area_ready}
+use Rattle.paths.proofs.PathsLaws.{area_metrics, area_ready}
 use Rattle.plan.specs.declared.judging.Judged.{Judged}
-use Rattle.plan.specs.PlanLaws.{change_count_lem, change_tables, change_metrics}
+use Rattle.plan.proofs.PlanLaws.{change_count_lem, change_tables, change_metrics}
 use Rattle.plan.specs.Parts.{Judges}
 use Rattle.plan.proofs.Judgements.{judged_refused}
 use Rattle.plan.proofs.judging.judge_change.Statement.{statement}

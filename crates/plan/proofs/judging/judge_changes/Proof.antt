@@ -10,9 +10,11 @@ use Rattle.area.specs.declared.refusal.Verdict.{Verdict}
 use Rattle.area.specs.Refusals.{verdict_number}
 use Rattle.area.specs.Tests.{first}
 use Rattle.entries.specs.Entries.{entry_count, listed_refusal}
-use Rattle.changes.specs.ChangeLaws.{Sound, sound_of}
+use Rattle.changes.specs.Sound.{Sound}
+use Rattle.changes.proofs.ChangeLaws.{sound_of}
 use Rattle.plan.specs.declared.judging.Judged.{Judged}
-use Rattle.plan.specs.PlanLaws.{Listed, change_faulty}
+use Rattle.plan.specs.Planned.{Listed}
+use Rattle.plan.proofs.PlanLaws.{change_faulty}
 use Rattle.plan.specs.Parts.{Judges}
 use Rattle.plan.proofs.judging.judge_changes.Statement.{statement}
 use Rattle.plan.proofs.judging.judge_changes.Tie as tie

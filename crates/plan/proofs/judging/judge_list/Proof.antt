@@ -12,9 +12,10 @@ use Rattle.area.specs.declared.refusal.Refusal.{Refusal}
 use Rattle.area.specs.declared.refusal.Verdict.{Verdict}
 use Rattle.area.specs.Limits.{most_changes}
 use Rattle.entries.specs.Entries.{entry_count}
-use Rattle.paths.specs.PathsLaws.{Ready}
+use Rattle.paths.specs.Ready.{Ready}
 use Rattle.plan.specs.declared.judging.Judged.{Judged}
-use Rattle.plan.specs.PlanLaws.{Listed, change_cut, change_many, change_none}
+use Rattle.plan.specs.Planned.{Listed}
+use Rattle.plan.proofs.PlanLaws.{change_cut, change_many, change_none}
 use Rattle.plan.specs.Parts.{Judges}
 use Rattle.plan.proofs.Judgements.{judged_refused}
 use Rattle.plan.proofs.judging.judge_list.Statement.{statement}

@@ -7,12 +7,14 @@ use borrow.Author.Rules.{rules}
 use borrow.Author.Tests.{not-true, not-false}
 use Rattle.area.specs.declared.refusal.Refusal.{Refusal}
 use Rattle.area.specs.declared.refusal.Verdict.{Verdict}
-use Rattle.changes.specs.ChangeLaws.{Sound, of_sound}
+use Rattle.changes.specs.Sound.{Sound}
+use Rattle.changes.proofs.ChangeLaws.{of_sound}
 use Rattle.changes.specs.Root.{is_common, root}
 use Rattle.plan.specs.declared.judging.Judged.{Judged}
 use Rattle.plan.specs.Direction.{is_same, is_rise, is_fall}
-use Rattle.plan.specs.DirectionLaws.{same_both}
-use Rattle.plan.specs.PlanLaws.{Listed, change_same, change_mixed, change_apart, change_accepted}
+use Rattle.plan.proofs.DirectionLaws.{same_both}
+use Rattle.plan.specs.Planned.{Listed}
+use Rattle.plan.proofs.PlanLaws.{change_same, change_mixed, change_apart, change_accepted}
 use Rattle.plan.specs.Parts.{Judges}
 use Rattle.plan.proofs.Judgements.{judged_refused}
 use Rattle.plan.proofs.judging.judge_together.Statement.{statement}

@@ -5,9 +5,9 @@ use mathlib.Core.List.{List}
 use Prim.Native.Nat.{ℕ, ◌<◌, ◌≤◌}
 use Rattle.area.specs.Limits.{width}
 use Rattle.area.specs.Refusals.{router_count, no_step_time}
-use Rattle.area.specs.SizeLaws.{router_count_true, router_count_low, router_count_high}
+use Rattle.area.proofs.SizeLaws.{router_count_true, router_count_low, router_count_high}
 use Rattle.plan.specs.Plan.{plan_refusal}
-use Rattle.plan.specs.PlanLaws.{plan_count, plan_untimed}
+use Rattle.plan.proofs.PlanLaws.{plan_count, plan_untimed}
 use Rattle.plan.proofs.judging.untimed.Statement.{statement}
 use Rattle.plan.proofs.judging.untimed.Tie as tie
 

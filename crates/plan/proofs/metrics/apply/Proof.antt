@@ -3,7 +3,7 @@ use mathlib.Core.Path.{◌≡◌, sym, ◌∙◌}
 use Prim.Native.Nat.{◌-◌, ◌≤◌}
 use native.Mathlib.Omega.{arith}
 use Rattle.entries.specs.Entries.{entry_count}
-use Rattle.entries.specs.EntryLaws.{read_from, read_to}
+use Rattle.entries.proofs.EntryLaws.{read_from, read_to}
 use Rattle.plan.proofs.Applying.{Applied, applied_none, applied_more, applied_all}
 use Rattle.plan.proofs.metrics.apply.Statement.{statement}
 use Rattle.plan.proofs.metrics.apply.Tie as tie

@@ -1,6 +1,6 @@
 -- One law for each return: a router and itself, a walk before the change, and a walk after it.
 use mathlib.Core.Path.{sym}
-use Rattle.report.specs.LineLaws.{printed_own, printed_old, printed_new}
+use Rattle.report.proofs.LineLaws.{printed_own, printed_old, printed_new}
 use Rattle.report.proofs.all_routes.is_printed.Statement.{statement}
 use Rattle.report.proofs.all_routes.is_printed.Tie as tie
 

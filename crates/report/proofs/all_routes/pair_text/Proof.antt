@@ -1,6 +1,6 @@
 -- One law for each return: the pair has a line, or nothing is appended.
 use borrow.Author.Rules.{rules}
-use Rattle.report.specs.LineLaws.{pair_printed, pair_none}
+use Rattle.report.proofs.LineLaws.{pair_printed, pair_none}
 use Rattle.report.proofs.all_routes.pair_text.Statement.{statement}
 use Rattle.report.proofs.all_routes.pair_text.Tie as tie
 

@@ -1,6 +1,6 @@
 -- What sets are printed, and then the lines of all pairs.
 use borrow.Author.Rules.{rules}
-use Rattle.text.specs.TextLaws.{appended_then}
+use Rattle.text.proofs.TextLaws.{appended_then}
 use Rattle.report.proofs.all_routes.printed.Statement.{statement}
 use Rattle.report.proofs.all_routes.printed.Tie as tie
 

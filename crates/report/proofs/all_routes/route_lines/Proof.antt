@@ -4,18 +4,18 @@ use mathlib.Core.Path.{◌≡◌}
 use native.Mathlib.Omega.{arith}
 use Rattle.text.specs.Text.{Appended}
 use Rattle.report.specs.Lines.{route_lines}
-use Rattle.report.specs.LineLaws.{routes_none, routes_more}
-use Rattle.report.specs.ReportLaws.{Full}
+use Rattle.report.proofs.LineLaws.{routes_none, routes_more}
+use Rattle.report.specs.Parts.{Full}
 use Rattle.report.proofs.all_routes.route_lines.Statement.{statement}
 use Rattle.report.proofs.all_routes.route_lines.Tie as tie
 
 abbrev invariant-loop : tie.invariant-loop
-invariant-loop n old-dist old_hops_lem new-dist new_hops_lem out₀ start at₀ i₀ out at i =
-    (i ≤ n) × Full old-dist old_hops_lem new-dist new_hops_lem
-    × Appended out₀ start (route_lines old-dist old_hops_lem new-dist new_hops_lem n i) out at
+invariant-loop n old-dist old_hops new-dist new_hops out₀ start at₀ i₀ out at i =
+    (i ≤ n) × Full old-dist old_hops new-dist new_hops
+    × Appended out₀ start (route_lines old-dist old_hops new-dist new_hops n i) out at
 
 abbrev decreases-loop : tie.decreases-loop
-decreases-loop n old-dist old_hops_lem new-dist new_hops_lem out₀ start at₀ i₀ out at i = n - i
+decreases-loop n old-dist old_hops new-dist new_hops out₀ start at₀ i₀ out at i = n - i
 
 loop-holds : tie.Need-loop-init invariant-loop decreases-loop
 loop-holds c = (omega arith, c.before.before.before.before.before.requires.1, routes_none _ _ _ _ _ _ _ (omega arith))
@@ -36,7 +36,7 @@ loop-again c =
     let at-loop = c.before.before.before.before.before.loop in
     let a = c.before.before.before.before.before.before.before.before.before.before.before.args in
     let more =
-    routes_more a.old-dist.now a.old_hops_lem.now a.new-dist.now a.new_hops_lem.now
+    routes_more a.old-dist.now a.old_hops.now a.new-dist.now a.new_hops.now
     a.n at-loop.i at-loop.invariant.2 c.before.before.row-lines.ensures
     in
     (omega arith, at-loop.invariant.1, more)

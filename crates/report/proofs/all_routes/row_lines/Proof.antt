@@ -4,18 +4,18 @@ use mathlib.Core.Path.{◌≡◌}
 use native.Mathlib.Omega.{arith}
 use Rattle.text.specs.Text.{Appended}
 use Rattle.report.specs.Lines.{row_lines}
-use Rattle.report.specs.LineLaws.{row_none, row_more}
-use Rattle.report.specs.ReportLaws.{Full}
+use Rattle.report.proofs.LineLaws.{row_none, row_more}
+use Rattle.report.specs.Parts.{Full}
 use Rattle.report.proofs.all_routes.row_lines.Statement.{statement}
 use Rattle.report.proofs.all_routes.row_lines.Tie as tie
 
 abbrev invariant-loop : tie.invariant-loop
-invariant-loop n i old-dist old_hops_lem new-dist new_hops_lem out₀ start at₀ j₀ out at j =
-    (j ≤ n) × Full old-dist old_hops_lem new-dist new_hops_lem
-    × Appended out₀ start (row_lines old-dist old_hops_lem new-dist new_hops_lem i j) out at
+invariant-loop n i old-dist old_hops new-dist new_hops out₀ start at₀ j₀ out at j =
+    (j ≤ n) × Full old-dist old_hops new-dist new_hops
+    × Appended out₀ start (row_lines old-dist old_hops new-dist new_hops i j) out at
 
 abbrev decreases-loop : tie.decreases-loop
-decreases-loop n i old-dist old_hops_lem new-dist new_hops_lem out₀ start at₀ j₀ out at j = n - j
+decreases-loop n i old-dist old_hops new-dist new_hops out₀ start at₀ j₀ out at j = n - j
 
 loop-holds : tie.Need-loop-init invariant-loop decreases-loop
 loop-holds c = (omega arith, c.before.before.before.before.before.requires.1, row_none _ _ _ _ _ _ _ (omega arith))
@@ -65,7 +65,7 @@ loop-again c =
     let at-loop = looped.loop in
     let a = looped.before.before.before.before.before.before.args in
     let more =
-    row_more a.old-dist.now a.old_hops_lem.now a.new-dist.now a.new_hops_lem.now
+    row_more a.old-dist.now a.old_hops.now a.new-dist.now a.new_hops.now
     a.i at-loop.j at-loop.invariant.2 c.before.before.pair-text.ensures
     in
     (omega arith, at-loop.invariant.1, more)

@@ -1,6 +1,6 @@
 -- The digits, and then what stands after them.
 use borrow.Author.Rules.{rules}
-use Rattle.text.specs.TextLaws.{appended_then}
+use Rattle.text.proofs.TextLaws.{appended_then}
 use Rattle.report.proofs.hex_lines.byte_then.Statement.{statement}
 use Rattle.report.proofs.hex_lines.byte_then.Tie as tie
 

@@ -1,6 +1,6 @@
 -- Three bytes, one after the other.
 use borrow.Author.Rules.{rules}
-use Rattle.report.specs.CallLineLaws.{call_appended}
+use Rattle.report.proofs.CallLineLaws.{call_appended}
 use Rattle.report.proofs.hex_lines.call_line.Statement.{statement}
 use Rattle.report.proofs.hex_lines.call_line.Tie as tie
 

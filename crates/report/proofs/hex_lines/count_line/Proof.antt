@@ -1,6 +1,6 @@
 -- The high byte, and then the low one.
 use borrow.Author.Rules.{rules}
-use Rattle.report.specs.CallLineLaws.{count_appended}
+use Rattle.report.proofs.CallLineLaws.{count_appended}
 use Rattle.report.proofs.hex_lines.count_line.Statement.{statement}
 use Rattle.report.proofs.hex_lines.count_line.Tie as tie
 

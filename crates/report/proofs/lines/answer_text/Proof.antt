@@ -1,6 +1,6 @@
 -- One law for each answer.
 use borrow.Author.Rules.{rules}
-use Rattle.report.specs.LineLaws.{ok_appended, ignored_appended, refusal_appended}
+use Rattle.report.proofs.LineLaws.{ok_appended, ignored_appended, refusal_appended}
 use Rattle.report.proofs.lines.answer_text.Statement.{statement}
 use Rattle.report.proofs.lines.answer_text.Tie as tie
 

@@ -1,6 +1,6 @@
 -- Two numbers, one after the other.
 use borrow.Author.Rules.{rules}
-use Rattle.text.specs.TextLaws.{appended_then}
+use Rattle.text.proofs.TextLaws.{appended_then}
 use Rattle.report.proofs.lines.ends.Statement.{statement}
 use Rattle.report.proofs.lines.ends.Tie as tie
 

@@ -1,6 +1,6 @@
 -- One law for each state.
 use borrow.Author.Rules.{rules}
-use Rattle.report.specs.UnfinishedLaws.{holds_idle, holds_holding, holds_ongoing, holds_done}
+use Rattle.report.proofs.UnfinishedLaws.{holds_idle, holds_holding, holds_ongoing, holds_done}
 use Rattle.report.proofs.lines.hold_text.Statement.{statement}
 use Rattle.report.proofs.lines.hold_text.Tie as tie
 

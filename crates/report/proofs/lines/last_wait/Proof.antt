@@ -1,6 +1,6 @@
 -- One law for each state.
 use borrow.Author.Rules.{rules}
-use Rattle.report.specs.UnfinishedLaws.{lets_idle, lets_holding, lets_ongoing, lets_done}
+use Rattle.report.proofs.UnfinishedLaws.{lets_idle, lets_holding, lets_ongoing, lets_done}
 use Rattle.report.proofs.lines.last_wait.Statement.{statement}
 use Rattle.report.proofs.lines.last_wait.Tie as tie
 

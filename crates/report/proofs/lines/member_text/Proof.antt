@@ -5,7 +5,7 @@ use native.Mathlib.Omega.{arith}
 use Rattle.area.specs.Limits.{width}
 use Rattle.text.specs.Text.{Appended}
 use Rattle.report.specs.Lines.{member_text}
-use Rattle.report.specs.SheetLineLaws.{members_none, members_more}
+use Rattle.report.proofs.SheetLineLaws.{members_none, members_more}
 use Rattle.report.proofs.lines.member_text.Statement.{statement}
 use Rattle.report.proofs.lines.member_text.Tie as tie
 

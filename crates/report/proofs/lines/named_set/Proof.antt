@@ -1,6 +1,6 @@
 -- The name, and then the set.
 use borrow.Author.Rules.{rules}
-use Rattle.text.specs.TextLaws.{appended_then}
+use Rattle.text.proofs.TextLaws.{appended_then}
 use Rattle.report.proofs.lines.named_set.Statement.{statement}
 use Rattle.report.proofs.lines.named_set.Tie as tie
 

@@ -1,6 +1,6 @@
 -- One law for each return: the router is a member, or nothing is appended.
 use borrow.Author.Rules.{rules}
-use Rattle.report.specs.SheetLineLaws.{member_printed, member_passed}
+use Rattle.report.proofs.SheetLineLaws.{member_printed, member_passed}
 use Rattle.report.proofs.lines.one_member.Statement.{statement}
 use Rattle.report.proofs.lines.one_member.Tie as tie
 

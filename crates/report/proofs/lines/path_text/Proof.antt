@@ -1,6 +1,6 @@
 -- One law for each return: no walk, or a distance and its next hops.
 use borrow.Author.Rules.{rules}
-use Rattle.report.specs.LineLaws.{none_appended, path_appended}
+use Rattle.report.proofs.LineLaws.{none_appended, path_appended}
 use Rattle.report.proofs.lines.path_text.Statement.{statement}
 use Rattle.report.proofs.lines.path_text.Tie as tie
 

@@ -1,6 +1,6 @@
 -- The two routers, a path for each topology and the end of the line: `route_appended` joins the four parts.
 use borrow.Author.Rules.{rules}
-use Rattle.report.specs.LineLaws.{route_appended}
+use Rattle.report.proofs.LineLaws.{route_appended}
 use Rattle.report.proofs.lines.route_line.Statement.{statement}
 use Rattle.report.proofs.lines.route_line.Tie as tie
 

@@ -1,6 +1,6 @@
 -- Five parts are appended, one for each call: `router_appended` joins what the calls promise.
 use borrow.Author.Rules.{rules}
-use Rattle.report.specs.LineLaws.{router_appended}
+use Rattle.report.proofs.LineLaws.{router_appended}
 use Rattle.report.proofs.lines.router_line.Statement.{statement}
 use Rattle.report.proofs.lines.router_line.Tie as tie
 

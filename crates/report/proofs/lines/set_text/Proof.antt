@@ -1,6 +1,6 @@
 -- One law for each return: the set has no member, or it has some.
 use borrow.Author.Rules.{rules}
-use Rattle.report.specs.SheetLineLaws.{set_none, set_some}
+use Rattle.report.proofs.SheetLineLaws.{set_none, set_some}
 use Rattle.report.proofs.lines.set_text.Statement.{statement}
 use Rattle.report.proofs.lines.set_text.Tie as tie
 

@@ -1,6 +1,6 @@
 -- A name, and the path after it.
 use borrow.Author.Rules.{rules}
-use Rattle.text.specs.TextLaws.{appended_then}
+use Rattle.text.proofs.TextLaws.{appended_then}
 use Rattle.report.proofs.lines.side.Statement.{statement}
 use Rattle.report.proofs.lines.side.Tie as tie
 

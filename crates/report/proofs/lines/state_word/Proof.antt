@@ -1,6 +1,6 @@
 -- One law for each state.
 use borrow.Author.Rules.{rules}
-use Rattle.report.specs.UnfinishedLaws.{idle_appended, holding_appended, ongoing_appended, done_appended}
+use Rattle.report.proofs.UnfinishedLaws.{idle_appended, holding_appended, ongoing_appended, done_appended}
 use Rattle.report.proofs.lines.state_word.Statement.{statement}
 use Rattle.report.proofs.lines.state_word.Tie as tie
 

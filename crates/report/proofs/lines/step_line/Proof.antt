@@ -1,6 +1,6 @@
 -- The step's number is appended, and then its answer: `step_appended` joins the two.
 use borrow.Author.Rules.{rules}
-use Rattle.report.specs.LineLaws.{step_appended}
+use Rattle.report.proofs.LineLaws.{step_appended}
 use Rattle.report.proofs.lines.step_line.Statement.{statement}
 use Rattle.report.proofs.lines.step_line.Tie as tie
 

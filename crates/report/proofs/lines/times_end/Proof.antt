@@ -1,6 +1,6 @@
 -- Three parts are appended, one for each call: `times_appended` joins them.
 use borrow.Author.Rules.{rules}
-use Rattle.report.specs.UnfinishedLaws.{times_appended}
+use Rattle.report.proofs.UnfinishedLaws.{times_appended}
 use Rattle.report.proofs.lines.times_end.Statement.{statement}
 use Rattle.report.proofs.lines.times_end.Tie as tie
 

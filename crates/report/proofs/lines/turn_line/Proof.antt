@@ -1,6 +1,6 @@
 -- Five parts are appended, one for each call: `turn_appended` joins what the calls promise.
 use borrow.Author.Rules.{rules}
-use Rattle.report.specs.SheetLineLaws.{turn_appended}
+use Rattle.report.proofs.SheetLineLaws.{turn_appended}
 use Rattle.report.proofs.lines.turn_line.Statement.{statement}
 use Rattle.report.proofs.lines.turn_line.Tie as tie
 

@@ -1,6 +1,6 @@
 -- Five parts are appended, one for each call: `unfinished_appended` joins what the calls promise.
 use borrow.Author.Rules.{rules}
-use Rattle.report.specs.UnfinishedLaws.{unfinished_appended}
+use Rattle.report.proofs.UnfinishedLaws.{unfinished_appended}
 use Rattle.report.proofs.lines.unfinished_line.Statement.{statement}
 use Rattle.report.proofs.lines.unfinished_line.Tie as tie
 

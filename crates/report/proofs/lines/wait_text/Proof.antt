@@ -1,6 +1,6 @@
 -- By whether the router waits for any.
 use borrow.Author.Rules.{rules}
-use Rattle.report.specs.UnfinishedLaws.{wait_none, wait_some}
+use Rattle.report.proofs.UnfinishedLaws.{wait_none, wait_some}
 use Rattle.report.proofs.lines.wait_text.Statement.{statement}
 use Rattle.report.proofs.lines.wait_text.Tie as tie
 

@@ -1,6 +1,6 @@
 -- What is printed part by part is the whole.
 use borrow.Author.Rules.{rules}
-use Rattle.report.specs.ReportLaws.{rehearsal_appended}
+use Rattle.report.proofs.ReportLaws.{rehearsal_appended}
 use Rattle.report.proofs.rehearsal.printed.Statement.{statement}
 use Rattle.report.proofs.rehearsal.printed.Tie as tie
 

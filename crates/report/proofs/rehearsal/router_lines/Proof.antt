@@ -4,7 +4,7 @@ use mathlib.Core.Path.{◌≡◌}
 use native.Mathlib.Omega.{arith}
 use Rattle.text.specs.Text.{Appended}
 use Rattle.report.specs.Lines.{router_lines}
-use Rattle.report.specs.LineLaws.{routers_none, routers_more}
+use Rattle.report.proofs.LineLaws.{routers_none, routers_more}
 use Rattle.report.proofs.rehearsal.router_lines.Statement.{statement}
 use Rattle.report.proofs.rehearsal.router_lines.Tie as tie
 

@@ -5,7 +5,7 @@ use native.Mathlib.Omega.{arith}
 use lib.ListN.{length}
 use Rattle.area.specs.Limits.{most_steps}
 use Rattle.steps.specs.Outcomes.{outcome_of}
-use Rattle.report.specs.LineLaws.{Left, AllSteps, left_none, left_more, left_all}
+use Rattle.report.proofs.LineLaws.{Left, AllSteps, left_none, left_more, left_all}
 use Rattle.report.proofs.rehearsal.step_lines.Statement.{statement}
 use Rattle.report.proofs.rehearsal.step_lines.Tie as tie
 

@@ -1,7 +1,7 @@
 -- What a change of so few routers needs is far below what a word can hold.
 use native.Mathlib.Omega.{arith}
 use borrow.Author.Rules.{rules}
-use Rattle.needs.specs.NeedsLaws.{needs_any}
+use Rattle.needs.proofs.NeedsLaws.{needs_any}
 use Rattle.report.proofs.step_section.count_calls.Statement.{statement}
 use Rattle.report.proofs.step_section.count_calls.Tie as tie
 

@@ -1,6 +1,6 @@
 -- One law for each return: the router is a member, or nothing is appended.
 use borrow.Author.Rules.{rules}
-use Rattle.report.specs.CallLineLaws.{member_called, member_uncalled}
+use Rattle.report.proofs.CallLineLaws.{member_called, member_uncalled}
 use Rattle.report.proofs.step_section.member_call.Statement.{statement}
 use Rattle.report.proofs.step_section.member_call.Tie as tie
 

@@ -1,6 +1,6 @@
 -- The three lists, one after another.
 use borrow.Author.Rules.{rules}
-use Rattle.report.specs.CallLineLaws.{opening_called}
+use Rattle.report.proofs.CallLineLaws.{opening_called}
 use Rattle.report.proofs.step_section.opening_calls.Statement.{statement}
 use Rattle.report.proofs.step_section.opening_calls.Tie as tie
 

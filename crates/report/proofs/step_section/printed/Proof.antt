@@ -2,7 +2,7 @@
 use mathlib.Core.Path.{◌∙◌}
 use native.Mathlib.Omega.{arith}
 use borrow.Author.Rules.{rules}
-use Rattle.report.specs.CallLineLaws.{section_whole, section_long, places_called}
+use Rattle.report.proofs.CallLineLaws.{section_whole, section_long, places_called}
 use Rattle.report.proofs.step_section.printed.Statement.{statement}
 use Rattle.report.proofs.step_section.printed.Tie as tie
 

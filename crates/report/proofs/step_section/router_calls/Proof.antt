@@ -6,7 +6,7 @@ use Rattle.machine.specs.Run.{call}
 use Rattle.sheet.specs.Follow.{call_each}
 use Rattle.text.specs.Text.{Appended}
 use Rattle.report.specs.Lines.{call_lines}
-use Rattle.report.specs.CallLineLaws.{one_appended, each_start, each_next}
+use Rattle.report.proofs.CallLineLaws.{one_appended, each_start, each_next}
 use Rattle.report.proofs.step_section.router_calls.Statement.{statement}
 use Rattle.report.proofs.step_section.router_calls.Tie as tie
 

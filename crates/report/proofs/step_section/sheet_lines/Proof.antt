@@ -1,6 +1,6 @@
 -- What comes before the turns, and then the turns.
 use borrow.Author.Rules.{rules}
-use Rattle.report.specs.CallLineLaws.{sheet_called}
+use Rattle.report.proofs.CallLineLaws.{sheet_called}
 use Rattle.report.proofs.step_section.sheet_lines.Statement.{statement}
 use Rattle.report.proofs.step_section.sheet_lines.Tie as tie
 

@@ -5,7 +5,7 @@ use native.Mathlib.Omega.{arith}
 use Rattle.machine.specs.Run.{ticks}
 use Rattle.text.specs.Text.{Appended}
 use Rattle.report.specs.Lines.{call_lines}
-use Rattle.report.specs.CallLineLaws.{ticks_start, ticks_next}
+use Rattle.report.proofs.CallLineLaws.{ticks_start, ticks_next}
 use Rattle.report.proofs.step_section.tick_calls.Statement.{statement}
 use Rattle.report.proofs.step_section.tick_calls.Tie as tie
 

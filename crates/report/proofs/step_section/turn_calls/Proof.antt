@@ -1,6 +1,6 @@
 -- The writes, the finish and the messages: `turn_called` joins them.
 use borrow.Author.Rules.{rules}
-use Rattle.report.specs.CallLineLaws.{turn_called}
+use Rattle.report.proofs.CallLineLaws.{turn_called}
 use Rattle.report.proofs.step_section.turn_calls.Statement.{statement}
 use Rattle.report.proofs.step_section.turn_calls.Tie as tie
 

@@ -7,7 +7,7 @@ use Rattle.area.specs.Limits.{width}
 use Rattle.sheet.specs.Follow.{each, turn}
 use Rattle.text.specs.Text.{Appended}
 use Rattle.report.specs.Lines.{call_lines}
-use Rattle.report.specs.CallLineLaws.{each_start, each_next}
+use Rattle.report.proofs.CallLineLaws.{each_start, each_next}
 use Rattle.report.proofs.step_section.turns_calls.Statement.{statement}
 use Rattle.report.proofs.step_section.turns_calls.Tie as tie
 

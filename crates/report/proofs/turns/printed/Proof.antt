@@ -1,6 +1,6 @@
 -- The lines of all turns, and the end.
 use borrow.Author.Rules.{rules}
-use Rattle.report.specs.SheetLineLaws.{sheet_appended}
+use Rattle.report.proofs.SheetLineLaws.{sheet_appended}
 use Rattle.report.proofs.turns.printed.Statement.{statement}
 use Rattle.report.proofs.turns.printed.Tie as tie
 

@@ -5,7 +5,7 @@ use native.Mathlib.Omega.{arith}
 use Rattle.area.specs.Limits.{width}
 use Rattle.text.specs.Text.{Appended}
 use Rattle.report.specs.Lines.{turn_lines}
-use Rattle.report.specs.SheetLineLaws.{turns_none, turns_more}
+use Rattle.report.proofs.SheetLineLaws.{turns_none, turns_more}
 use Rattle.report.proofs.turns.turn_lines.Statement.{statement}
 use Rattle.report.proofs.turns.turn_lines.Tie as tie
 

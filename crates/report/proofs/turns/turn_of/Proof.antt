@@ -1,6 +1,6 @@
 -- The line shows the due set and the telling set of the router.
 use borrow.Author.Rules.{rules}
-use Rattle.report.specs.SheetLineLaws.{turn_of}
+use Rattle.report.proofs.SheetLineLaws.{turn_of}
 use Rattle.report.proofs.turns.turn_of.Statement.{statement}
 use Rattle.report.proofs.turns.turn_of.Tie as tie
 

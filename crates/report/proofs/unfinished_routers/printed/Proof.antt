@@ -1,6 +1,6 @@
 -- What is printed part by part is the whole.
 use borrow.Author.Rules.{rules}
-use Rattle.report.specs.ReportLaws.{unfinished_appended}
+use Rattle.report.proofs.ReportLaws.{unfinished_appended}
 use Rattle.report.proofs.unfinished_routers.printed.Statement.{statement}
 use Rattle.report.proofs.unfinished_routers.printed.Tie as tie
 

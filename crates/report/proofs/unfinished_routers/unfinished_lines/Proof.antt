@@ -5,7 +5,7 @@ use native.Mathlib.Omega.{arith}
 use Rattle.area.specs.Limits.{width}
 use Rattle.text.specs.Text.{Appended}
 use Rattle.report.specs.Lines.{unfinished_lines}
-use Rattle.report.specs.UnfinishedLaws.{unfinished_none, unfinished_more}
+use Rattle.report.proofs.UnfinishedLaws.{unfinished_none, unfinished_more}
 use Rattle.report.proofs.unfinished_routers.unfinished_lines.Statement.{statement}
 use Rattle.report.proofs.unfinished_routers.unfinished_lines.Tie as tie
 

@@ -1,6 +1,6 @@
 -- A router that is done has no line, and any other its own.
 use borrow.Author.Rules.{rules}
-use Rattle.report.specs.UnfinishedLaws.{router_unfinished, router_done}
+use Rattle.report.proofs.UnfinishedLaws.{router_unfinished, router_done}
 use Rattle.report.proofs.unfinished_routers.unfinished_text.Statement.{statement}
 use Rattle.report.proofs.unfinished_routers.unfinished_text.Tie as tie
 

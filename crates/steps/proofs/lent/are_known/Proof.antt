@@ -10,7 +10,7 @@ use lib.ListN.{get_or}
 use borrow.Author.Tests.{le-leb, leb-true}
 use Rattle.area.specs.Limits.{width}
 use Rattle.area.specs.Tests.{all}
-use Rattle.area.specs.TestLaws.{same_test, all_at, all_true}
+use Rattle.area.proofs.TestLaws.{same_test, all_at, all_true}
 use Rattle.machine.specs.Machine.{done}
 use Rattle.steps.proofs.lent.are_known.Statement.{statement}
 use Rattle.steps.proofs.lent.are_known.Tie as tie

@@ -9,7 +9,7 @@ use Rattle.plan.specs.declared.Record.{Record}
 use Rattle.machine.specs.Answers.{Outcome}
 use Rattle.machine.specs.Machine.{learn_kind, release_kind, finish_kind, tick_kind}
 use Rattle.machine.specs.Machine.{over, timed, learn, release, finish, is_kind, reads_b, call_of}
-use Rattle.machine.specs.StepLaws.{kind_range, reads_false, call_learn, call_release, call_finish}
+use Rattle.machine.proofs.StepLaws.{kind_range, reads_false, call_learn, call_release, call_finish}
 use Rattle.steps.proofs.lent.call_one.Statement.{statement}
 use Rattle.steps.proofs.lent.call_one.Tie as tie
 

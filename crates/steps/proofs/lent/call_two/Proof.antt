@@ -7,7 +7,7 @@ use borrow.Author.Rules.{rules}
 use Rattle.plan.specs.declared.Record.{Record}
 use Rattle.machine.specs.Answers.{Outcome}
 use Rattle.machine.specs.Machine.{write_kind, over, timed, write, deliver, reads_b, call_of}
-use Rattle.machine.specs.StepLaws.{reads_true, call_write, call_deliver}
+use Rattle.machine.proofs.StepLaws.{reads_true, call_write, call_deliver}
 use Rattle.steps.proofs.lent.call_two.Statement.{statement}
 use Rattle.steps.proofs.lent.call_two.Tie as tie
 

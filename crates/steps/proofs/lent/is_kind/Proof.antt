@@ -1,7 +1,7 @@
 -- One law for each return.
 use mathlib.Core.Path.{sym}
 use mathlib.Core.Logic.{inl, inr}
-use Rattle.machine.specs.StepLaws.{kind_known, kind_other}
+use Rattle.machine.proofs.StepLaws.{kind_known, kind_other}
 use Rattle.steps.proofs.lent.is_kind.Statement.{statement}
 use Rattle.steps.proofs.lent.is_kind.Tie as tie
 

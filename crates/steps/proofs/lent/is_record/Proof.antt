@@ -10,7 +10,7 @@ use borrow.Author.Rules.{rules}
 use Rattle.area.specs.Limits.{width}
 use Rattle.area.specs.Tests.{all}
 use Rattle.machine.specs.Machine.{done, is_sound}
-use Rattle.machine.specs.StepLaws.{sound_low, sound_high, sound_states}
+use Rattle.machine.proofs.StepLaws.{sound_low, sound_high, sound_states}
 use Rattle.steps.proofs.lent.is_record.Statement.{statement}
 use Rattle.steps.proofs.lent.is_record.Tie as tie
 

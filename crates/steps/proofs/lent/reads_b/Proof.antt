@@ -3,7 +3,7 @@ use Prim.Native.Nat.{ℕ}
 use mathlib.Core.Path.{◌≡◌, sym}
 use mathlib.Core.Bool.{true}
 use Rattle.machine.specs.Machine.{write_kind, deliver_kind, reads_b}
-use Rattle.machine.specs.StepLaws.{reads_two, reads_other}
+use Rattle.machine.proofs.StepLaws.{reads_two, reads_other}
 use Rattle.steps.proofs.lent.reads_b.Statement.{statement}
 use Rattle.steps.proofs.lent.reads_b.Tie as tie
 

@@ -10,14 +10,14 @@ use borrow.Author.Rules.{rules}
 use borrow.Author.Tests.{not-true, not-false, lt-ltb}
 use lib.Dec.{ltb}
 use Rattle.area.specs.Limits.{width}
-use Rattle.area.specs.TestLaws.{and_true}
+use Rattle.area.proofs.TestLaws.{and_true}
 use Rattle.area.specs.Refusals.{unknown_router, bad_record, unknown_kind}
 use Rattle.plan.specs.declared.Record.{Record}
 use Rattle.machine.specs.Answers.{refused, Outcome, gives}
 use Rattle.machine.specs.Machine.{tick_kind, over, timed, tick, is_sound, is_record, is_kind, reads_b, are_routers, call_of}
 use Rattle.machine.specs.Machine.{step_of}
-use Rattle.machine.specs.StepLaws.{sound_most, step_record, step_kind, step_router, step_call, call_tick}
-use Rattle.machine.specs.StepLaws.{routers_one, routers_two, routers_none, first_out, second_out}
+use Rattle.machine.proofs.StepLaws.{sound_most, step_record, step_kind, step_router, step_call, call_tick}
+use Rattle.machine.proofs.StepLaws.{routers_one, routers_two, routers_none, first_out, second_out}
 use Rattle.steps.proofs.lent.step.Statement.{statement}
 use Rattle.steps.proofs.lent.step.Tie as tie
 

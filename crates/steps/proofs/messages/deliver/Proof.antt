@@ -10,7 +10,7 @@ use Rattle.sets.specs.Sets.{bit, removed}
 use Rattle.plan.specs.declared.Record.{Record}
 use Rattle.machine.specs.Answers.{ok, ignored, refused, gives}
 use Rattle.machine.specs.Machine.{done, state_of, waiting_of, telling_of, with_waiting, listens, deliver}
-use Rattle.machine.specs.StepLaws.{deliver_not_done, deliver_not_told, deliver_lost, deliver_ok}
+use Rattle.machine.proofs.StepLaws.{deliver_not_done, deliver_not_told, deliver_lost, deliver_ok}
 use Rattle.steps.proofs.messages.deliver.Statement.{statement}
 use Rattle.steps.proofs.messages.deliver.Tie as tie
 

@@ -5,7 +5,7 @@ use mathlib.Core.Bool.{Bool}
 use borrow.Author.Rules.{rules}
 use Rattle.sets.specs.Sets.{bit}
 use Rattle.machine.specs.Machine.{holding, ongoing, listens}
-use Rattle.machine.specs.StepLaws.{listens_holding, listens_ongoing, listens_neither}
+use Rattle.machine.proofs.StepLaws.{listens_holding, listens_ongoing, listens_neither}
 use Rattle.steps.proofs.messages.listens.Statement.{statement}
 use Rattle.steps.proofs.messages.listens.Tie as tie
 

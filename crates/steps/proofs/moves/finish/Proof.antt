@@ -15,8 +15,8 @@ use Rattle.machine.specs.declared.states.Event.TheVariants.{Finish}
 use Rattle.machine.specs.declared.states.NextState.{NextState}
 use Rattle.machine.specs.declared.states.NextState.TheVariants.{To}
 use Rattle.machine.specs.States.{state_number, named, next_state}
-use Rattle.machine.specs.StepLaws.{waits_on, finish_waiting, finish_unwritten, finish_ok}
-use Rattle.machine.specs.StateLaws.{finish_none, finish_at, finish_to}
+use Rattle.machine.proofs.StepLaws.{waits_on, finish_waiting, finish_unwritten, finish_ok}
+use Rattle.machine.proofs.StateLaws.{finish_none, finish_at, finish_to}
 use Rattle.steps.proofs.Moving.{told}
 use Rattle.steps.proofs.moves.finish.Statement.{statement}
 use Rattle.steps.proofs.moves.finish.Tie as tie

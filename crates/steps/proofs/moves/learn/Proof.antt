@@ -2,7 +2,7 @@
 use mathlib.Core.Path.{sym}
 use borrow.Author.Rules.{rules}
 use Rattle.plan.specs.declared.Record.{Record}
-use Rattle.machine.specs.StateLaws.{learn_none, learn_to}
+use Rattle.machine.proofs.StateLaws.{learn_none, learn_to}
 use Rattle.steps.proofs.Moving.{told}
 use Rattle.steps.proofs.moves.learn.Statement.{statement}
 use Rattle.steps.proofs.moves.learn.Tie as tie

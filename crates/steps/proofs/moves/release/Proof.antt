@@ -12,7 +12,7 @@ use Rattle.machine.specs.declared.states.NextState.TheVariants.{To}
 use Rattle.machine.specs.Answers.{ok, refused, gives}
 use Rattle.machine.specs.Machine.{state_of, held_until, with_state, release}
 use Rattle.machine.specs.States.{state_number, named, next_state}
-use Rattle.machine.specs.StateLaws.{release_none, release_soon, release_to}
+use Rattle.machine.proofs.StateLaws.{release_none, release_soon, release_to}
 use Rattle.steps.proofs.Moving.{told}
 use Rattle.steps.proofs.moves.release.Statement.{statement}
 use Rattle.steps.proofs.moves.release.Tie as tie

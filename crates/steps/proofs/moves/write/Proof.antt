@@ -15,8 +15,8 @@ use Rattle.machine.specs.declared.states.Event.TheVariants.{Write}
 use Rattle.machine.specs.declared.states.NextState.{NextState}
 use Rattle.machine.specs.declared.states.NextState.TheVariants.{To}
 use Rattle.machine.specs.States.{named, next_state}
-use Rattle.machine.specs.StepLaws.{waits_on, write_waiting, write_not_due, write_again, write_ok}
-use Rattle.machine.specs.StateLaws.{write_none, write_at}
+use Rattle.machine.proofs.StepLaws.{waits_on, write_waiting, write_not_due, write_again, write_ok}
+use Rattle.machine.proofs.StateLaws.{write_none, write_at}
 use Rattle.steps.proofs.Moving.{told}
 use Rattle.steps.proofs.moves.write.Statement.{statement}
 use Rattle.steps.proofs.moves.write.Tie as tie

@@ -1,6 +1,6 @@
 -- By whether the set is empty.
 use mathlib.Core.Path.{sym}
-use Rattle.machine.specs.StepLaws.{must_none, must_some}
+use Rattle.machine.proofs.StepLaws.{must_none, must_some}
 use Rattle.steps.proofs.timers.must_wait.Statement.{statement}
 use Rattle.steps.proofs.timers.must_wait.Tie as tie
 

@@ -2,7 +2,7 @@
 use mathlib.Core.Path.{sym}
 use borrow.Author.Rules.{rules}
 use Rattle.plan.specs.declared.Record.{Record}
-use Rattle.machine.specs.StepLaws.{tick_last, tick_ok}
+use Rattle.machine.proofs.StepLaws.{tick_last, tick_ok}
 use Rattle.steps.proofs.timers.tick.Statement.{statement}
 use Rattle.steps.proofs.timers.tick.Tie as tie
 

@@ -9,9 +9,9 @@ use native.Mathlib.Omega.{arith}
 use Rattle.area.specs.Limits.{width, unreached}
 use Rattle.area.specs.Tests.{lowest}
 use Rattle.sets.specs.Sets.{bit, added}
-use Rattle.sets.specs.SetLaws.{member_some, added_self, added_cases}
+use Rattle.sets.proofs.SetLaws.{member_some, added_self, added_cases}
 use Rattle.sets.specs.Four.{beyond}
-use Rattle.sets.specs.VisitLaws.{Visited, visit_start, visit_next, visit_end, visit_member, visit_less}
+use Rattle.sets.proofs.VisitLaws.{Visited, visit_start, visit_next, visit_end, visit_member, visit_less}
 use Rattle.trees.specs.Turns.{entry, Nearest}
 use Rattle.trees.proofs.nearest.nearest.Statement.{statement}
 use Rattle.trees.proofs.nearest.nearest.Tie as tie

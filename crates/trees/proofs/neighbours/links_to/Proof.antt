@@ -8,9 +8,9 @@ use borrow.Author.Tests.{lt-ltb, le-ltb}
 use lib.Dec.{ltb}
 use Rattle.area.specs.Limits.{width, unused}
 use Rattle.sets.specs.Sets.{set_of, added}
-use Rattle.sets.specs.SetLaws.{set_of_start, set_of_skip, set_of_more}
+use Rattle.sets.proofs.SetLaws.{set_of_start, set_of_skip, set_of_more}
 use Rattle.topology.specs.Topology.{topology}
-use Rattle.topology.specs.TopologyLaws.{usable_is}
+use Rattle.topology.proofs.TopologyLaws.{usable_is}
 use Rattle.trees.proofs.neighbours.links_to.Statement.{statement}
 use Rattle.trees.proofs.neighbours.links_to.Tie as tie
 

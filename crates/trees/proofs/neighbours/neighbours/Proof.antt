@@ -3,7 +3,7 @@ use Prim.Native.Nat.{◌-◌, ◌≤◌}
 use mathlib.Core.Path.{◌≡◌}
 use native.Mathlib.Omega.{arith}
 use Rattle.area.specs.Limits.{width}
-use Rattle.area.specs.PerRouterLaws.{Filled, filled_none, filled_more, filled_all}
+use Rattle.area.proofs.PerRouterLaws.{Filled, filled_none, filled_more, filled_all}
 use Rattle.trees.specs.Turns.{links_to}
 use Rattle.trees.proofs.neighbours.neighbours.Statement.{statement}
 use Rattle.trees.proofs.neighbours.neighbours.Tie as tie

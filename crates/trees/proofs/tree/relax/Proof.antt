@@ -11,7 +11,7 @@ use Rattle.area.specs.Tables.{cell}
 use Rattle.area.specs.Tests.{lowest}
 use Rattle.sets.specs.Sets.{bit, added}
 use Rattle.sets.specs.Four.{beyond}
-use Rattle.sets.specs.VisitLaws.{Visited, visit_start, visit_more, visit_end, visit_member, visit_left, visit_less}
+use Rattle.sets.proofs.VisitLaws.{Visited, visit_start, visit_more, visit_end, visit_member, visit_left, visit_less}
 use Rattle.trees.specs.Turns.{entry, Offered, ColumnOffered}
 use Rattle.trees.proofs.tree.relax.Statement.{statement}
 use Rattle.trees.proofs.tree.relax.Tie as tie

@@ -6,7 +6,7 @@ use mathlib.Core.Logic.{◌≢◌}
 use native.Mathlib.Omega.{arith}
 use Rattle.area.specs.Limits.{width}
 use Rattle.sets.specs.Sets.{bit}
-use Rattle.sets.specs.VisitLaws.{visit_member, visit_less}
+use Rattle.sets.proofs.VisitLaws.{visit_member, visit_less}
 use Rattle.trees.proofs.Turning.{Turning, turning_none, room, turning_more, turned, all_found}
 use Rattle.trees.proofs.tree.settle.Statement.{statement}
 use Rattle.trees.proofs.tree.settle.Tie as tie

@@ -8,7 +8,7 @@ use mathlib.Core.Path.{ap, ◌∙◌}
 use native.Mathlib.Omega.{arith}
 use lib.ListN.{length}
 use Rattle.area.specs.Limits.{width}
-use Rattle.area.specs.PerRouterLaws.{per_length}
+use Rattle.area.proofs.PerRouterLaws.{per_length}
 use Rattle.sets.specs.Sets.{union}
 use Rattle.sets.specs.Counts.{size}
 use Rattle.trees.specs.Turns.{links_to}

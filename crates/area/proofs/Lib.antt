@@ -1,0 +1,11 @@
+pub mod ByteLaws
+pub mod ColumnLaws
+pub mod LowestLaws
+pub mod MemberLaws
+pub mod PerRouterLaws
+pub mod PigeonholeLaws
+pub mod RefusalLaws
+pub mod RowLaws
+pub mod SizeLaws
+pub mod TableLaws
+pub mod TestLaws

@@ -1,0 +1,5 @@
+pub mod AreaFileLaws
+pub mod FromIsisLaws
+pub mod LineLaws
+pub mod LinkLaws
+pub mod ReadAgainLaws

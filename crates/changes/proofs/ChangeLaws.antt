@@ -1,0 +1,33 @@
+-- Laws of the change list: a change is refused as any entry of a list is (entries/specs/Entries.antt).
+--     Change n l e         what is known of a change that has no fault
+--     change_of, change_faultless          a change is not refused exactly where it has no fault
+--     Sound, sound_of, of_sound            the same of the whole list
+use Rattle.std.specs.Prelude.{ℕ, ◌<◌, ◌≡◌, true, ◌≢◌, List}
+use Rattle.area.specs.Tests.{first}
+use Rattle.area.proofs.TestLaws.{first_none, none_first}
+use Rattle.entries.specs.Entries.{entry_count, entry_of, from, to, metric, is_first, listed_refusal}
+use Rattle.entries.proofs.EntryLaws.{faultless, listed_passes, listed_sound}
+use Rattle.changes.specs.Sound.{Change, Sound}
+
+-- ---- a change that has no fault
+pub change_of : (n : ℕ) (l : List ℕ) (e : ℕ) → listed_refusal n l e ≡ 0 → Change n l e
+change_of n l e z =
+    let s = listed_sound n l e z in
+    record {
+      from_in = s.0.from_in;
+      to_in = s.0.to_in;
+      apart = s.0.apart;
+      some = s.0.some;
+      new = s.1;
+    }
+
+pub change_faultless : (n : ℕ) (l : List ℕ) (e : ℕ) → Change n l e → listed_refusal n l e ≡ 0
+change_faultless n l e c =
+    listed_passes n l e (faultless n (entry_of l e) c.from_in c.to_in c.apart c.some) c.new
+
+-- where no fault is found every change is sound, and the other way round
+pub sound_of : (n : ℕ) (l : List ℕ) → first (entry_count l) (listed_refusal n l) ≡ 0 → Sound n l
+sound_of n l z e h = change_of n l e (none_first (listed_refusal n l) (entry_count l) z e h)
+
+pub of_sound : (n : ℕ) (l : List ℕ) → Sound n l → first (entry_count l) (listed_refusal n l) ≡ 0
+of_sound n l s = first_none (listed_refusal n l) (entry_count l) (λ e h. change_faultless n l e (s e h))

@@ -1,0 +1,3 @@
+pub mod DifferentLaws
+pub mod EntryLaws
+pub mod SeenLaws

@@ -1,0 +1,3 @@
+pub mod HandedBackLaws
+pub mod LoopFreeLaws
+pub mod Examples

@@ -1,0 +1,9 @@
+pub mod CallLaws
+pub mod HeldLaws
+pub mod MoveLaws
+pub mod OkLaws
+pub mod OrderedLaws
+pub mod RunLaws
+pub mod StateLaws
+pub mod StepLaws
+pub mod TimelyLaws

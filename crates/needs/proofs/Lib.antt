@@ -1,0 +1,3 @@
+pub mod CountedLaws
+pub mod NeedsLaws
+pub mod ProgressLaws

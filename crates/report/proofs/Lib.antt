@@ -1,0 +1,9 @@
+pub mod CallLineLaws
+pub mod FirstBytesLaws
+pub mod LengthLaws
+pub mod LineLaws
+pub mod ReportLaws
+pub mod RoomLaws
+pub mod SheetLineLaws
+pub mod StepsReadLaws
+pub mod UnfinishedLaws

@@ -1,0 +1,59 @@
+use Rattle.std.specs.Prelude.{ℕ, ◌+◌, List, ◌++◌}
+use Rattle.machine.specs.Machine.{learn_kind, release_kind}
+use Rattle.machine.specs.Run.{Call, call, ticks}
+use Rattle.sheet.specs.Follow.{call_each}
+use Rattle.std.specs.Prelude.{◌*◌, ◌≤◌, ◌≡◌, length, take, drop}
+use Rattle.area.specs.Limits.{width, longest_time, most_steps}
+use Rattle.plan.specs.declared.Record.{Record}
+use Rattle.needs.specs.Needs.{needs}
+use Rattle.sheet.specs.Follow.{sheet_calls}
+use Rattle.bench_file.specs.Sections.{routers, hold_time, steps}
+use Rattle.bench_file.specs.declared.Section.{Section}
+use Rattle.report.specs.Lines.{rehearsal_lines, routes_lines, sheet_lines, step_section}
+use Rattle.report.specs.Lines.{unfinished_after}
+use Rattle.report.specs.declared.Text.{Text}
+use Rattle.report.specs.declared.Text.TheVariants.{Rehearsal, Routes, SheetTurns, SheetSteps, Unfinished}
+use Rattle.machine.specs.declared.states.State.{State}
+use Rattle.text.specs.Text.{word}
+use Rattle.report.specs.Lines.{hold_text, wait_text}
+
+abbrev pub opening : (n hold : ℕ) → List Call
+opening n hold =
+    call_each n (λ x. call learn_kind x 0) ++ (ticks hold ++ call_each n (λ x. call release_kind x 0))
+
+-- the steps of a file, by where they are
+abbrev pub step_bytes : (f : List ℕ) (s : Section) → List ℕ
+step_bytes f s = take (3 * s.count) (drop s.at f)
+
+-- the steps lie in the file
+abbrev pub Within : (f : List ℕ) (s : Section) → Type 0
+Within f s = s.at + 3 * s.count ≤ length f
+
+-- the tables that are printed have all cells
+pub record Full (d h e g : List ℕ) : Type 0 where
+  pub old_distances : length d ≡ width * width
+  pub old_hops : length h ≡ width * width
+  pub new_distances : length e ≡ width * width
+  pub new_hops : length g ≡ width * width
+
+-- the calls by which a sheet is followed are as many as the change needs, and a tick for each of the hold time
+abbrev pub Counted : (r : Record) → Type 0
+Counted r = r.hold_time ≤ longest_time → needs r + r.hold_time ≡ length (sheet_calls r)
+
+-- the routers and the steps are few enough, the calls that follow the sheet are counted, and the tables have all cells
+pub record Ready (r : Record) (bytes d h e g : List ℕ) : Type 0 where
+  pub few : r.n ≤ width
+  pub most : length bytes ≤ 3 * most_steps
+  pub counted : Counted r
+  pub full : Full d h e g
+
+-- the lines of each text, by the record, the bytes of the steps and the tables before the change and after it
+abbrev pub lines_by : (text : Text) (r : Record) (bytes d h e g : List ℕ) → List ℕ
+lines_by Rehearsal r bytes d h e g = rehearsal_lines r bytes
+lines_by Routes r bytes d h e g = routes_lines d h e g r.n
+lines_by SheetTurns r bytes d h e g = sheet_lines r
+lines_by SheetSteps r bytes d h e g = step_section (sheet_calls r)
+lines_by Unfinished r bytes d h e g = unfinished_after r bytes
+
+abbrev pub times_end : (s : State) (waits until due : ℕ) → List ℕ
+times_end s waits until due = hold_text s until ++ (wait_text s waits due ++ word "\n")

@@ -1,0 +1,4 @@
+pub mod CountLaws
+pub mod FourLaws
+pub mod SetLaws
+pub mod VisitLaws

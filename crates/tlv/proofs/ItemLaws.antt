@@ -1,0 +1,193 @@
+-- Laws of items: those by which the code is proved, and those for a loop over the items of a list.
+--     item_end, item_short, item_past, item_long, item_entry, after-..
+--                                          one for each way in which a function returns
+--     next_inside                          an entry ends behind its place, inside its list
+--     items_end, items_refused, items_entry
+--                                          the items from a place on, by what stands there
+--     same_identity                        two identities are equal as numbers exactly if their seven bytes are
+-- There are enough items: each entry takes a place further, so `items_from` with as many as there are bytes left gives
+-- the same as with more (`enough`).
+use Rattle.std.specs.Prelude.{ℕ, zero, suc, ◌+◌, ◌-◌, ◌*◌, ◌≤◌, ◌<◌, ◌≡◌, ◌⊎◌, ◌↔◌, List, [], ◌∷◌, length, get_or, ltb, leb}
+use Rattle.std.proofs.Math.Path.{refl}
+use Rattle.std.proofs.Common.{sym, ap, ◌∙◌, subst, ⊎_elim, not-suc-le-zero, eq-or-lt_of_le, le_of_suc-le-suc, arith}
+use Rattle.std.proofs.Math.Decide.{dec_lt, dec_le}
+use borrow.Author.Tests.{le-leb, lt-leb, lt-ltb, le-ltb}
+use Rattle.area.specs.Bytes.{three}
+use Rattle.area.proofs.ByteLaws.{byte_missing, byte_same}
+use Rattle.area.specs.declared.refusal.Refusal.{Refusal}
+use Rattle.area.specs.declared.refusal.Refusal.TheVariants.{PastList, LongSubTlvs}
+use Rattle.tlv.specs.declared.Neighbour.{Neighbour}
+use Rattle.tlv.specs.declared.Item.{Item}
+use Rattle.tlv.specs.declared.Item.TheVariants.{End, Refused, Entry}
+use Rattle.tlv.specs.Items.{seven, sub_tlvs, end_of, item_at, place_after}
+use Rattle.tlv.specs.Items.{followed, items_from, items_at}
+
+-- ---- the code's returns
+module _ (l : List ℕ) (p : ℕ) where
+  pub item_end : length l ≤ p → End ≡ item_at l p
+  unfolding item_at
+  item_end h = rw (le-leb (length l) p h) refl
+
+  module _ (h : p < length l) where
+    runs_past : length l < end_of l p → Refused PastList ≡ item_at l p
+    unfolding item_at
+    runs_past s = rw (lt-leb (length l) p h, lt-ltb (length l) (end_of l p) s) refl
+
+    pub item_short : length l - p < 11 → Refused PastList ≡ item_at l p
+    item_short s = runs_past (omega (arith, byte_missing l (p + 10) (omega arith)))
+
+    module _ (k : ℕ) (e : k ≡ sub_tlvs l p) where
+      pub item_past : length l - p < 11 + k → Refused PastList ≡ item_at l p
+      item_past s = runs_past (omega arith)
+
+      module _ (b : 11 + k ≤ length l - p) where
+        fits : end_of l p ≤ length l
+        fits = omega arith
+
+        pub item_long : 244 < k → Refused LongSubTlvs ≡ item_at l p
+        unfolding item_at
+        item_long s =
+            rw (lt-leb (length l) p h, le-ltb (length l) (end_of l p) fits, lt-ltb 244 (sub_tlvs l p) (omega arith)) refl
+
+        pub item_entry :
+            k ≤ 244
+            → (i m : ℕ)
+            → i ≡ seven l p
+            → m ≡ three l (p + 7)
+            → Entry (record { identity = i; metric = m; next = p + 11 + k }) ≡ item_at l p
+        unfolding item_at
+        item_entry s i m f g =
+            rw (lt-leb (length l) p h, le-ltb (length l) (end_of l p) fits, le-ltb 244 (sub_tlvs l p) (omega arith))
+            (rw (e, f, g) refl)
+
+module _ (l : List ℕ) (p : ℕ) (i : Item) (r : i ≡ item_at l p) where
+  pub after_entry : (x : Neighbour) → i ≡ Entry x → x.next ≡ place_after l p
+  unfolding place_after
+  after_entry x q = rw (← r, q) refl
+
+  pub after_end : i ≡ End → p ≡ place_after l p
+  unfolding place_after
+  after_end q = rw (← r, q) refl
+
+  pub after_refused : (k : Refusal) → i ≡ Refused k → p ≡ place_after l p
+  unfolding place_after
+  after_refused k q = rw (← r, q) refl
+
+-- ---- where an entry ends
+abbrev Inside : List ℕ → ℕ → Item → Type 0
+Inside l p End = Unit {0}
+Inside l p (Refused k) = Unit {0}
+Inside l p (Entry x) = (p < x.next) × (x.next ≤ length l)
+
+inside : (l : List ℕ) (p : ℕ) → Inside l p (item_at l p)
+inside l p = elim (dec_le (length l) p) [
+  | yes a ↦ subst (Inside l p) (item_end l p a) tt
+  | no a ↦ elim (dec_lt (length l) (end_of l p)) [
+    | yes b ↦ subst (Inside l p) (runs_past l p (omega arith) b) tt
+    | no b ↦ elim (dec_lt 244 (sub_tlvs l p)) [
+      | yes c ↦ subst (Inside l p) (item_long l p (omega arith) (sub_tlvs l p) refl (omega arith) c) tt
+      | no c ↦
+          subst (Inside l p)
+          (item_entry l p (omega arith) (sub_tlvs l p) refl (omega arith) (omega arith) (seven l p) (three l (p + 7))
+          refl refl)
+          (omega arith, omega arith)
+    ]
+  ]
+]
+
+pub next_inside :
+    (l : List ℕ) (p : ℕ) (i : Item) (x : Neighbour)
+    → i ≡ item_at l p
+    → i ≡ Entry x
+    → (p < x.next) × (x.next ≤ length l)
+next_inside l p i x r q = subst (Inside l p) (sym r ∙ q) (inside l p)
+
+-- ---- the items from a place on
+enough :
+    (l : List ℕ) (h k p : ℕ)
+    → length l ≤ p + h
+    → length l ≤ p + k
+    → items_from l h p ≡ items_from l k p
+unfolding items_from
+enough l zero zero p a b = refl
+enough l zero (suc k) p a b = ap (λ (i : Item). followed i (items_from l k)) (item_end l p (omega arith))
+enough l (suc h) zero p a b = sym (ap (λ (i : Item). followed i (items_from l h)) (item_end l p (omega arith)))
+enough l (suc h) (suc k) p a b =
+    go (item_at l p) (inside l p) (λ q c. enough l h k q (omega arith) (omega arith))
+  where
+    go :
+        (i : Item)
+        → Inside l p i
+        → ((q : ℕ) → p < q → items_from l h q ≡ items_from l k q)
+        → followed i (items_from l h) ≡ followed i (items_from l k)
+    go End x f = refl
+    go (Refused k) x f = refl
+    go (Entry n) x f = ap (◌∷◌ (Entry n)) (f n.next x.0)
+
+module _ (l : List ℕ) (p : ℕ) where
+  opened : items_at l p ≡ followed (item_at l p) (items_at l)
+  unfolding items_at items_from
+  opened = enough l (length l) (suc (length l)) p (omega arith) (omega arith)
+
+  module _ (i : Item) (r : i ≡ item_at l p) where
+    with_item : (j : Item) → i ≡ j → items_at l p ≡ followed j (items_at l)
+    with_item j q = opened ∙ ap (λ (x : Item). followed x (items_at l)) (sym r ∙ q)
+
+    pub items_end : i ≡ End → items_at l p ≡ []
+    items_end q = with_item End q
+
+    pub items_refused : (k : Refusal) → i ≡ Refused k → items_at l p ≡ Refused k ∷ []
+    items_refused k q = with_item (Refused k) q
+
+    pub items_entry : (x : Neighbour) → i ≡ Entry x → items_at l p ≡ Entry x ∷ items_at l x.next
+    items_entry x q = with_item (Entry x) q
+
+-- ---- identities
+-- the bytes of one identity are those of the other
+abbrev pub SameBytes : (l : List ℕ) (p : ℕ) (m : List ℕ) (q : ℕ) → Type 0
+SameBytes l p m q = (k : ℕ) → k < 7 → get_or l (p + k) 0 ≡ get_or m (q + k) 0
+
+-- the numbers in the first k of seven bytes
+abbrev part : (l : List ℕ) (p k : ℕ) → ℕ
+part l p zero = 0
+part l p (suc k) = 256 * part l p k + get_or l (p + k) 0
+
+whole_part : (l : List ℕ) (p : ℕ) → seven l p ≡ part l p 7
+whole_part l p =
+    let start : get_or l (p + 0) 0 ≡ get_or l p 0 = ap (λ (k : ℕ). get_or l k 0) (omega arith) in
+    omega (arith, start)
+
+part_same : (l : List ℕ) (p : ℕ) (m : List ℕ) (q k : ℕ)
+    → ((j : ℕ) → j < k → get_or l (p + j) 0 ≡ get_or m (q + j) 0)
+    → part l p k ≡ part m q k
+part_same l p m q zero s = refl
+part_same l p m q (suc k) s =
+    omega (arith, part_same l p m q k (λ j h. s j (omega arith)), s k (omega arith))
+
+-- each byte is told from the number that it ends (`byte_same`)
+part_told : (l : List ℕ) (p : ℕ) (m : List ℕ) (q k : ℕ)
+    → ((j : ℕ) → get_or l j 0 < 256)
+    → ((j : ℕ) → get_or m j 0 < 256)
+    → part l p k ≡ part m q k
+    → (j : ℕ) → j < k → get_or l (p + j) 0 ≡ get_or m (q + j) 0
+part_told l p m q zero a b e j h = absurd (not-suc-le-zero h)
+part_told l p m q (suc k) a b e j h =
+    let last = byte_same (part l p k) (part m q k) (get_or l (p + k) 0) (get_or m (q + k) 0) (a (p + k)) (b (q + k)) e in
+    ⊎_elim
+    (λ (s : j ≡ k). rw s last.1)
+    (λ (s : j < k). part_told l p m q k a b last.0 j s)
+    (eq-or-lt_of_le (le_of_suc-le-suc h))
+
+-- the elements of a list are bytes
+abbrev pub InBytes : (l : List ℕ) → Type 0
+InBytes l = (k : ℕ) → get_or l k 0 < 256
+
+pub same_identity :
+    (l : List ℕ) (p : ℕ) (m : List ℕ) (q : ℕ)
+    → InBytes l
+    → InBytes m
+    → (seven l p ≡ seven m q) ↔ SameBytes l p m q
+same_identity l p m q a b = (
+  λ e. part_told l p m q 7 a b (sym (whole_part l p) ∙ e ∙ whole_part m q),
+  λ s. whole_part l p ∙ part_same l p m q 7 s ∙ sym (whole_part m q),
+)
