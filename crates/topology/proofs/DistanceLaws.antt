@@ -13,9 +13,9 @@
 --     distance_back        over a last link
 --     distance_through     through a third router
 --     some_last            a distance that is reached ends with a link
-use Rattle.std.specs.Prelude.{ℕ, ◌+◌, ◌-◌, ◌*◌, ◌≤◌, ◌<◌, ◌≡◌, ◌≢◌, List, [], ◌∷◌}
-use Rattle.std.proofs.Common.{inl, inr, arith}
-use Rattle.std.proofs.Math.Nat.{min-eq_left, min-eq_right}
+use Rattle.std.specs.Prelude.{ℕ, min, ◌+◌, ◌-◌, ◌*◌, ◌≤◌, ◌<◌, ◌≡◌, ◌≢◌, List, [], ◌∷◌}
+use Rattle.std.proofs.Common.{inl, inr, sym, subst, arith}
+use Rattle.std.proofs.Math.Nat.{min-eq_left}
 use Rattle.std.proofs.Math.Decide.{dec_le, dec_lt}
 use Rattle.area.specs.Limits.{unused, unreached}
 use Rattle.area.specs.Lists.{◌∈◌}
@@ -43,7 +43,9 @@ unfolding least
 least_in [] h = absurd (omega arith)
 least_in (x ∷ l) h = elim (dec_le x (least l)) [
   | yes p ↦ inl (min-eq_left p)
-  | no q ↦ inr (rw (min-eq_right {n = least l} {m = x} (omega arith)) (least_in l (omega arith)))
+  | no q ↦
+      let e : min x (least l) ≡ least l = omega arith in
+      inr (subst (λ (m : ℕ). m ∈ l) (sym e) (least_in l (omega arith)))
 ]
 
 -- ---- `distance` is the distance
