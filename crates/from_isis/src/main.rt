@@ -4,7 +4,7 @@
 #![tactic(auto)]
 
 ghost use Rattle.std.specs.Prelude.{◌≡◌, List, ℕ, ◌+◌, ◌≤◌, ◌<◌, length, take};
-ghost use Rattle.io.specs.Counts.{IsPrefixLen};
+ghost use Rattle.streams.specs.Streams.{IsPrefixLen};
 ghost use Rattle.area_file.specs.FromIsis.{most_bytes, isis_text};
 ghost use Rattle.area_file.specs.AreaFile.{room};
 ghost use Rattle.streams.specs.Streams.{ReadOf};

@@ -4,7 +4,7 @@
 #![tactic(auto)]
 
 ghost use Rattle.std.specs.Prelude.{◌≡◌, List, ℕ, ◌≤◌, ◌<◌, length, take};
-ghost use Rattle.io.specs.Counts.{IsPrefixLen};
+ghost use Rattle.streams.specs.Streams.{IsPrefixLen};
 ghost use Rattle.bench_file.specs.Sections.{largest};
 ghost use Rattle.rewriting.specs.Rewriting.{written};
 ghost use Rattle.streams.specs.Streams.{ReadOf};

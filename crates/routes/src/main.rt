@@ -5,7 +5,7 @@
 #![tactic(auto)]
 
 ghost use Rattle.std.specs.Prelude.{◌≡◌, List, ℕ, ◌<◌, length, take};
-ghost use Rattle.io.specs.Counts.{IsPrefixLen};
+ghost use Rattle.streams.specs.Streams.{IsPrefixLen};
 ghost use Rattle.plan.specs.Plan.{tables_in};
 ghost use Rattle.bench_file.specs.Sections.{largest};
 ghost use Rattle.report.specs.Report.{routes};

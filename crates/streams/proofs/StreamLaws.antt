@@ -6,7 +6,7 @@ use Rattle.std.specs.Prelude.{ℕ, ◌≤◌, ◌<◌, ◌≡◌, List, length, 
 use Rattle.std.proofs.Common.{ap, ◌∙◌, subst, arith, length-take, get_or-take}
 use Rattle.std.proofs.Math.Decide.{dec_lt}
 use Rattle.std.proofs.Math.ListN.{get_or-eq_default}
-use Rattle.io.specs.Counts.{IsPrefixLen}
+use Rattle.streams.specs.Streams.{IsPrefixLen}
 use Rattle.text.specs.Text.{Appended}
 use Rattle.text.proofs.TextLaws.{appended_all}
 use Rattle.streams.specs.Streams.{ReadOf}

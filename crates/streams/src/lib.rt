@@ -7,9 +7,10 @@
 #![tactic(auto)]
 
 ghost use Rattle.std.specs.Prelude.{◌≤◌, length};
-ghost use Rattle.io.specs.Counts.{IsPrefixLen};
+ghost use Rattle.streams.specs.Streams.{IsPrefixLen};
 
-use libc::{STDERR_FILENO, STDIN_FILENO, STDOUT_FILENO};
+use std::io;
+use std::io::{Read, Write};
 
 // What was read: how many bytes, and whether a read failed.
 #[derive(Clone, Copy)]
@@ -19,14 +20,13 @@ pub struct Input {
 }
 
 // Reads from standard input to the start of `buffer`, until that is full, the input ends or a read fails.
-pub fn read(program: &[u8], buffer: &mut [u8]) -> Input
+pub fn read(rt: &HostRuntime, program: &[u8], buffer: &mut [u8]) -> Input
     ensures counted { IsPrefixLen result.length buffer.new }
 {
     let mut done = 0;
     while done < buffer.len() {
-        let more = read_once(&mut buffer[done..]);
+        let more = read_once(rt, program, &mut buffer[done..]);
         if more.is_failed {
-            fail(program, b": cannot read standard input");
             return Input {
                 length: done,
                 is_failed: true,
@@ -44,32 +44,46 @@ pub fn read(program: &[u8], buffer: &mut [u8]) -> Input
 }
 
 // One read: no byte where the input has ended.
-fn read_once(part: &mut [u8]) -> Input
+fn read_once(rt: &HostRuntime, program: &[u8], part: &mut [u8]) -> Input
     ensures { result.length ≤ length part.old }
 {
-    let got = libc::read(STDIN_FILENO, part);
-    Input {
-        length: io::count(got, part),
-        is_failed: got < 0,
+    match rt.stdin().read(part) {
+        Ok(length) => Input {
+            length,
+            is_failed: false,
+        },
+        Err(reason) => {
+            fail(rt, program, b": cannot read standard input", &reason);
+            Input {
+                length: 0,
+                is_failed: true,
+            }
+        }
     }
 }
 
 // Writes all of `bytes` to standard output.
-pub fn write(program: &[u8], bytes: &[u8]) {
-    if !io::write_all(STDOUT_FILENO, bytes) {
-        fail(program, b": cannot write standard output");
+pub fn write(rt: &HostRuntime, program: &[u8], bytes: &[u8]) {
+    if let Err(reason) = rt.stdout().write_all(bytes) {
+        fail(rt, program, b": cannot write standard output", &reason);
     }
 }
 
 // Writes a line to standard error, after the program's name.
-pub fn error(program: &[u8], line: &[u8]) {
-    io::write_all(STDERR_FILENO, program);
-    io::write_all(STDERR_FILENO, b": ");
-    io::write_all(STDERR_FILENO, line);
+pub fn error(rt: &HostRuntime, program: &[u8], line: &[u8]) {
+    say(rt, program);
+    say(rt, b": ");
+    say(rt, line);
 }
 
-// Writes the line of a call that failed: the program's name, what it could not do, and the reason that errno has.
-fn fail(program: &[u8], what: &[u8]) {
-    io::write_all(STDERR_FILENO, program);
-    os::fail(what);
+// Writes the line of a call that failed: the program's name, what it could not do, and the system's reason.
+fn fail(rt: &HostRuntime, program: &[u8], what: &[u8], reason: &io::Error) {
+    say(rt, program);
+    say(rt, what);
+    let _ = rt.eprintln(format_args!(": {reason}"));
+}
+
+// What cannot be written to standard error can be told nowhere.
+fn say(rt: &HostRuntime, bytes: &[u8]) {
+    let _ = rt.stderr().write_all(bytes);
 }

@@ -4,7 +4,7 @@
 #![tactic(auto)]
 
 ghost use Rattle.std.specs.Prelude.{◌≡◌, List, ℕ, ◌+◌, ◌≤◌, length, take};
-ghost use Rattle.io.specs.Counts.{IsPrefixLen};
+ghost use Rattle.streams.specs.Streams.{IsPrefixLen};
 ghost use Rattle.hexadecimal.specs.Hex.{most};
 ghost use Rattle.streams.specs.Streams.{ReadOf};
 ghost use Rattle.unhex.specs.Unhex.{written, is_error};

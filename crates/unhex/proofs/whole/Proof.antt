@@ -7,7 +7,7 @@ use mathlib.Core.List.{List}
 use native.Mathlib.Omega.{arith}
 use borrow.Author.Rules.{rules}
 use lib.ListN.{length, take, length-take}
-use Rattle.io.specs.Counts.{IsPrefixLen}
+use Rattle.streams.specs.Streams.{IsPrefixLen}
 use Rattle.text.specs.Text.{Appended}
 use Rattle.hexadecimal.specs.Hex.{most}
 use Rattle.streams.specs.Streams.{ReadOf}
