@@ -79,10 +79,10 @@ pub extern "C" fn ofib_paths(
     hops: &mut [Set],
     fours: &mut [Set],
 ) -> u8
-    ensures answer { let lent = paths_in dist.entry hops.entry fours.entry in
+    ensures answer { let lent = paths_in dist.old.old hops.old fours.old in
         result ≡ paths_refusal n metric.now lent }
-    ensures tables { let lent = paths_in dist.entry hops.entry fours.entry in
-        paths_in dist.exit hops.exit fours.exit ≡ paths_of n metric.now lent }
+    ensures tables { let lent = paths_in dist.old.old hops.old fours.old in
+        paths_in dist.old.new hops.new fours.new ≡ paths_of n metric.now lent }
 {
     let answer = paths::paths(n, metric, dist, hops, fours);
     answer.number()
@@ -117,26 +117,26 @@ pub extern "C" fn ofib_plan(
     clock: &mut u32,
     learn_times: &mut [u32; WIDTH],
 ) -> u8
-    ensures answer { let lent = tables_in new.entry
-        old_dist.entry old_hops.entry old_fours.entry
-        new_dist.entry new_hops.entry new_fours.entry in
+    ensures answer { let lent = tables_in new.old
+        old_dist.old old_hops.old old_fours.old
+        new_dist.old new_hops.old new_fours.old in
         result
         ≡ plan_refusal n step_time old.now list.now (are_tables old.now lent) }
-    ensures record { let lent = tables_in new.entry
-        old_dist.entry old_hops.entry old_fours.entry
-        new_dist.entry new_hops.entry new_fours.entry in
+    ensures record { let lent = tables_in new.old
+        old_dist.old old_hops.old old_fours.old
+        new_dist.old new_hops.old new_fours.old in
         record_from routers.new root.new direction.new
         ranks.new waiting.new telling.new due.new
         states.new written.new
         record_hold_time.new record_step_time.new clock.new
         learn_times.new
         ≡ record_of n hold_time step_time old.now list.now lent }
-    ensures tables { let lent = tables_in new.entry
-        old_dist.entry old_hops.entry old_fours.entry
-        new_dist.entry new_hops.entry new_fours.entry in
-        tables_in new.exit
-        old_dist.exit old_hops.exit old_fours.exit
-        new_dist.exit new_hops.exit new_fours.exit
+    ensures tables { let lent = tables_in new.old
+        old_dist.old old_hops.old old_fours.old
+        new_dist.old new_hops.old new_fours.old in
+        tables_in new.new
+        old_dist.new old_hops.new old_fours.new
+        new_dist.new new_hops.new new_fours.new
         ≡ tables_of n step_time old.now list.now lent }
 {
     let planned = plan::plan(
@@ -180,22 +180,22 @@ pub extern "C" fn ofib_sheet(
     new_fours: &mut [Set],
     routers: &mut [u8; WIDTH],
 ) -> u8
-    ensures answer { let lent = tables_in new.entry
-        old_dist.entry old_hops.entry old_fours.entry
-        new_dist.entry new_hops.entry new_fours.entry in
+    ensures answer { let lent = tables_in new.old
+        old_dist.old old_hops.old old_fours.old
+        new_dist.old new_hops.old new_fours.old in
         result
         ≡ plan_refusal n step_time old.now list.now (are_tables old.now lent) }
-    ensures routers { let lent = tables_in new.entry
-        old_dist.entry old_hops.entry old_fours.entry
-        new_dist.entry new_hops.entry new_fours.entry in
+    ensures routers { let lent = tables_in new.old
+        old_dist.old old_hops.old old_fours.old
+        new_dist.old new_hops.old new_fours.old in
         routers.new
         ≡ sheet_of (record_of n hold_time step_time old.now list.now lent) }
-    ensures tables { let lent = tables_in new.entry
-        old_dist.entry old_hops.entry old_fours.entry
-        new_dist.entry new_hops.entry new_fours.entry in
-        tables_in new.exit
-        old_dist.exit old_hops.exit old_fours.exit
-        new_dist.exit new_hops.exit new_fours.exit
+    ensures tables { let lent = tables_in new.old
+        old_dist.old old_hops.old old_fours.old
+        new_dist.old new_hops.old new_fours.old in
+        tables_in new.new
+        old_dist.new old_hops.new old_fours.new
+        new_dist.new new_hops.new new_fours.new
         ≡ tables_of n step_time old.now list.now lent }
 {
     let made = sheet::sheet(
@@ -346,8 +346,8 @@ pub extern "C" fn ofib_missing(
     written: &[Set; WIDTH],
 ) -> usize
     ensures count { (x : Record) →
-        let now = over x n (now waiting.entry) x.telling (now due.entry)
-        (now states.entry) (now written.entry) in
+        let now = over x n (now waiting.now) x.telling (now due.now)
+        (now states.now) (now written.now) in
         result ≡ missing now }
 {
     needs::lent::missing(n, waiting, due, states, written)
@@ -367,18 +367,18 @@ pub extern "C" fn ofib_rehearse(
     new_fours: &mut [Set],
     out: &mut [u8],
 ) -> usize
-    ensures text { let lent = tables_in new.entry
-        old_dist.entry old_hops.entry old_fours.entry
-        new_dist.entry new_hops.entry new_fours.entry in
+    ensures text { let lent = tables_in new.old
+        old_dist.old old_hops.old old_fours.old
+        new_dist.old new_hops.old new_fours.old in
         Appended out.old 0
         (rehearsal file.now old.old lent) out.new result }
     ensures metrics { old.new ≡ metrics_of file.now old.old }
-    ensures tables { let lent = tables_in new.entry
-        old_dist.entry old_hops.entry old_fours.entry
-        new_dist.entry new_hops.entry new_fours.entry in
-        let left = tables_in new.exit
-        old_dist.exit old_hops.exit old_fours.exit
-        new_dist.exit new_hops.exit new_fours.exit in
+    ensures tables { let lent = tables_in new.old
+        old_dist.old old_hops.old old_fours.old
+        new_dist.old new_hops.old new_fours.old in
+        let left = tables_in new.new
+        old_dist.new old_hops.new old_fours.new
+        new_dist.new new_hops.new new_fours.new in
         left ≡ tables_at file.now old.old lent }
 {
     report::print(
@@ -410,17 +410,17 @@ pub extern "C" fn ofib_routes(
     new_fours: &mut [Set],
     out: &mut [u8],
 ) -> usize
-    ensures text { let lent = tables_in new.entry
-        old_dist.entry old_hops.entry old_fours.entry
-        new_dist.entry new_hops.entry new_fours.entry in
+    ensures text { let lent = tables_in new.old
+        old_dist.old old_hops.old old_fours.old
+        new_dist.old new_hops.old new_fours.old in
         Appended out.old 0 (routes file.now old.old lent) out.new result }
     ensures metrics { old.new ≡ metrics_of file.now old.old }
-    ensures tables { let lent = tables_in new.entry
-        old_dist.entry old_hops.entry old_fours.entry
-        new_dist.entry new_hops.entry new_fours.entry in
-        let left = tables_in new.exit
-        old_dist.exit old_hops.exit old_fours.exit
-        new_dist.exit new_hops.exit new_fours.exit in
+    ensures tables { let lent = tables_in new.old
+        old_dist.old old_hops.old old_fours.old
+        new_dist.old new_hops.old new_fours.old in
+        let left = tables_in new.new
+        old_dist.new old_hops.new old_fours.new
+        new_dist.new new_hops.new new_fours.new in
         left ≡ tables_at file.now old.old lent }
 {
     report::print(

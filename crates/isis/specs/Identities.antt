@@ -1,6 +1,6 @@
 -- The table of identities (02, No. 6): rows of eight bytes, seven of identity and one with the number of a router. t is
 -- the table, a list of bytes.
-use Rattle.std.specs.Prelude.{ℕ, ◌+◌, ◌*◌, ◌/◌, ◌%◌, Bool, ◌&&◌, List, ltb, eqb, length, get_or}
+use Rattle.std.specs.Prelude.{ℕ, ◌+◌, ◌*◌, ◌/◌, ◌%◌, ◌<◌, Bool, ◌&&◌, List, ltb, eqb, length, get_or}
 use Rattle.area.specs.Refusals.{incomplete, unknown_router}
 use Rattle.area.specs.Tests.{pick, or_then, first, lowest}
 use Rattle.tlv.specs.Items.{seven}

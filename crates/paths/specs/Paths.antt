@@ -2,7 +2,6 @@
 -- n is the number of routers, m the metric table, t are the tables that it is lent.
 -- What a distance and a next-hop set are, and the cells that hold them, is in crate topology (specs/Cells.antt).
 use Rattle.std.specs.Prelude.{ℕ, Bool, not, ◌&&◌, ◌||◌, List, leb, eqb}
-use Rattle.std.specs.Borrow.{Bor}
 use Rattle.area.specs.Limits.{width, unused}
 use Rattle.area.specs.Refusals.{router_count, bad_metric, table_size}
 use Rattle.area.specs.Tests.{pick, all}
@@ -28,9 +27,9 @@ pub record PathTables : Type 0 where
   pub hops : List ℕ
   pub fours : List ℕ
 
--- what three lent slices hold: `RefT` is a slice that is lent, and `now` the list of its numbers
-abbrev pub paths_in : (distances hops fours : Bor (List ℕ)) → PathTables
-paths_in d h f = record { distances = d.now; hops = h.now; fours = f.now }
+-- what three lent slices hold
+abbrev pub paths_in : (distances hops fours : List ℕ) → PathTables
+paths_in d h f = record { distances = d; hops = h; fours = f }
 
 -- each of the three has the size of a table
 unfoldable pub are_paths : (t : PathTables) → Bool

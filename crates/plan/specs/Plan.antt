@@ -2,7 +2,6 @@
 -- input. n is the number of routers, h the hold time and s the step time of the rank timers, m the old metric table,
 -- l the change list. `Record` is the struct of src/lib.rt, each array as a list.
 use Rattle.std.specs.Prelude.{ℕ, ◌%◌, Bool, not, ◌&&◌, ◌||◌, List, ltb, eqb, length, replicate}
-use Rattle.std.specs.Borrow.{Bor}
 use Rattle.area.specs.Limits.{width, most_changes}
 use Rattle.area.specs.Refusals.{router_count, table_size, bad_metric, incomplete, too_many}
 use Rattle.area.specs.Refusals.{no_change, same_metric, mixed, no_common_router, no_step_time}
@@ -26,8 +25,8 @@ pub record Tables : Type 0 where
 
 -- what seven lent slices hold
 abbrev pub tables_in :
-    (metrics oldDistances old_hops old_fours newDistances new_hops new_fours : Bor (List ℕ)) → Tables
-tables_in m od oh of nd nh nf = record { metrics = m.now; old = paths_in od oh of; new = paths_in nd nh nf }
+    (metrics old_distances old_hops old_fours new_distances new_hops new_fours : List ℕ) → Tables
+tables_in m od oh of nd nh nf = record { metrics = m; old = paths_in od oh of; new = paths_in nd nh nf }
 
 -- the old metric table and each of those have the right size
 unfoldable pub are_tables : (m : List ℕ) (t : Tables) → Bool

@@ -76,21 +76,21 @@ pub fn plan(
     new_hops: &mut [Set],
     new_fours: &mut [Set],
 ) -> Planned
-    ensures answer { let lent = tables_in new.entry
-        old_dist.entry old_hops.entry old_fours.entry
-        new_dist.entry new_hops.entry new_fours.entry in
+    ensures answer { let lent = tables_in new.old
+        old_dist.old old_hops.old old_fours.old
+        new_dist.old new_hops.old new_fours.old in
         verdict_number result.answer
         ≡ plan_refusal n step_time old.now list.now (are_tables old.now lent) }
-    ensures record { let lent = tables_in new.entry
-        old_dist.entry old_hops.entry old_fours.entry
-        new_dist.entry new_hops.entry new_fours.entry in
+    ensures record { let lent = tables_in new.old
+        old_dist.old old_hops.old old_fours.old
+        new_dist.old new_hops.old new_fours.old in
         result.record ≡ record_of n hold_time step_time old.now list.now lent }
-    ensures tables { let lent = tables_in new.entry
-        old_dist.entry old_hops.entry old_fours.entry
-        new_dist.entry new_hops.entry new_fours.entry in
-        let left = tables_in new.exit
-        old_dist.exit old_hops.exit old_fours.exit
-        new_dist.exit new_hops.exit new_fours.exit in
+    ensures tables { let lent = tables_in new.old
+        old_dist.old old_hops.old old_fours.old
+        new_dist.old new_hops.old new_fours.old in
+        let left = tables_in new.new
+        old_dist.new old_hops.new old_fours.new
+        new_dist.new new_hops.new new_fours.new in
         left ≡ tables_of n step_time old.now list.now lent }
 {
     let sized = are_tables(
@@ -133,11 +133,11 @@ fn fill(
     requires plan { Plan n old.now list.now }
     requires c_value { (c ≡ root list.now) × (rising ≡ is_rise n old.now list.now) }
     requires sized { Sized old.now
-        (tables_in new old_dist old_hops old_fours new_dist new_hops new_fours) }
+        (tables_in new.old old_dist.old old_hops.old old_fours.old new_dist.old new_hops.old new_fours.old) }
     ensures value { result ≡ fresh n hold_time step_time old.now list.now }
-    ensures left_value { let left = tables_in new.exit
-        old_dist.exit old_hops.exit old_fours.exit
-        new_dist.exit new_hops.exit new_fours.exit in
+    ensures left_value { let left = tables_in new.new
+        old_dist.new old_hops.new old_fours.new
+        new_dist.new new_hops.new new_fours.new in
         left ≡ filled n old.now list.now }
 {
     topologies(
@@ -163,10 +163,10 @@ fn topologies(
 )
     requires plan { Plan n old.now list.now }
     requires sized { Sized old.now
-        (tables_in new old_dist old_hops old_fours new_dist new_hops new_fours) }
-    ensures { let left = tables_in new.exit
-        old_dist.exit old_hops.exit old_fours.exit
-        new_dist.exit new_hops.exit new_fours.exit in
+        (tables_in new.old old_dist.old old_hops.old old_fours.old new_dist.old new_hops.old new_fours.old) }
+    ensures { let left = tables_in new.new
+        old_dist.new old_hops.new old_fours.new
+        new_dist.new new_hops.new new_fours.new in
         left ≡ filled n old.now list.now }
 {
     metrics::apply(n, old, list, new);
@@ -186,9 +186,9 @@ fn are_tables(
     new_hops: &[Set],
     new_fours: &[Set],
 ) -> bool
-    ensures { let lent = tables_in new.entry
-        old_dist.entry old_hops.entry old_fours.entry
-        new_dist.entry new_hops.entry new_fours.entry in
+    ensures { let lent = tables_in new.now
+        old_dist.now old_hops.now old_fours.now
+        new_dist.now new_hops.now new_fours.now in
         result ≡ are_tables old.now lent }
 {
     if old.len() != CELLS {

@@ -37,22 +37,22 @@ pub fn prepare(
     new_hops: &mut [Set],
     new_fours: &mut [Set],
 ) -> Start
-    ensures refusal { let lent = tables_in new.entry
-        old_dist.entry old_hops.entry old_fours.entry
-        new_dist.entry new_hops.entry new_fours.entry in
+    ensures refusal { let lent = tables_in new.old
+        old_dist.old old_hops.old old_fours.old
+        new_dist.old new_hops.old new_fours.old in
         result.refusal ≡ refusal file.now old.old lent }
-    ensures record { let lent = tables_in new.entry
-        old_dist.entry old_hops.entry old_fours.entry
-        new_dist.entry new_hops.entry new_fours.entry in
+    ensures record { let lent = tables_in new.old
+        old_dist.old old_hops.old old_fours.old
+        new_dist.old new_hops.old new_fours.old in
         result.record ≡ record_at file.now old.old lent }
     ensures steps { result.steps ≡ (contents_of file.now old.old).steps }
     ensures metrics { old.new ≡ metrics_of file.now old.old }
-    ensures tables { let lent = tables_in new.entry
-        old_dist.entry old_hops.entry old_fours.entry
-        new_dist.entry new_hops.entry new_fours.entry in
-        let left = tables_in new.exit
-        old_dist.exit old_hops.exit old_fours.exit
-        new_dist.exit new_hops.exit new_fours.exit in
+    ensures tables { let lent = tables_in new.old
+        old_dist.old old_hops.old old_fours.old
+        new_dist.old new_hops.old new_fours.old in
+        let left = tables_in new.new
+        old_dist.new old_hops.new old_fours.new
+        new_dist.new new_hops.new new_fours.new in
         left ≡ tables_at file.now old.old lent }
 {
     let found = read(file, old);

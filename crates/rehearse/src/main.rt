@@ -63,9 +63,9 @@ fn whole(
     requires largest_in_bounds { largest < length file.now }
     requires prefix_len { IsPrefixLen count file.now }
     ensures counted { IsPrefixLen result out.new }
-    ensures text { let lent = tables_in new.entry
-        old_dist.entry old_hops.entry old_fours.entry
-        new_dist.entry new_hops.entry new_fours.entry in
+    ensures text { let lent = tables_in new.old
+        old_dist.old old_hops.old old_fours.old
+        new_dist.old new_hops.old new_fours.old in
         ((input : List ℕ)
         → ReadOf input file.now count
         → take result out.new ≡ rehearsal input old.old lent) }

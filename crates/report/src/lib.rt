@@ -76,18 +76,18 @@ pub fn print(
     new_fours: &mut [Set],
     out: &mut [u8],
 ) -> usize
-    ensures text { let lent = tables_in new.entry
-        old_dist.entry old_hops.entry old_fours.entry
-        new_dist.entry new_hops.entry new_fours.entry in
+    ensures text { let lent = tables_in new.old
+        old_dist.old old_hops.old old_fours.old
+        new_dist.old new_hops.old new_fours.old in
         Appended out.old 0
         (text_of text file.now old.old lent) out.new result }
     ensures metrics { old.new ≡ metrics_of file.now old.old }
-    ensures tables { let lent = tables_in new.entry
-        old_dist.entry old_hops.entry old_fours.entry
-        new_dist.entry new_hops.entry new_fours.entry in
-        let left = tables_in new.exit
-        old_dist.exit old_hops.exit old_fours.exit
-        new_dist.exit new_hops.exit new_fours.exit in
+    ensures tables { let lent = tables_in new.old
+        old_dist.old old_hops.old old_fours.old
+        new_dist.old new_hops.old new_fours.old in
+        let left = tables_in new.new
+        old_dist.new old_hops.new old_fours.new
+        new_dist.new new_hops.new new_fours.new in
         left ≡ tables_at file.now old.old lent }
 {
     let start = prepare(

@@ -45,22 +45,22 @@ pub fn sheet(
     new_hops: &mut [Set],
     new_fours: &mut [Set],
 ) -> RunningSheet
-    ensures answer { let lent = tables_in new.entry
-        old_dist.entry old_hops.entry old_fours.entry
-        new_dist.entry new_hops.entry new_fours.entry in
+    ensures answer { let lent = tables_in new.old
+        old_dist.old old_hops.old old_fours.old
+        new_dist.old new_hops.old new_fours.old in
         verdict_number result.answer
         ≡ plan_refusal n step_time old.now list.now (are_tables old.now lent) }
-    ensures routers { let lent = tables_in new.entry
-        old_dist.entry old_hops.entry old_fours.entry
-        new_dist.entry new_hops.entry new_fours.entry in
+    ensures routers { let lent = tables_in new.old
+        old_dist.old old_hops.old old_fours.old
+        new_dist.old new_hops.old new_fours.old in
         result.routers
         ≡ sheet_of (record_of n hold_time step_time old.now list.now lent) }
-    ensures tables { let lent = tables_in new.entry
-        old_dist.entry old_hops.entry old_fours.entry
-        new_dist.entry new_hops.entry new_fours.entry in
-        let left = tables_in new.exit
-        old_dist.exit old_hops.exit old_fours.exit
-        new_dist.exit new_hops.exit new_fours.exit in
+    ensures tables { let lent = tables_in new.old
+        old_dist.old old_hops.old old_fours.old
+        new_dist.old new_hops.old new_fours.old in
+        let left = tables_in new.new
+        old_dist.new old_hops.new old_fours.new
+        new_dist.new new_hops.new new_fours.new in
         left ≡ tables_of n step_time old.now list.now lent }
 {
     let planned = plan(
