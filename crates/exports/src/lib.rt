@@ -79,10 +79,10 @@ pub extern "C" fn ofib_paths(
     hops: &mut [Set],
     fours: &mut [Set],
 ) -> u8
-    ensures answer { let lent = paths_in dist.old.old hops.old fours.old in
+    ensures answer { let lent = paths_in dist.old hops.old fours.old in
         result ≡ paths_refusal n metric.now lent }
-    ensures tables { let lent = paths_in dist.old.old hops.old fours.old in
-        paths_in dist.old.new hops.new fours.new ≡ paths_of n metric.now lent }
+    ensures tables { let lent = paths_in dist.old hops.old fours.old in
+        paths_in dist.new hops.new fours.new ≡ paths_of n metric.now lent }
 {
     let answer = paths::paths(n, metric, dist, hops, fours);
     answer.number()
@@ -346,8 +346,8 @@ pub extern "C" fn ofib_missing(
     written: &[Set; WIDTH],
 ) -> usize
     ensures count { (x : Record) →
-        let now = over x n (now waiting.now) x.telling (now due.now)
-        (now states.now) (now written.now) in
+        let now = over x n waiting.now x.telling due.now
+        states.now written.now in
         result ≡ missing now }
 {
     needs::lent::missing(n, waiting, due, states, written)

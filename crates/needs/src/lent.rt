@@ -25,8 +25,8 @@ pub fn needs(n: u8, waiting: &[Set], due: &[Set]) -> usize
 // The states that the routers have before them, and the members of the unwritten and the waiting sets.
 pub fn missing(n: u8, waiting: &[Set], due: &[Set], states: &[u8], written: &[Set]) -> usize
     ensures count { (x : Record) →
-        let now = over x n (now waiting.now) x.telling (now due.now)
-        (now states.now) (now written.now) in
+        let now = over x n waiting.now x.telling due.now
+        states.now written.now in
         result ≡ missing now }
 {
     let routers = n as usize;

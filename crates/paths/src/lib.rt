@@ -33,10 +33,10 @@ pub fn paths(
     hops: &mut [Set],
     fours: &mut [Set],
 ) -> Verdict
-    ensures answer { let lent = paths_in dist.old.old hops.old fours.old in
+    ensures answer { let lent = paths_in dist.old hops.old fours.old in
         verdict_number result ≡ paths_refusal n metric.now lent }
-    ensures tables { let lent = paths_in dist.old.old hops.old fours.old in
-        paths_in dist.old.new hops.new fours.new ≡ paths_of n metric.now lent }
+    ensures tables { let lent = paths_in dist.old hops.old fours.old in
+        paths_in dist.new hops.new fours.new ≡ paths_of n metric.now lent }
 {
     if n < 1 {
         return Verdict::Refused(Refusal::RouterCount);
@@ -77,7 +77,7 @@ pub fn is_area(n: usize, metric: &[u32]) -> bool
 
 // Have the tables of one topology the right size?
 pub fn are_paths(dist: &[u32], hops: &[Set], fours: &[Set]) -> bool
-    ensures answer { result ≡ are_paths (paths_in dist.now.now hops.now fours.now) }
+    ensures answer { result ≡ are_paths (paths_in dist.now hops.now fours.now) }
 {
     if dist.len() != CELLS {
         return false;

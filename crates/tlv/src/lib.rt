@@ -46,7 +46,7 @@ pub struct Reader<'a> {
 }
 
 pub fn new<'a>(bytes: &'a [u8], at: usize) -> Reader<'a>
-    ensures reader { (result.bytes ≡ bytes.now) × (result.at ≡ at) }
+    ensures reader { (result.bytes ≡ bytes.entry) × (result.at ≡ at) }
 {
     Reader { bytes, at }
 }
