@@ -80,7 +80,16 @@ pub fn error(rt: &HostRuntime, program: &[u8], line: &[u8]) {
 fn fail(rt: &HostRuntime, program: &[u8], what: &[u8], reason: &io::Error) {
     say(rt, program);
     say(rt, what);
-    let _ = rt.eprintln(format_args!(": {reason}"));
+    let _ = tell(rt, reason);
+}
+
+// The reason ends the line. The number that std puts behind the system's words is left off.
+fn tell(rt: &HostRuntime, reason: &io::Error) -> io::Result<()> {
+    let all = format!(in rt.alloc(); ": {reason}")?;
+    match all.as_str().split_once(" (os error ") {
+        Some((words, _)) => rt.eprintln(words),
+        None => rt.eprintln(all.as_str()),
+    }
 }
 
 // What cannot be written to standard error can be told nowhere.
