@@ -11,7 +11,7 @@
 use Rattle.std.specs.Prelude.{ℕ, ◌-◌, ◌≤◌, ◌<◌, ◌≡◌, refl, Bool, false, ◌≢◌, ◌↔◌, List, eqb}
 use Rattle.std.proofs.Common.{sym, ◌∙◌, ⊎_elim, arith}
 use Rattle.std.proofs.Math.Bool.{true, not}
-use Rattle.std.proofs.Math.Logic.{Iff·trans}
+use Rattle.std.proofs.Math.Logic.Iff as Iff
 use borrow.Author.Tests.{eqb-false, ne_eqb, not-true}
 use Rattle.area.specs.Limits.{width, unreached}
 use Rattle.area.specs.Tests.{pick}
@@ -74,7 +74,7 @@ module _ (n : ℕ) (m l : List ℕ) (most : n ≤ width) where
       let o = old_next s (root l) r in
       let inside : bit (old_hops n m s (root l)) r ≡ true → s < n =
       λ e. (next_inside n m most s (root l) r (o.0 e)).0 in
-      rw rise (Iff·trans (set_is n (λ s. bit (old_hops n m s (root l)) r) s inside) o)
+      rw rise (Iff.trans (set_is n (λ s. bit (old_hops n m s (root l)) r) s inside) o)
 
   -- otherwise, in a fall, exactly if s is a next hop from r to the root in the new one
   pub waits_fall :
@@ -131,7 +131,7 @@ module _ (n : ℕ) (m l : List ℕ) (most : n ≤ width) where
   due_at r d h =
       let a = old_fours n m r d in
       let b = new_fours n m l r d in
-      Iff·trans
+      Iff.trans
       (set_is n (λ d. not (eqb (old_fours n m r d) (new_fours n m l r d))) d (λ e. h))
       ((λ e. eqb-false a b (not-true (eqb a b) e)), (λ f. rw (ne_eqb a b f) refl))
 

@@ -1,4 +1,4 @@
-use Rattle.std.specs.Prelude.{ℕ, ◌*◌, ◌%◌, ◌≤◌, ◌<◌, ◌≡◌, true, ◌≢◌, ◌⊎◌, List, length}
+use Rattle.std.specs.Prelude.{ℕ, ◌*◌, ◌%◌, ◌≤◌, ◌<◌, ◌≡◌, true, false, ◌≢◌, ◌⊎◌, List, length}
 use Rattle.area.specs.Limits.{width, most_changes}
 use Rattle.entries.specs.Entries.{entry_count}
 use Rattle.paths.specs.Ready.{Ready, SizedPaths}
