@@ -1,11 +1,10 @@
 -- Laws of the change list: a change is refused as any entry of a list is (entries/specs/Entries.antt).
---     Change n l e         what is known of a change that has no fault
 --     change_of, change_faultless          a change is not refused exactly where it has no fault
---     Sound, sound_of, of_sound            the same of the whole list
-use Rattle.std.specs.Prelude.{ℕ, ◌<◌, ◌≡◌, true, ◌≢◌, List}
+--     sound_of, of_sound                   the same of the whole list
+use Rattle.std.specs.Prelude.{ℕ, ◌≡◌, List}
 use Rattle.area.specs.Tests.{first}
 use Rattle.area.proofs.TestLaws.{first_none, none_first}
-use Rattle.entries.specs.Entries.{entry_count, entry_of, from, to, metric, is_first, listed_refusal}
+use Rattle.entries.specs.Entries.{entry_count, entry_of, listed_refusal}
 use Rattle.entries.proofs.EntryLaws.{faultless, listed_passes, listed_sound}
 use Rattle.changes.specs.Sound.{Change, Sound}
 

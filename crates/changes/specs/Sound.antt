@@ -1,3 +1,6 @@
+-- Changes that have no fault.
+--     Change n l e         what is known of a change that has no fault
+--     Sound                the same of the whole list
 use Rattle.std.specs.Prelude.{ℕ, ◌<◌, ◌≡◌, true, ◌≢◌, List}
 use Rattle.entries.specs.Entries.{entry_count, from, to, metric, is_first}
 

@@ -3,7 +3,7 @@
 //     refusal          that of one change, beside the pairs of those before it
 //     is_new           whether its pair comes for the first time, by the sets of pairs
 //     is_new_beyond    the same by the list
-// That the sets tell a repeated pair is entries/specs/SeenLaws.antt.
+// That the sets tell a repeated pair is entries/proofs/SeenLaws.antt.
 ghost use Rattle.std.specs.Prelude.{◌≡◌};
 ghost use Rattle.area.specs.Refusals.{verdict_number};
 ghost use Rattle.area.specs.Tests.{first};

@@ -1,3 +1,3 @@
--- What several functions' proofs share, or what would make one too long.
+-- The laws of ranks, and what several functions' proofs share.
 pub mod Rounds
 pub mod RankLaws

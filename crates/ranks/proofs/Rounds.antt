@@ -3,11 +3,8 @@
 --     made_none, made_more     it holds of zeros and no round, and of one round more after a round
 --     made_le          after h rounds no rank is more than h, so that one more fits a byte
 --     made_stays       a round that changes nothing is the last that is needed
-use Prim.Native.Nat.{ℕ, suc, ◌≤◌, ◌<◌}
-use mathlib.Core.Path.{◌≡◌, sym, ap, ◌∙◌}
-use mathlib.Core.List.{List}
-use native.Mathlib.Omega.{arith}
-use lib.ListN.{get_or, replicate, length-replicate, get_or-replicate}
+use Rattle.std.proofs.Common.{ℕ, suc, ◌≤◌, ◌<◌, ◌≡◌, sym, ap, ◌∙◌, List, arith, get_or, replicate}
+use Rattle.std.proofs.Math.ListN.{length-replicate, get_or-replicate}
 use Rattle.area.specs.Tables.{per_router}
 use Rattle.area.proofs.PerRouterLaws.{per_at, per_same, is_per}
 use Rattle.ranks.specs.Rank.{above, longest}

@@ -1,2 +1,2 @@
--- Chains of waiting and ranks. First the definitions, then the laws about them.
+-- Chains of waiting and ranks: the definitions. The laws about them are in proofs/.
 pub mod Rank

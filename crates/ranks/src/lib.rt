@@ -4,7 +4,7 @@
 //     longer       one round
 //     after        one router in a round
 //     agree        whether a round has changed nothing
-// What they promise is specs/Rank.antt; why the rounds end with the ranks is specs/RankLaws.antt and
+// What they promise is specs/Rank.antt; why the rounds end with the ranks is proofs/RankLaws.antt and
 // proofs/Rounds.antt.
 #![tactic(auto)]
 

@@ -1,4 +1,4 @@
--- Router sets, how many members they have, and the four lowest. First the definitions, then the laws about them.
+-- Router sets, how many members they have, and the four lowest: the definitions. The laws about them are in proofs/.
 pub mod Sets
 pub mod Counts
 pub mod Four

@@ -6,7 +6,7 @@
 //     lowest, rest                     the lowest member, and the others: so a loop visits the members of a set
 //     four                             the four lowest members
 // What each promises is specs/Sets.antt, Counts.antt and Four.antt; why bit operations do it is the last part of
-// specs/SetLaws.antt, and of specs/FourLaws.antt; the laws of a loop over the members are specs/VisitLaws.antt.
+// proofs/SetLaws.antt, and of proofs/FourLaws.antt; the laws of a loop over the members are proofs/VisitLaws.antt.
 #![tactic(auto)]
 
 ghost use Rattle.std.specs.Prelude.{◌≡◌, ◌≤◌, eqb, get_or};

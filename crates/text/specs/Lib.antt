@@ -1,2 +1,2 @@
--- What the contracts of `text` say. First the definitions, then the laws about them.
+-- What the contracts of `text` say: the definitions. The laws about them are proofs/TextLaws.antt.
 pub mod Text

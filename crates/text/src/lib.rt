@@ -5,7 +5,7 @@
 //     field        a number after its name
 //     line         the same as a line
 //     refused_line     the line of a refusal
-// What they promise is specs/Text.antt, and what a caller may conclude specs/TextLaws.antt. The loops' arguments are
+// What they promise is specs/Text.antt, and what a caller may conclude proofs/TextLaws.antt. The loops' arguments are
 // proofs/Copying.antt (append) and proofs/Spelling.antt (spell).
 #![tactic(auto)]
 
