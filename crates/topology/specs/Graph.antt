@@ -1,7 +1,6 @@
-use Rattle.std.specs.Prelude.{ℕ, ◌-◌, ◌≤◌, ◌<◌}
+use Rattle.std.specs.Prelude.{ℕ, ◌≤◌, ◌<◌}
 use Rattle.area.specs.Limits.{unused}
 use Rattle.topology.specs.Topology.{Topology}
-use Rattle.topology.specs.Walk.{sum, routers}
 
 -- With at most 256 routers the sum of n - 1 metrics stays below `unreached`.
 pub record Graph (n : ℕ) (g : Topology) : Type 0 where

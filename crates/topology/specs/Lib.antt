@@ -6,7 +6,7 @@
 --     Distance         the least sum
 --     NextHops         the first links of the least walks
 --     Cells            both, as the cells of tables
--- The laws that proofs cite:
+-- The laws that proofs cite, in proofs/:
 --     WalkLaws         a walk can be made to take fewer links than there are routers
 --     SumLaws          the sums that `distance` lists are those of walks
 --     DistanceLaws     so `distance` is the distance; distances over one link, and through a third router
