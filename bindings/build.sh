@@ -7,13 +7,7 @@ if ! command -v rustc >/dev/null; then
     PATH=$PATH:${CARGO_HOME:-$(eval echo "~$(id -un)")/.cargo}/bin
 fi
 if [ -z "${OFIB_TARGET-}" ]; then
-    mkdir -p "$target"
-    if ! (cd "$top" && rt staticlib exports && rt check rehearse sheet_steps unfinished rewrite from_isis) \
-        >"$target/build.log" 2>&1; then
-        cat "$target/build.log" >&2
-        echo "$0: the library could not be built" >&2
-        exit 2
-    fi
+    "$top/tools/build" exports rehearse sheet_steps unfinished rewrite from_isis || exit 2
 fi
 archive=$target/staticlib/libexports.a
 program=$target/bin/rehearse

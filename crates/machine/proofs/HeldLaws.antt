@@ -20,7 +20,7 @@ use Rattle.machine.specs.Answers.{Outcome}
 use Rattle.machine.specs.Machine.{holding, ongoing, done}
 use Rattle.machine.specs.Machine.{state_of, waiting_of, due_of, written_of, learn_time}
 use Rattle.machine.specs.Machine.{with_state, with_waiting, with_written, with_times, with_learned, with_clock}
-use Rattle.machine.specs.Run.{Call, run}
+use Rattle.machine.specs.Run.{Call, step, run}
 use Rattle.machine.proofs.MoveLaws.{Entry, entry, moves}
 use Rattle.machine.proofs.MoveLaws.{Move, stays, learned, released, wrote, finished, delivered, ticked}
 
@@ -173,7 +173,7 @@ move_held k (ticked q on e) = rw e (clock_held k)
 pub run_held : {first r : Record} (calls : List Call) → Held first r → Held first (run r calls)
 unfolding run
 run_held [] k = k
-run_held {r} (c ∷ cs) k = run_held cs (move_held k (moves r c.kind c.a c.b))
+run_held {r} (c ∷ cs) k = run_held {r = (step r c).next} cs (move_held k (moves r c.kind c.a c.b))
 
 -- ---- the fresh record
 pub fresh_held : (n h s : ℕ) (m l : List ℕ) → Held (fresh n h s m l) (fresh n h s m l)

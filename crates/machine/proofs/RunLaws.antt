@@ -238,7 +238,7 @@ move_kept kept (ticked k on e) = rw e (clock_kept kept)
 calls_kept : {first r : Record} (calls : List Call) → Kept first r → Kept first (run r calls)
 unfolding run
 calls_kept [] kept = kept
-calls_kept {r} (c ∷ cs) kept = calls_kept cs (move_kept kept (moves r c.kind c.a c.b))
+calls_kept {r} (c ∷ cs) kept = calls_kept {r = (step r c).next} cs (move_kept kept (moves r c.kind c.a c.b))
 
 pub run_kept : (first : Record) (calls : List Call) → Start first → Kept first (run first calls)
 run_kept first calls s = calls_kept calls (start_kept first s)
@@ -288,7 +288,7 @@ module _ {first : Record} (size : length first.written ≡ width) (x d : ℕ) (h
   calls_written {r} [] kept = sym (or_none (bit (written_of r x) d))
   calls_written {r} (c ∷ cs) kept =
       let m = moves r c.kind c.a c.b in
-      calls_written cs (move_kept kept m)
+      calls_written {r = (step r c).next} cs (move_kept kept m)
       ∙ ap (λ (t : Bool). t || has_written (step r c).next cs x d)
       (move_written (kept.written_size ∙ size) x d h m)
       ∙ or_assoc (bit (written_of r x) d) (is_write c (step r c) x d) (has_written (step r c).next cs x d)

@@ -188,13 +188,13 @@ pub state_after :
     → length r.states ≡ width
     → (step_of r (kind_of event) a b).reply ≡ ok
     → Goes r a event (step_of r (kind_of event) a b).next
-state_after r e a b size is_ok = go (moves r (kind_of e) a b)
+state_after r e a b size said = go (moves r (kind_of e) a b)
   where
     put : {s : ℕ} → Router r a s → (v : ℕ) → state_of (with_state r a v) a ≡ v
     put at v = get_or-set_same r.states a v 0 (omega (arith, at.inside, at.most, size))
 
     go : Move r (kind_of e) a b (step_of r (kind_of e) a b) → Goes r a e (step_of r (kind_of e) a b).next
-    go (stays n f) = absurd (false≢true (sym f ∙ ap is_ok is_ok))
+    go (stays n f) = absurd (false≢true (sym f ∙ ap is_ok said))
     go (learned k at o) = rw o (goes r a e Learn (with_learned r a holding) k at (put at holding))
     go (released k at held o) = rw o (goes r a e Release (with_state r a ongoing) k at (put at ongoing))
     go (wrote k at may o) =

@@ -1,4 +1,4 @@
--- The machine of the steps, as 01 means it: first the definitions, in reading order; then the laws about them. What
+-- The machine of the steps, as 01 means it: the definitions, in reading order. The laws about them are in proofs/. What
 -- each file has is said in src/lib.rt.
 pub mod Answers
 pub mod Machine

@@ -1,6 +1,6 @@
 // The machine of the steps. Here stand the words that code uses: answers, the numbers of states and of kinds of calls;
-// the module `states` has the states by name, and which state comes after an event. The machine itself is a definition,
-// in specs/, in reading order:
+// the module `states` has the states by name, and which state comes after an event. The machine itself is a definition.
+// Definitions stand in specs/ and laws in proofs/, in reading order:
 //     Answers      what a call gives: a record and a reply
 //     Machine      Step, for every record and all three bytes: `step_of`
 //     States       the next state, a line for each state and event: `next_state`

@@ -5,16 +5,16 @@
 -- answer alone. Where it is 0, a cell of two routers is by definition their distance, their next-hop set and the four
 -- lowest of that, and crate topology has the laws that say what these are: the least sum of any walk, and each k by
 -- which that sum is met.
---     metric-.., metrics-..                                        the test of the metrics, cell by cell
---     Ready, area-..                                               n routers and a metric table, whatever is lent
---     SizedPaths, sized-paths-.., filled_sized                     the test of the sizes, table by table
+--     metric_.., metrics_..                                        the test of the metrics, cell by cell
+--     Ready, area_..                                               n routers and a metric table, whatever is lent
+--     SizedPaths, sized_paths_.., filled_sized                     the test of the sizes, table by table
 --     refused_count, refused_tables, refused_metrics, accepted     the answer, by the three tests
 --     tables_kept, tables_filled                                   the tables, by the answer
 --     accepted_ready, ready_accepted                               what an accepted input is
 --     distance_cell_is, hop_cell_is, four_cell_is                  what its cells are
 --     distance_cell_beyond, hop_cell_beyond, four_cell_beyond      and those from n on
 --     distance_cell_bound, largest_reached                         the largest real distance
-use Rattle.std.specs.Prelude.{ℕ, ◌-◌, ◌*◌, ◌≤◌, ◌<◌, ◌≡◌, false, ◌&&◌, ◌||◌, ◌≢◌, ◌↔◌, ◌⊎◌, List, leb, eqb, length}
+use Rattle.std.specs.Prelude.{ℕ, ◌-◌, ◌≤◌, ◌<◌, ◌≡◌, false, ◌&&◌, ◌||◌, ◌≢◌, ◌↔◌, ◌⊎◌, List, leb, eqb}
 use Rattle.std.proofs.Math.Path.{refl}
 use Rattle.std.proofs.Common.{◌∙◌, inl, inr, arith}
 use Rattle.std.proofs.Math.Bool.{true}

@@ -6,7 +6,7 @@
 //     cut          the sets of four, which line cards hold, from the next-hop sets
 //     are_valid    are the metrics such as Paths takes? (metrics.rt)
 // What it promises is specs/Paths.antt; that a cell is then the least sum of a walk, and a set all next hops of equal
-// cost, is at the end of specs/PathsLaws.antt.
+// cost, is at the end of proofs/PathsLaws.antt.
 #![tactic(auto)]
 
 mod metrics;
@@ -76,6 +76,7 @@ pub fn is_area(n: usize, metric: &[u32]) -> bool
 }
 
 // Have the tables of one topology the right size?
+#[tactic(auto, unfolding(crate::specs::Paths::are_paths, area::specs::Sizes::is_table))]
 pub fn are_paths(dist: &[u32], hops: &[Set], fours: &[Set]) -> bool
     ensures answer { result ≡ are_paths (paths_in dist.now hops.now fours.now) }
 {

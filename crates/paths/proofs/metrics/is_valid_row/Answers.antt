@@ -1,21 +1,13 @@
 -- The links to lower routers and those to higher ones are all links from i: the pair of i with itself is not looked at
 -- (`metric_own`).
-use mathlib.Core.Path.{◌≡◌, refl, sym, ap, subst, ◌∙◌}
-use mathlib.Core.Bool.{Bool, true, false, not, ◌&&◌, ◌||◌}
-use mathlib.Core.Logic.{inl, inr}
-use mathlib.Core.List.{List}
-use Prim.Native.Nat.{ℕ, ◌+◌, ◌-◌, ◌<◌}
-use native.Mathlib.Decide.{dec_lt, ℕ_discrete}
-use native.Mathlib.Omega.{arith}
-use borrow.Author.Rules.{rules}
-use borrow.Author.Tests.{not-true, not-false}
-use lib.Dec.{eqb}
+use Rattle.std.proofs.Common.{◌≡◌, refl, sym, ap, subst, ◌∙◌, Bool, true, false, ◌&&◌, ◌||◌, eqb}
+use Rattle.std.proofs.Common.{List, ℕ, ◌+◌, ◌-◌, ◌<◌, arith}
+use Rattle.std.proofs.Math.Decide.{dec_lt, ℕ_discrete}
 use Rattle.area.specs.Tests.{all}
 use Rattle.area.proofs.TestLaws.{both_true, and_true, same_test, all_at, all_true}
 use Rattle.paths.specs.Paths.{is_metric, are_metrics_from}
 use Rattle.paths.proofs.PathsLaws.{metric_own}
-use Rattle.paths.proofs.metrics.is_valid_row.Statement.{statement}
-use Rattle.paths.proofs.metrics.is_valid_row.Tie as tie
+use Rattle.paths.proofs.metrics.is_valid_row.Goals as goal
 
 -- the tests of the numbers below i, and of those above it up to n
 abbrev lower : (p : ℕ → Bool) (i : ℕ) → Bool
@@ -60,45 +52,20 @@ module _ (n : ℕ) (m : List ℕ) (i : ℕ) (h : i < n) (a : Bool) (is : a ≡ l
   whole : (a && higher (valid m i) n i) ≡ all n (valid m i)
   whole = ap (λ (b : Bool). b && higher (valid m i) n i) is ∙ in_parts (valid m i) n i h (metric_own m i i refl)
 
-  faulty : not a ≡ true → false ≡ are_metrics_from n m i
-  faulty e = rw (not-true a e) at whole
+  faulty : a ≡ false → false ≡ are_metrics_from n m i
+  faulty e = rw e at whole
 
-  passed : not a ≡ false → (b : Bool) → b ≡ higher (valid m i) n i → b ≡ are_metrics_from n m i
-  passed e b f = f ∙ (rw (not-false a e) at whole)
+  passed : a ≡ true → (b : Bool) → b ≡ higher (valid m i) n i → b ≡ are_metrics_from n m i
+  passed e b f = f ∙ (rw e at whole)
 
-are-valid-links-requires : tie.Need-are-valid-links-requires
-are-valid-links-requires c κs = ((omega arith, omega arith, omega arith, c.before.requires.2), inr (omega arith))
+pub returns-then-not-are_valid_links : goal.returns-then-not-are_valid_links
+returns-then-not-are_valid_links c =
+    let low = c.are_valid_links in
+    faulty c.args.n c.args.metric.now c.args.i c.requires.1 low.result low.ensures c.if-not-are_valid_links.true
 
-returns : tie.Need-returns
+pub returns : goal.returns
 returns c =
-    let start = c.before.before.before in
-    let a = start.args in
-    let low = c.before.are-valid-links in
-    faulty a.n a.metric.now a.i start.requires.1 low.result low.ensures c.if1.true
-
-add-are-valid-links : tie.Need-overflow-add-are-valid-links
-add-are-valid-links c = search rules
-
-are-valid-links-requires-2 : tie.Need-are-valid-links-requires-2
-are-valid-links-requires-2 c κs =
-    let start = c.before.before.before in
-    ((omega arith, omega arith, omega arith, start.requires.2), inl (omega arith))
-
-returns-2 : tie.Need-returns-2
-returns-2 c =
-    let start = c.before.before.before.before in
-    let a = start.args in
-    let low = c.before.before.are-valid-links in
-    let high = c.are-valid-links2 in
-    passed a.n a.metric.now a.i start.requires.1 low.result low.ensures c.before.if1.false
+    let low = c.are_valid_links in
+    let high = c.are_valid_links-2 in
+    passed c.args.n c.args.metric.now c.args.i c.requires.1 low.result low.ensures c.if-not-are_valid_links.false
     high.result high.ensures
-
-pub is-valid-row-spec : {M : Type 1} → statement M
-is-valid-row-spec =
-    tie.close
-    (tie.spec
-    are-valid-links-requires
-    returns
-    add-are-valid-links
-    are-valid-links-requires-2
-    returns-2)
