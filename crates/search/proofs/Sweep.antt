@@ -2,7 +2,7 @@
 -- the cells below j stays, and each cell from j on is as it was when its turn comes.
 --     Blanked v d j          the cells below j hold v
 --     Swept R d₀ h₀ d h j    two rows were d₀ and h₀: the cells below j were changed as R allows, the others not
--- Of each: it holds at the start (`-none`), and after one turn more (`-more`; `swept_same` where nothing was written).
+-- Of each: it holds at the start (`_none`), and after one turn more (`_more`; `swept_same` where nothing was written).
 use mathlib.Core.Path.{◌≡◌, refl, ◌∙◌}
 use mathlib.Core.Logic.{◌≢◌}
 use mathlib.Core.List.{List}

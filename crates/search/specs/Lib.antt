@@ -1,4 +1,4 @@
--- The search for one source: what it promises, the laws about that, and what only contracts of private functions cite.
+-- The search for one source: what it promises, and what only contracts of private functions cite.
 pub mod Rows
 pub mod Nearest
 pub mod Offers
