@@ -7,9 +7,11 @@
 -- Why: the high byte of its link count is below 16. Where that is no control byte, it is 9 or more, and there are 2,304
 -- links or more. The routers whose numbers are no control bytes are 37, from 9 to 13 and from 32 on; these have 1,369
 -- pairs, and no pair is listed twice. So some link has an end that is a control byte.
-use Rattle.std.specs.Prelude.{ℕ, zero, suc, ◌+◌, ◌-◌, ◌/◌, ◌%◌, ◌≤◌, ◌<◌, min, ◌≡◌, Bool, true, not, ◌⊎◌, List, [], ◌∷◌, ltb, length, get_or, drop}
+use Rattle.std.specs.Prelude.{ℕ, zero, suc, ◌+◌, ◌-◌, ◌/◌, ◌%◌, ◌≤◌, ◌<◌, min, ◌≡◌, Bool, true, not, ◌⊎◌, List, [], ◌∷◌}
+use Rattle.std.specs.Prelude.{ltb, length, get_or, drop}
 use Rattle.std.proofs.Math.Path.{refl}
-use Rattle.std.proofs.Common.{sym, ◌∙◌, inl, inr, ⊎_elim, not-suc-le-zero, le_of_suc-le-suc, add-one, arith, lt-ltb, le-ltb, drop_of_length-le, drop-cons}
+use Rattle.std.proofs.Common.{sym, ◌∙◌, inl, inr, ⊎_elim, not-suc-le-zero, le_of_suc-le-suc, add-one, arith, lt-ltb}
+use Rattle.std.proofs.Common.{le-ltb, drop_of_length-le, drop-cons}
 use Rattle.std.proofs.Math.Bool.{false}
 use Rattle.std.proofs.lemmas.Bool.{false≢true}
 use Rattle.std.proofs.Math.Decide.{dec_lt}

@@ -1,7 +1,8 @@
 -- Laws of comments: they say nothing, and end with their line.
---     is_one_line, joined_line, field_line       bytes that do not end a line: two lists of them, a number after its name
+--     is_one_line, joined_line, field_line     bytes that do not end a line: two lists of them, a number after its name
 --     says_comment, says_words, says_named     a comment: by itself, after spaces, and one with a number at its end
-use Rattle.std.specs.Prelude.{ℕ, suc, ◌+◌, ◌<◌, ◌≡◌, refl, Bool, true, not, ◌&&◌, List, [], ◌∷◌, ◌++◌, eqb, length, get_or, replicate}
+use Rattle.std.specs.Prelude.{ℕ, suc, ◌+◌, ◌<◌, ◌≡◌, refl, Bool, true, not, ◌&&◌, List, [], ◌∷◌, ◌++◌, eqb, length}
+use Rattle.std.specs.Prelude.{get_or, replicate}
 use Rattle.std.proofs.Common.{sym, ap, ◌∙◌, subst, append-nil, append_assoc, arith, ne_eqb, length-append}
 use Rattle.std.proofs.lemmas.Bool.{not-true}
 use Rattle.area.proofs.TestLaws.{both_true, and_true}

@@ -5,17 +5,9 @@
 --     decoded_byte, decoded_quiet      the next byte of the text ends a byte, or it neither does nor is a fault
 --     decoded_bad, decoded_odd         it is the first fault: its line is all that is written
 --     decoded_all, decoded_lone        the text ends, and after a first digit that is a fault too
-use Prim.Native.Nat.{ℕ, ◌+◌, ◌-◌, ◌≤◌, ◌<◌}
-use mathlib.Core.Path.{◌≡◌, refl, sym, ap, ◌∙◌}
-use mathlib.Core.Bool.{Bool, true, false}
-use mathlib.Core.Logic.{⊎_elim}
-use mathlib.Core.List.{List, [], ◌∷◌, ◌++◌}
-use native.Mathlib.Omega.{arith}
-use native.Mathlib.Numerals.{add-one}
-use denote.Enum.Declared.{tag_of}
-use types.Run.{OneOf}
-use lib.ListN.{length, get_or, drop, drop_of_length-le}
-use lib.Seq.{drop-cons}
+use Rattle.std.specs.Prelude.{ℕ, ◌+◌, ◌-◌, ◌≤◌, ◌<◌, ◌≡◌, refl, Bool, true, false, List, [], ◌∷◌, ◌++◌, length, get_or}
+use Rattle.std.specs.Prelude.{drop}
+use Rattle.std.proofs.Common.{sym, ap, ◌∙◌, arith, add-one, drop_of_length-le, drop-cons}
 use Rattle.text.specs.Text.{Appended, line}
 use Rattle.text.proofs.TextLaws.{appended_none, appended_then, appended_anew}
 use Rattle.hexadecimal.specs.declared.Reading.{Reading}
@@ -25,7 +17,6 @@ use Rattle.hexadecimal.specs.Hex.{unless_fault, decode, decoded, is_fault, has_f
 use Rattle.hexadecimal.specs.Reading.{high_half}
 use Rattle.hexadecimal.proofs.ReadingLaws.{first_not_odd, high_small}
 use Rattle.hexadecimal.proofs.FaultLaws.{fault_now, fault_later, fault_end, unless_sound}
-use Rattle.hexadecimal.specs.contracts.Reading.{the_type}
 
 pub record Decoded (t o p : List ℕ) (n at : ℕ) (s : Reading) : Type 0 where
   pub done : List ℕ
@@ -53,28 +44,27 @@ fine_byte : (r : Reading) (x : ℕ) → r ≡ Byte x → is_fault r ≡ false
 unfolding is_fault
 fine_byte r x e = rw e refl
 
--- the tags of the others: no byte ends with them
-abbrev Quiet : (tag : ℕ) → Type 0
-Quiet tag = OneOf (0 ∷ 1 ∷ 2 ∷ []) tag
+-- the others, of which none ends a byte or is a fault
+pub record Quiet (r : Reading) : Type 0 where
+  pub not_byte : (x : ℕ) → r ≡ Byte x → ⊥
+  pub not_bad : r ≡ Bad → ⊥
+  pub not_odd : r ≡ Odd → ⊥
 
-loud : (tag : ℕ) → 2 < tag → Quiet tag → ⊥
-loud tag more h = ⊎_elim (λ e. omega arith) (⊎_elim (λ e. omega arith) (λ e. omega arith)) h
-
-fine_quiet : (r : Reading) → Quiet (tag_of the_type r) → is_fault r ≡ false
+fine_quiet : (r : Reading) → Quiet r → is_fault r ≡ false
 unfolding is_fault
 fine_quiet Between h = refl
 fine_quiet Comment h = refl
 fine_quiet (High x) h = refl
 fine_quiet (Byte x) h = refl
-fine_quiet Bad h = absurd (loud 4 (omega arith) h)
-fine_quiet Odd h = absurd (loud 5 (omega arith) h)
+fine_quiet Bad h = absurd (h.not_bad refl)
+fine_quiet Odd h = absurd (h.not_odd refl)
 
-no_byte : (r : Reading) → Quiet (tag_of the_type r) → byte_of r ≡ []
+no_byte : (r : Reading) → Quiet r → byte_of r ≡ []
 unfolding byte_of
 no_byte Between h = refl
 no_byte Comment h = refl
 no_byte (High x) h = refl
-no_byte (Byte x) h = absurd (loud 3 (omega arith) h)
+no_byte (Byte x) h = absurd (h.not_byte x refl)
 no_byte Bad h = refl
 no_byte Odd h = refl
 
@@ -118,7 +108,7 @@ module _
         let so : Decoded t o q m (at + 1) r = decoded_more (fine_byte r x e) (rw e kept) in
         rw e at so
 
-    pub decoded_quiet : Quiet (tag_of the_type r) → Decoded t o p n (at + 1) r
+    pub decoded_quiet : Quiet r → Decoded t o p n (at + 1) r
     decoded_quiet h = decoded_more (fine_quiet r h) (rw (no_byte r h) (appended_none p n so_far.written.within))
 
     -- the first fault
@@ -143,27 +133,16 @@ module _
     decoded_odd e x =
         (rw (byte_read, e) (appended_anew so_far.written.size x.0), x.1 ∙ sym (faulty (rw e refl)))
 
-    pub some_before : r ≡ Odd → 1 ≤ at
-    some_before e = so_far.started (get_or t at 0) (sym is ∙ e)
-
 -- ---- the end of the text, after s
--- the tags of all readings but `High`
-abbrev Ended : (tag : ℕ) → Type 0
-Ended tag = OneOf (0 ∷ 1 ∷ 3 ∷ 4 ∷ 5 ∷ []) tag
+-- all readings but `High`
+abbrev Ended : (s : Reading) → Type 0
+Ended s = (h : ℕ) → s ≡ High h → ⊥
 
--- the tag of `High` is not among them
-not_ended : Ended 2 → ⊥
-not_ended h =
-    ⊎_elim
-    (λ e. omega arith)
-    (⊎_elim (λ e. omega arith) (⊎_elim (λ e. omega arith) (⊎_elim (λ e. omega arith) (λ e. omega arith))))
-    h
-
-end_fine : (s : Reading) → is_fault s ≡ false → Ended (tag_of the_type s) → is_fault (next s 10) ≡ false
+end_fine : (s : Reading) → is_fault s ≡ false → Ended s → is_fault (next s 10) ≡ false
 unfolding is_fault next first digit is_space
 end_fine Between f h = refl
 end_fine Comment f h = refl
-end_fine (High x) f h = absurd (not_ended h)
+end_fine (High x) f h = absurd (h x refl)
 end_fine (Byte x) f h = refl
 end_fine Bad f h = f
 end_fine Odd f h = f
@@ -176,7 +155,7 @@ module _ {t o p : List ℕ} {n at : ℕ} {s : Reading} (so_far : Decoded t o p n
   faults_end : has_fault Between t ≡ is_fault (next s 10)
   faults_end = so_far.faults ∙ rw (drop_of_length-le t {i = at} (omega arith)) (fault_end s)
 
-  pub decoded_all : Ended (tag_of the_type s) → Appended o 0 (decoded t) p n × (false ≡ has_fault Between t)
+  pub decoded_all : Ended s → Appended o 0 (decoded t) p n × (false ≡ has_fault Between t)
   decoded_all h =
       let fine = end_fine s so_far.fine h in
       (rw (at_end, unless_sound at (next s 10) so_far.done fine) so_far.written, sym (faults_end ∙ fine))

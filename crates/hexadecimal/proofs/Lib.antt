@@ -1,4 +1,4 @@
--- What the proof of the loop says of a text that is decoded in part, apart from the code.
+-- What the proof of the loop says of a text that is decoded in part, apart from the code (Decoding), and the laws.
 pub mod Decoding
 pub mod BinaryLaws
 pub mod CommentLaws

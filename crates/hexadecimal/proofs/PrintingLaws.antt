@@ -5,7 +5,8 @@
 --     hexed_joined                                 one list after another
 use Rattle.std.specs.Prelude.{ℕ, ◌+◌, ◌/◌, ◌%◌, ◌≤◌, ◌<◌, ◌≡◌, List, [], ◌∷◌, ◌++◌, length, get_or, take}
 use Rattle.std.proofs.Math.Path.{refl}
-use Rattle.std.proofs.Common.{sym, ap, ◌∙◌, subst, append-nil, append_assoc, add-one, lt-ltb, le-ltb, take-suc, take_all}
+use Rattle.std.proofs.Common.{sym, ap, ◌∙◌, subst, append-nil, append_assoc, add-one, lt-ltb, le-ltb, take-suc}
+use Rattle.std.proofs.Common.{take_all}
 use Rattle.text.specs.Text.{Appended}
 use Rattle.text.proofs.TextLaws.{appended_none, appended_then}
 use Rattle.hexadecimal.specs.Digits.{hex_digit, hex_byte, hexed}

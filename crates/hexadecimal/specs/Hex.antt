@@ -1,7 +1,8 @@
 -- A text in hexadecimal: pairs of digits, each pair a byte; white space between pairs; and comments, from `#` up to the
 -- end of the line. What a byte of the text is, by the bytes before it, is its reading: `Reading` is the enum of
 -- src/lib.rt. At the end: how a text is told from a binary file.
-use Rattle.std.specs.Prelude.{ℕ, ◌+◌, ◌*◌, ◌-◌, Bool, true, false, cond, not, ◌&&◌, ◌||◌, List, [], ◌∷◌, ◌++◌, ltb, leb, eqb, length}
+use Rattle.std.specs.Prelude.{ℕ, ◌+◌, ◌*◌, ◌-◌, Bool, true, false, cond, not, ◌&&◌, ◌||◌, List, [], ◌∷◌, ◌++◌, ltb, leb}
+use Rattle.std.specs.Prelude.{eqb, length}
 use Rattle.text.specs.Text.{word, line}
 use Rattle.hexadecimal.specs.declared.Reading.{Reading}
 use Rattle.hexadecimal.specs.declared.Reading.TheVariants.{Between, Comment, High, Byte, Bad, Odd}

@@ -1,4 +1,4 @@
--- What a text in hexadecimal comes to. First the definitions, then the laws about them.
+-- What a text in hexadecimal comes to. The definitions; the laws about them are in proofs/.
 pub mod Hex
 pub mod Digits
 pub mod Reading

@@ -6,11 +6,11 @@
 //     digit, is_space, is_control      what a byte is by itself
 //     put, bad, odd        what is written
 //     printing             `hex_byte`, `hex_bytes`: the digits of bytes
-// What comes of a text is specs/Hex.antt. The laws of single bytes are specs/ReadingLaws.antt; that every list of bytes
-// has a text, and that ROOM is enough, is specs/HexLaws.antt; what is written where there is a fault, and where there
-// is none, is specs/FaultLaws.antt; that no bench file is taken for a text is specs/BinaryLaws.antt; the argument of
-// the loop over a text is proofs/Decoding.antt. The digits of bytes are specs/Digits.antt; that they say these bytes is
-// specs/PairLaws.antt.
+// What comes of a text is specs/Hex.antt. The laws of single bytes are proofs/ReadingLaws.antt; that every list of
+// bytes has a text, and that ROOM is enough, is proofs/HexLaws.antt; what is written where there is a fault, and where
+// there is none, is proofs/FaultLaws.antt; that no bench file is taken for a text is proofs/BinaryLaws.antt; the
+// argument of the loop over a text is proofs/Decoding.antt. The digits of bytes are specs/Digits.antt; that they say
+// these bytes is proofs/PairLaws.antt.
 #![tactic(auto)]
 
 mod printing;
@@ -110,6 +110,7 @@ pub fn is_text(bytes: &[u8]) -> bool
 }
 
 // What the byte b is after a byte that was read as `before`.
+#[tactic(auto, unfolding(crate::specs::Hex::next, crate::specs::Reading::high_half))]
 fn step(before: Reading, b: u8) -> Reading
     requires { high_half before < 16 }
     ensures { result ≡ next before b }
