@@ -9,7 +9,8 @@
 -- The definitions are ladders of tests, so there is one law for each rung: the tests above it fail, this one holds, and
 -- so the refusal is that of the rung. A section has its law, and within it each test that failed has a name. A file
 -- that is not refused is on no rung of either ladder: that gives `Accepted`, field by field.
-use Rattle.std.specs.Prelude.{ℕ, ◌+◌, ◌-◌, ◌*◌, ◌≤◌, ◌<◌, ◌≡◌, Bool, true, false, not, ◌≢◌, ◌⊎◌, List, ltb, length, get_or}
+use Rattle.std.specs.Prelude.{ℕ, ◌+◌, ◌-◌, ◌*◌, ◌≤◌, ◌<◌, ◌≡◌, Bool, true, false, not, ◌≢◌, ◌⊎◌, List, ltb, length}
+use Rattle.std.specs.Prelude.{get_or}
 use Rattle.std.proofs.Math.Path.{refl}
 use Rattle.std.proofs.Common.{sym, ap, ◌∙◌, inl, inr, ⊎_elim, mul-le-mul, arith}
 use Rattle.std.proofs.Math.Decide.{dec_lt, ℕ_discrete}

@@ -19,7 +19,8 @@
 -- same ladder, and meet the same fault (same_first for the links, same_rest for what follows, same_refusal for all).
 use Rattle.std.specs.Prelude.{ℕ, ◌+◌, ◌-◌, ◌*◌, ◌/◌, ◌≤◌, ◌<◌, ◌≡◌, true, false, ◌≢◌, ◌⊎◌, length, get_or, take, drop}
 use Rattle.std.proofs.Math.Path.{refl, ap}
-use Rattle.std.proofs.Common.{sym, ap₂, ◌∙◌, subst, inl, inr, ⊎_elim, arith, length-drop, length-take-le, take_all, get_or-take, get_or-drop}
+use Rattle.std.proofs.Common.{sym, ap₂, ◌∙◌, subst, inl, inr, ⊎_elim, arith, length-drop, length-take-le, take_all}
+use Rattle.std.proofs.Common.{get_or-take, get_or-drop}
 use mathlib.Core.List.{List}
 use Rattle.std.proofs.Math.Decide.{dec_lt, ℕ_discrete}
 use Rattle.area.specs.Bytes.{two}
@@ -288,7 +289,8 @@ module _
 
       same_rest : rest_refusal format f ≡ rest_refusal format g
       same_rest =
-          by_tests same_count same_changes (dec_lt most_changes (change_count f)) (dec_lt most_steps (step_count format f))
+          by_tests same_count same_changes (dec_lt most_changes (change_count f))
+          (dec_lt most_steps (step_count format f))
         where
           by_tests :
               link_count f ≡ link_count g

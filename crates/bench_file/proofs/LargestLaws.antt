@@ -8,9 +8,11 @@
 --     largest_read         Read accepts it
 -- Router i has the links from others * i on, to all others in their order. So the two ends of a link say which one it
 -- is, and no pair is listed twice.
-use Rattle.std.specs.Prelude.{ℕ, ◌+◌, ◌-◌, ◌*◌, ◌/◌, ◌%◌, ◌≤◌, ◌<◌, ◌≡◌, Bool, true, false, ◌≢◌, ◌⊎◌, List, ltb, eqb, length, get_or}
+use Rattle.std.specs.Prelude.{ℕ, ◌+◌, ◌-◌, ◌*◌, ◌/◌, ◌%◌, ◌≤◌, ◌<◌, ◌≡◌, Bool, true, false, ◌≢◌, ◌⊎◌, List, ltb, eqb}
+use Rattle.std.specs.Prelude.{length, get_or}
 use Rattle.std.proofs.Math.Path.{refl}
-use Rattle.std.proofs.Common.{sym, ap, ap₂, ◌∙◌, inl, inr, ⊎_elim, arith, length-drop, get_or-drop, lt-ltb, le-ltb, ne_eqb, ltb-true}
+use Rattle.std.proofs.Common.{sym, ap, ap₂, ◌∙◌, inl, inr, ⊎_elim, arith, length-drop, get_or-drop, lt-ltb, le-ltb}
+use Rattle.std.proofs.Common.{ne_eqb, ltb-true}
 use Rattle.std.proofs.Math.Decide.{dec_lt}
 use Rattle.std.proofs.Math.ListN.{get_or-eq_default}
 use Rattle.area.specs.Bytes.{two}

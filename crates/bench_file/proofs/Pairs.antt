@@ -1,4 +1,4 @@
--- The refusal of a link, by the pairs of the links before it (entries/specs/SeenLaws.antt).
+-- The refusal of a link, by the pairs of the links before it (entries/proofs/SeenLaws.antt).
 --     seen_refusal_lem, link_told      the refusal of the next link can be told from the sets of pairs
 --     in_sets                      a link without fault has a set to add its pair to
 use Prim.Native.Nat.{ℕ, ◌≤◌, ◌<◌}

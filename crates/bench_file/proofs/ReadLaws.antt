@@ -4,7 +4,6 @@
 --     contents_refused, by_refused, metrics_refused        the file is refused
 --     contents_accepted, by_accepted, metrics_accepted     it is accepted
 --     read_file                                a table of the right size leaves the answer to the file
---     InTable                                  the links have their cells in the table
 --     linked_is, linked_same                   a table by its cells, and links that make the same table
 --     linked_clear                             the table without a link
 use Rattle.std.specs.Prelude.{ℕ, ◌+◌, ◌*◌, ◌<◌, ◌≡◌, ◌≢◌, List, [], length, get_or}
@@ -17,14 +16,13 @@ use Rattle.area.proofs.SizeLaws.{table_true, table_false}
 use Rattle.area.specs.Tables.{build, cell, tabulate}
 use Rattle.area.proofs.TableLaws.{length_build, build_at, length_tabulate, cell_tabulate, is_tabulate}
 use Rattle.area.proofs.TableLaws.{cell_in}
-use Rattle.entries.specs.Entries.{from, to, listed_metric}
+use Rattle.entries.specs.Entries.{listed_metric}
 use Rattle.entries.proofs.EntryLaws.{given_start}
 use Rattle.bench_file.specs.Sections.{link_count, links}
 use Rattle.bench_file.specs.declared.Format.{Format}
 use Rattle.bench_file.specs.declared.Format.TheVariants.{New}
 use Rattle.bench_file.specs.Faults.{file_refusal}
 use Rattle.bench_file.specs.Read.{read_refusal, contents, no_contents, contents_by, contents_of, linked, metrics_by}
-use Rattle.bench_file.specs.Read.{InTable}
 
 module _ (f t : List ℕ) where
   pub read_size : length t ≢ width * width → read_refusal f t ≡ table_size

@@ -1,4 +1,4 @@
--- The bench file, as 01 means it. First the definitions, in reading order; then the laws about them.
+-- The bench file, as 01 means it: the definitions, in reading order. The laws about them are in proofs/
 pub mod Formats
 pub mod Sections
 pub mod Faults

@@ -4,7 +4,7 @@
 //     links    the links that the count announces
 //     link     one of them, beside the pairs of those before it; `is_barred` where it is dead
 //     rest     what follows the links
-// What the faults are is specs/Faults.antt; that `seen` tells a repeated pair is entries/specs/SeenLaws.antt, and what
+// What the faults are is specs/Faults.antt; that `seen` tells a repeated pair is entries/proofs/SeenLaws.antt, and what
 // follows for a link's refusal is proofs/Pairs.antt.
 ghost use Rattle.std.specs.Prelude.{◌≡◌, ◌≤◌, ◌*◌};
 ghost use Rattle.area.specs.Limits.{width};

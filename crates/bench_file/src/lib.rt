@@ -4,8 +4,8 @@
 //     examine      judges a file of either format, and says where changes and steps begin
 //     read         Read: the same in the new format, and fills the table
 // Definitions, in reading order: specs/Formats.antt (how the formats differ), Sections.antt (what stands where),
-// Faults.antt (the refusals), Read.antt (the promise). What a caller may conclude from them is specs/FileLaws.antt; the
-// loops' arguments are proofs/Pairs.antt (repeated pairs) and proofs/Linking.antt (the table).
+// Faults.antt (the refusals), Read.antt (the promise). What a caller may conclude from them is proofs/FileLaws.antt;
+// the loops' arguments are proofs/Pairs.antt (repeated pairs) and proofs/Linking.antt (the table).
 #![tactic(auto)]
 
 mod faults;

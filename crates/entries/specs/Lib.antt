@@ -1,3 +1,3 @@
--- Lists of entries of five bytes. First the definitions, then the laws about them.
+-- Lists of entries of five bytes: the definitions. The laws about them are in proofs/.
 pub mod Entries
 pub mod Seen

@@ -3,7 +3,7 @@
 //     decode       the entry at a place of the list
 //     check        the fault of an entry by itself; that no pair comes twice is for the crates that go over a list
 // What each promises is specs/Entries.antt. `bench_file` reads links by these functions, `changes` reads changes; both
-// find a repeated pair by sets, and specs/SeenLaws.antt says why.
+// find a repeated pair by sets, and proofs/SeenLaws.antt says why.
 #![tactic(auto)]
 
 ghost use Rattle.std.specs.Prelude.{◌≡◌, ◌<◌};
@@ -51,6 +51,7 @@ pub fn decode(list: &[u8], e: usize) -> Entry
 }
 
 // The refusal of an entry by itself, in an area of n routers.
+#[tactic(auto, using(crate::proofs::EntryLaws::faulty_from, crate::proofs::EntryLaws::faulty_to, crate::proofs::EntryLaws::faulty_self, crate::proofs::EntryLaws::faulty_metric, crate::proofs::EntryLaws::faultless))]
 pub fn check(n: usize, entry: Entry) -> Verdict
     ensures answer { verdict_number result ≡ entry_refusal n entry }
 {

@@ -1,8 +1,5 @@
 -- What is read from the table of a function: its entries are the function's, and so are the sets that they are in.
-use Prim.Native.Nat.{ℕ, ◌≤◌, ◌<◌}
-use mathlib.Core.Path.{◌≡◌, ap, ◌∙◌}
-use mathlib.Core.List.{List}
-use lib.ListN.{get_or}
+use Rattle.std.proofs.Common.{ℕ, ◌≤◌, ◌<◌, ◌≡◌, ap, ◌∙◌, List, get_or}
 use Rattle.area.specs.Tables.{per_router}
 use Rattle.area.proofs.PerRouterLaws.{per_at}
 use Rattle.ranks.specs.Rank.{rank}

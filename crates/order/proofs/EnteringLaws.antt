@@ -1,5 +1,4 @@
 -- The converse of a table of sets, made by entering router s at each member of its set, for one s after another.
---     Entered          s was entered at every member below n of its set
 --     Entering, entering_start, entering_next, entering_skip, entering_end     the loop over the members
 --     Held, held_none, held_more, held_all     the loop over the routers; then the table is the converse
 use Rattle.std.specs.Prelude.{ℕ, ◌+◌, ◌^◌, ◌≤◌, ◌<◌, ◌≡◌, refl, Bool, true, false, ◌||◌, ◌≢◌, ◌⊎◌, List, eqb, length, get_or, set, replicate}
@@ -19,7 +18,7 @@ use Rattle.order.specs.Order.{telling_by}
 use Rattle.order.specs.Entered.{Entered}
 
 -- ---- one router
--- the same of the members that were visited; `left` are the others
+-- what `Entered` says, of the members that were visited; `left` are the others
 pub record Entering (w n x s left : ℕ) (was t : List ℕ) : Type 0 where
   pub size : length t ≡ length was
   pub held : Visited w x left (λ r. r < n → get_or t r 0 ≡ added w (get_or was r 0) s)

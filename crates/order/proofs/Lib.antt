@@ -1,4 +1,4 @@
--- What several functions' proofs share, or what would make one too long.
+-- The laws of the order, and what several functions' proofs share.
 pub mod Converse
 pub mod EnteringLaws
 pub mod OrderLaws

@@ -1,4 +1,5 @@
-use Rattle.std.specs.Prelude.{ℕ, ◌<◌, ◌≡◌, true, List, length, get_or, set}
+-- One router, entered at each member of its set (`enter` of src/waiting.rt).
+use Rattle.std.specs.Prelude.{ℕ, ◌<◌, ◌≡◌, true, List, length, get_or}
 use Rattle.sets.specs.Sets.{bit, added}
 
 -- x is the set of router s. At each member of x below n the table t has s beside what `was` had there.

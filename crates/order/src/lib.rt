@@ -4,7 +4,7 @@
 //     waiting     the waiting sets, and from them the telling sets (`converse`)
 //     due_table   what is due, by the sets of four, for every input
 //     due         the same, from tables that can be read
-// Ranks are found by crate ranks. What is promised is specs/Order.antt; specs/EnteringLaws.antt says why `converse`
+// Ranks are found by crate ranks. What is promised is specs/Order.antt; proofs/EnteringLaws.antt says why `converse`
 // finds the telling sets, proofs/Converse.antt why the table of waiting sets is all that they and ranks need.
 #![tactic(auto)]
 

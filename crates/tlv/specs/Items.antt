@@ -5,10 +5,9 @@
 --
 -- The sub-TLVs are skipped. `Item`, `Neighbour` are declared in src/lib.rt.
 use Rattle.std.specs.Prelude.{ℕ, zero, suc, ◌+◌, ◌*◌, List, [], ◌∷◌, length, get_or, ltb, leb}
-use Rattle.area.specs.Bytes.{two, three}
+use Rattle.area.specs.Bytes.{three}
 use Rattle.area.specs.Tests.{pick}
 use Rattle.area.specs.declared.refusal.Refusal.TheVariants.{PastList, LongSubTlvs}
-use Rattle.tlv.specs.declared.Neighbour.{Neighbour}
 use Rattle.tlv.specs.declared.Item.{Item}
 use Rattle.tlv.specs.declared.Item.TheVariants.{End, Refused, Entry}
 

@@ -1,2 +1,2 @@
--- Entries of TLV 22, as RFC 5305 and 02 mean them. First the definitions; then the laws about them.
+-- Entries of TLV 22, as RFC 5305 and 02 mean them: the definitions. The laws about them are in proofs/.
 pub mod Items

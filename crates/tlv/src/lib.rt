@@ -4,7 +4,7 @@
 //     item_at      the same for a caller that holds no reader
 //     decode       the work: what stands at a place of a list
 // What stands where is specs/Items.antt. That two identities are equal as numbers exactly if their bytes are, and what
-// a loop over the items of a list needs, is specs/ItemLaws.antt. Functions over a `Reader` are proved by hand.
+// a loop over the items of a list needs, is proofs/ItemLaws.antt.
 #![tactic(auto)]
 
 ghost use Rattle.std.specs.Prelude.{◌≡◌, ◌<◌, ◌≤◌, ◌+◌, length};
