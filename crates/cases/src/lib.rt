@@ -4,6 +4,7 @@
 //     metrics    the metric table that a line says
 //     lists      the change list that a line says
 //     compare    in how many cells two tables differ, and checksums
+//     input      standard input, and files
 //     print      texts and numbers
 // The words of a case are a letter and numbers, as n3, or a link or a change of one: 0-1=7, c1>2=16777215.
 // Nothing is promised but that each function is safe and ends, and that a place or a size is not above a bound.
@@ -12,6 +13,7 @@
 use area::limits::{CELLS, ENTRY, MOST_CHANGES};
 
 pub mod compare;
+pub mod input;
 pub mod lines;
 pub mod lists;
 pub mod metrics;

@@ -6,58 +6,55 @@
 //     rehearsal    the rehearsal, in tables that hold nothing
 #![tactic(auto)]
 
-ghost use Rattle.std.specs.Prelude.{◌≡◌, ◌≤◌, length, take};
+ghost use Rattle.std.specs.Prelude.{◌≡◌, ◌≤◌, length, take, IfSome};
 
 use area::limits::{CELLS, LARGEST, Set};
-use cases::{lines, print};
-use libc::STDIN_FILENO;
+use cases::{input, lines, print};
 use report::{REHEARSAL_ROOM, Text};
 
-fn main() {
-    let mut input = [0u8; 4096];
-    let length = io::read_full(STDIN_FILENO, &mut input);
-    run(&input[..length]);
+fn main(rt: HostRuntime) {
+    let mut text = [0u8; 4096];
+    let length = input::standard(&rt, &mut text);
+    run(&rt, &text[..length]);
 }
 
-fn run(names: &[u8]) {
+fn run(rt: &HostRuntime, names: &[u8]) {
     for at in 0..names.len() {
-        example(lines::line(names, at));
+        example(rt, lines::line(names, at));
     }
 }
 
-fn example(name: &[u8]) {
+fn example(rt: &HostRuntime, name: &[u8]) {
     if name.len() == 0 {
         return;
     }
-    print::text(name);
-    print::byte(b'\n');
-    let fd = open(name);
-    if fd < 0 {
-        print::text(b"cannot be opened\n");
-        return;
+    print::text(rt, name);
+    print::byte(rt, b'\n');
+    let mut text = [0u8; hexadecimal::MOST + 1];
+    match open(rt, name, &mut text) {
+        Some(size) => rehearse(rt, &text[..size]),
+        None => print::text(rt, b"cannot be opened\n"),
     }
-    rehearse(fd);
-    libc::close(fd);
 }
 
-// Opens the file of an example for reading, and gives a negative number where it cannot.
-fn open(name: &[u8]) -> i32 {
+// Reads the file of an example.
+fn open(rt: &HostRuntime, name: &[u8], out: &mut [u8]) -> Option<usize>
+    ensures { IfSome result (λ n. (n ≤ length out.new) × (n ≡ length (take n out.new))) }
+{
     let mut path = [0u8; 64];
     let length = text::append(&mut path, 0, name);
     let length = text::append(&mut path, length, b".hex");
-    os::open_read(&path[..length])
+    input::file(rt, &path[..length], out)
 }
 
-// Prints the rehearsal of an open file that is in hexadecimal.
-fn rehearse(fd: i32) {
-    let mut hexadecimal = [0u8; hexadecimal::MOST + 1];
+// Prints the rehearsal of a file that is in hexadecimal.
+fn rehearse(rt: &HostRuntime, text: &[u8]) {
     let mut file = [0u8; LARGEST + 1];
     let mut out = [0u8; REHEARSAL_ROOM];
-    let size = io::read_full(fd, &mut hexadecimal);
-    let unhexed = hexadecimal::unhex(&hexadecimal[..size], &mut file);
+    let unhexed = hexadecimal::unhex(text, &mut file);
     let size = unhexed.length;
     let length = rehearsal(&file[..size], &mut out);
-    print::text(&out[..length]);
+    print::text(rt, &out[..length]);
 }
 
 // Puts the rehearsal at the start of `out`, and gives its length.

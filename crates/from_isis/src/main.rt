@@ -15,17 +15,17 @@ use area_file::{MOST_BYTES, ROOM};
 // The longest table of identities, behind its length, and the longest lists that are read.
 const LONGEST: usize = 2 + 65535 + MOST_BYTES;
 
-fn main() {
+fn main(rt: HostRuntime) {
     // One byte more, so that longer lists are seen to be too long.
     let mut stream = [0u8; LONGEST + 1];
     let mut table = [0u32; CELLS];
     let mut out = [0u8; ROOM];
-    let input = streams::read(b"from_isis", &mut stream);
+    let input = streams::read(&rt, b"from_isis", &mut stream);
     if input.is_failed {
         return;
     }
     let length = whole(&stream, input.length, &mut table, &mut out);
-    streams::write(b"from_isis", &out[..length]);
+    streams::write(&rt, b"from_isis", &out[..length]);
 }
 
 // Puts all that is written for the input at the start of `out`, and gives its length. The first `count` bytes of

@@ -7,46 +7,47 @@ ghost use Rattle.area.specs.Limits.{width};
 use crate::call::OLD;
 use crate::show;
 use area::limits::{CELLS, WIDTH};
-use cases::{LONG_TABLE, lines, print, read};
+use cases::{LONG_TABLE, input, lines, print, read};
 
 // The folder has the name of the case.
-pub fn run(name: &[u8]) {
+pub fn run(rt: &HostRuntime, name: &[u8]) {
     let mut identities = [0u8; 2048];
     let mut lists = [0u8; 2048];
-    let rows = bytes(name, b"/table.hex", &mut identities);
-    let size = bytes(name, b"/lists.hex", &mut lists);
-    area(name, &identities[..rows], &lists[..size]);
+    let rows = bytes(rt, name, b"/table.hex", &mut identities);
+    let size = bytes(rt, name, b"/lists.hex", &mut lists);
+    area(rt, name, &identities[..rows], &lists[..size]);
 }
 
-fn area(name: &[u8], identities: &[u8], lists: &[u8]) {
+fn area(rt: &HostRuntime, name: &[u8], identities: &[u8], lists: &[u8]) {
     let mut table = [OLD; LONG_TABLE];
     let n = isis::count(lists);
     let answer = isis::read(n, identities, lists, &mut table[0..CELLS]);
-    print::form(b": #\nn #\n", &[answer.number() as u64, n as u64]);
-    show::links(&table, b"link # # #\n");
-    compare(name, n as u64, &table);
+    print::form(rt, b": #\nn #\n", &[answer.number() as u64, n as u64]);
+    show::links(rt, &table, b"link # # #\n");
+    compare(rt, name, n as u64, &table);
 }
 
 // Compares n and the metric table with those that are expected.
-fn compare(name: &[u8], n: u64, table: &[u32; LONG_TABLE]) {
+fn compare(rt: &HostRuntime, name: &[u8], n: u64, table: &[u32; LONG_TABLE]) {
     let mut text = [0u8; 8192];
     let mut expected = [16777215; LONG_TABLE];
-    let size = contents(name, b"/expect", &mut text);
+    let size = contents(rt, name, b"/expect", &mut text);
     let routers = read::number(&text[..size], 0);
     fill(&mut expected, &text[..size]);
     let k = first(table, &expected);
     if n == routers && k == CELLS {
-        print::text(b"equal\n");
+        print::text(rt, b"equal\n");
     } else {
-        unequal(routers, k, expected[k]);
+        unequal(rt, routers, k, expected[k]);
     }
 }
 
 // What the file has instead: its number of routers, and the metric of the first cell that differs.
-fn unequal(routers: u64, k: usize, metric: u32) {
+fn unequal(rt: &HostRuntime, routers: u64, k: usize, metric: u32) {
     let i = k / WIDTH;
     let j = k % WIDTH;
     print::form(
+        rt,
         b"not equal: expected are # routers, and # # at #\n",
         &[routers, i as u64, j as u64, metric as u64],
     );
@@ -93,27 +94,24 @@ fn first(a: &[u32; LONG_TABLE], b: &[u32; LONG_TABLE]) -> usize
 }
 
 // The bytes of a file of hexadecimal.
-fn bytes(folder: &[u8], file: &[u8], out: &mut [u8]) -> usize
+fn bytes(rt: &HostRuntime, folder: &[u8], file: &[u8], out: &mut [u8]) -> usize
     ensures { (result ≤ length out.new) × (result ≡ length (take result out.new)) }
 {
     let mut text = [0u8; 8192];
-    let size = contents(folder, file, &mut text);
+    let size = contents(rt, folder, file, &mut text);
     let unhexed = hexadecimal::unhex(&text[..size], out);
     unhexed.length
 }
 
 // The contents of a file, and how many bytes that are; 0 where it cannot be opened.
-fn contents(folder: &[u8], file: &[u8], out: &mut [u8]) -> usize
+fn contents(rt: &HostRuntime, folder: &[u8], file: &[u8], out: &mut [u8]) -> usize
     ensures { (result ≤ length out.new) × (result ≡ length (take result out.new)) }
 {
     let mut path = [0u8; 64];
     let length = text::append(&mut path, 0, folder);
     let length = text::append(&mut path, length, file);
-    let fd = os::open_read(&path[..length]);
-    if fd < 0 {
-        return 0;
+    match input::file(rt, &path[..length], out) {
+        Some(size) => size,
+        None => 0,
     }
-    let size = io::read_full(fd, out);
-    libc::close(fd);
-    size
 }

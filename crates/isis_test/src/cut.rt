@@ -16,26 +16,26 @@ struct Outcome {
 const NONE: u64 = 256;
 
 // Prefixes of the lists. The last byte is one behind the lists of the case.
-pub fn lists(n: usize, identities: &[u8], lists: &[u8]) {
+pub fn lists(rt: &HostRuntime, n: usize, identities: &[u8], lists: &[u8]) {
     let mut last = Outcome {
         answer: NONE,
         links: 0,
     };
-    print::byte(b'\n');
+    print::byte(rt, b'\n');
     for size in 0..lists.len() + 1 {
-        last = show(size, last, after_call(n, identities, &lists[0..size]));
+        last = show(rt, size, last, after_call(n, identities, &lists[0..size]));
     }
 }
 
 // Prefixes of the table of identities.
-pub fn table(n: usize, identities: &[u8], lists: &[u8]) {
+pub fn table(rt: &HostRuntime, n: usize, identities: &[u8], lists: &[u8]) {
     let mut last = Outcome {
         answer: NONE,
         links: 0,
     };
-    print::byte(b'\n');
+    print::byte(rt, b'\n');
     for size in 0..identities.len() + 1 {
-        last = show(size, last, after_call(n, &identities[0..size], lists));
+        last = show(rt, size, last, after_call(n, &identities[0..size], lists));
     }
 }
 
@@ -49,9 +49,10 @@ fn after_call(n: usize, identities: &[u8], lists: &[u8]) -> Outcome {
 }
 
 // Prints the outcome where it is another than the last, and gives it back.
-fn show(size: usize, last: Outcome, now: Outcome) -> Outcome {
+fn show(rt: &HostRuntime, size: usize, last: Outcome, now: Outcome) -> Outcome {
     if now.answer != last.answer || now.links != last.links {
         print::form(
+            rt,
             b"# bytes: # with # links\n",
             &[size as u64, now.answer, now.links],
         );

@@ -16,24 +16,23 @@ mod cut;
 mod items;
 mod show;
 
-use cases::{lines, print};
-use libc::STDIN_FILENO;
+use cases::{input, lines, print};
 
-fn main() {
-    let mut input = [0u8; 16384];
-    let length = io::read_full(STDIN_FILENO, &mut input);
-    run(&input[..length]);
+fn main(rt: HostRuntime) {
+    let mut text = [0u8; 16384];
+    let length = input::standard(&rt, &mut text);
+    run(&rt, &text[..length]);
 }
 
-fn run(text: &[u8]) {
+fn run(rt: &HostRuntime, text: &[u8]) {
     for at in 0..text.len() {
-        case(lines::line(text, at));
+        case(rt, lines::line(text, at));
     }
 }
 
-fn case(line: &[u8]) {
+fn case(rt: &HostRuntime, line: &[u8]) {
     if lines::is_case(line) {
-        print::text(lines::name(line));
-        call::run(lines::name(line), lines::words(line));
+        print::text(rt, lines::name(line));
+        call::run(rt, lines::name(line), lines::words(line));
     }
 }

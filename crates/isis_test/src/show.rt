@@ -7,19 +7,19 @@ use cases::{LONG_TABLE, compare, print};
 const UNUSED: u32 = 16777215;
 
 // `untouched`, `no link`, or the links one after another; and then whether the cell behind the table was written.
-pub fn table(table: &[u32; LONG_TABLE]) {
+pub fn table(rt: &HostRuntime, table: &[u32; LONG_TABLE]) {
     if compare::changed(&compare::wide(table), OLD as u64) == 0 {
-        print::text(b" untouched\n");
+        print::text(rt, b" untouched\n");
         return;
     }
     if count(table) == 0 {
-        print::text(b" no link");
+        print::text(rt, b" no link");
     }
-    links(table, b" #>#=#");
+    links(rt, table, b" #>#=#");
     if table[CELLS] != OLD {
-        print::text(b" and the cell behind");
+        print::text(rt, b" and the cell behind");
     }
-    print::byte(b'\n');
+    print::byte(rt, b'\n');
 }
 
 // How many cells hold something else than the metric of a link that is not used.
@@ -28,16 +28,16 @@ pub fn count(table: &[u32; LONG_TABLE]) -> u64 {
 }
 
 // The links in the order of the table, each in this form: the two routers, and the metric.
-pub fn links(table: &[u32; LONG_TABLE], form: &[u8]) {
+pub fn links(rt: &HostRuntime, table: &[u32; LONG_TABLE], form: &[u8]) {
     for k in 0..CELLS {
-        link(k, table[k], form);
+        link(rt, k, table[k], form);
     }
 }
 
-fn link(k: usize, metric: u32, form: &[u8]) {
+fn link(rt: &HostRuntime, k: usize, metric: u32, form: &[u8]) {
     let i = k / WIDTH;
     let j = k % WIDTH;
     if metric != UNUSED {
-        print::form(form, &[i as u64, j as u64, metric as u64]);
+        print::form(rt, form, &[i as u64, j as u64, metric as u64]);
     }
 }

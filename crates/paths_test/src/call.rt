@@ -11,34 +11,34 @@ pub const OLD_SET: Set = 8888888888888888888;
 pub const OLD_FOUR: Set = 8888888888888888889;
 
 // Paths, or with the mark i the test of n and the metrics alone.
-pub fn run(case: &[u8]) {
+pub fn run(rt: &HostRuntime, case: &[u8]) {
     let mut metric = [0; LONG_TABLE];
     metrics::fill(&mut metric, case);
     if read::mark(case, 0) == b'i' {
-        area(case, &metric);
+        area(rt, case, &metric);
     } else {
-        paths(case, &metric);
+        paths(rt, case, &metric);
     }
 }
 
-fn area(case: &[u8], metric: &[u32; LONG_TABLE]) {
+fn area(rt: &HostRuntime, case: &[u8], metric: &[u32; LONG_TABLE]) {
     let all = &metric[..];
     let cells = read::size(case, 0, all.len());
     if paths::is_area(read::number(case, 0) as usize, &all[0..cells]) {
-        print::text(b" area\n");
+        print::text(rt, b" area\n");
     } else {
-        print::text(b" no area\n");
+        print::text(rt, b" no area\n");
     }
 }
 
-fn paths(case: &[u8], metric: &[u32; LONG_TABLE]) {
+fn paths(rt: &HostRuntime, case: &[u8], metric: &[u32; LONG_TABLE]) {
     let mut dist = [OLD_DISTANCE; LONG_TABLE];
     let mut hops = [OLD_SET; LONG_TABLE];
     let mut fours = [OLD_FOUR; LONG_TABLE];
     let n = read::number(case, 0) as usize;
     let answer = lend(case, n, metric, &mut dist, &mut hops, &mut fours);
-    print::form(b": #", &[answer as u64]);
-    show::call(case, n, &dist, &hops, &fours);
+    print::form(rt, b": #", &[answer as u64]);
+    show::call(rt, case, n, &dist, &hops, &fours);
 }
 
 // A call with the first cells of longer tables, so that a table can be one cell too short or too long.

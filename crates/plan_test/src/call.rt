@@ -24,25 +24,31 @@ pub const NEW_FOUR: Set = 8888888888888888887;
 
 // The old table and the change list of a case. Every byte that is not of a change is 255, so that an entry there has a
 // router that is unknown.
-pub fn run(case: &[u8]) {
+pub fn run(rt: &HostRuntime, case: &[u8]) {
     let mut old = [0; LONG_TABLE];
     let mut list = [255; LONG_LIST];
     metrics::fill(&mut old, case);
     let bytes = lists::fill(&mut list, case);
-    plan(case, &old, &list, bytes);
+    plan(rt, case, &old, &list, bytes);
 }
 
-fn plan(case: &[u8], old: &[u32; LONG_TABLE], list: &[u8; LONG_LIST], bytes: usize)
+fn plan(
+    rt: &HostRuntime,
+    case: &[u8],
+    old: &[u32; LONG_TABLE],
+    list: &[u8; LONG_LIST],
+    bytes: usize,
+)
     requires { bytes ≤ 5 * (most_changes + 2) }
 {
     let table = &old[..];
     let changes = &list[..];
     let cells = read::size(case, 0, table.len());
-    lend(case, &table[0..cells], &changes[0..bytes]);
+    lend(rt, case, &table[0..cells], &changes[0..bytes]);
 }
 
 // A call with tables of which some cells are lent.
-fn lend(case: &[u8], old: &[u32], list: &[u8]) {
+fn lend(rt: &HostRuntime, case: &[u8], old: &[u32], list: &[u8]) {
     let mut new = [NEW; LONG_TABLE];
     let mut old_dist = [OLD_DISTANCE; LONG_TABLE];
     let mut old_hops = [OLD_SET; LONG_TABLE];
@@ -65,7 +71,7 @@ fn lend(case: &[u8], old: &[u32], list: &[u8]) {
         &mut new_fours,
     );
     show::planned(
-        n, p, &new, &old_dist, &old_hops, &old_fours, &new_dist, &new_hops, &new_fours,
+        rt, n, p, &new, &old_dist, &old_hops, &old_fours, &new_dist, &new_hops, &new_fours,
     );
 }
 

@@ -7,22 +7,23 @@ use cases::print;
 use plan::Record;
 
 // A line for each router of the record.
-pub fn routers(n: usize, r: Record) {
+pub fn routers(rt: &HostRuntime, n: usize, r: Record) {
     for k in 0..WIDTH {
-        router(n, r, k);
+        router(rt, n, r, k);
     }
 }
 
-fn router(n: usize, r: Record, k: usize)
+fn router(rt: &HostRuntime, n: usize, r: Record, k: usize)
     requires { k < width }
 {
     if k < n {
-        line(k, r.ranks[k], r.waiting[k], r.telling[k], r.due[k]);
+        line(rt, k, r.ranks[k], r.waiting[k], r.telling[k], r.due[k]);
     }
 }
 
-fn line(k: usize, rank: u8, waiting: Set, telling: Set, due: Set) {
+fn line(rt: &HostRuntime, k: usize, rank: u8, waiting: Set, telling: Set, due: Set) {
     print::form(
+        rt,
         b"router # rank # waits # tells # due #\n",
         &[k as u64, rank as u64, waiting, telling, due],
     );

@@ -7,6 +7,7 @@ use plan::Planned;
 
 // The verdict and the record, and what became of the tables.
 pub fn planned(
+    rt: &HostRuntime,
     n: usize,
     p: Planned,
     new: &[u32; LONG_TABLE],
@@ -17,24 +18,25 @@ pub fn planned(
     new_hops: &[Set; LONG_TABLE],
     new_fours: &[Set; LONG_TABLE],
 ) {
-    if record(n, p) {
+    if record(rt, n, p) {
         filled(
-            n, new, old_dist, old_hops, old_fours, new_dist, new_hops, new_fours,
+            rt, n, new, old_dist, old_hops, old_fours, new_dist, new_hops, new_fours,
         );
     } else {
         changed(
-            new, old_dist, old_hops, old_fours, new_dist, new_hops, new_fours,
+            rt, new, old_dist, old_hops, old_fours, new_dist, new_hops, new_fours,
         );
     }
 }
 
 // The number of the verdict and what the record says of the whole area; then, where Plan accepts, its routers. Does
 // Plan accept?
-fn record(n: usize, p: Planned) -> bool {
+fn record(rt: &HostRuntime, n: usize, p: Planned) -> bool {
     let v = p.answer;
     let r = p.record;
     let stray = fresh::stray(r);
     print::form(
+        rt,
         b": # routers # root # direction # hold # step # clock # stray #",
         &[
             v.number() as u64,
@@ -50,14 +52,15 @@ fn record(n: usize, p: Planned) -> bool {
     if v.number() != 0 {
         return false;
     }
-    print::byte(b'\n');
-    fresh::routers(n, r);
+    print::byte(rt, b'\n');
+    fresh::routers(rt, n, r);
     true
 }
 
 // What the tables of an accepted call hold: the way from router 0 to the last, in how many cells that belong to no
 // link a new metric stands, and a checksum of each table.
 fn filled(
+    rt: &HostRuntime,
     n: usize,
     new: &[u32; LONG_TABLE],
     old_dist: &[u32; LONG_TABLE],
@@ -68,9 +71,10 @@ fn filled(
     new_fours: &[Set; LONG_TABLE],
 ) {
     way(
-        n, old_dist, old_hops, old_fours, new_dist, new_hops, new_fours,
+        rt, n, old_dist, old_hops, old_fours, new_dist, new_hops, new_fours,
     );
     print::form(
+        rt,
         b"metrics # tables # # # # # # #\n",
         &[
             compare::beyond_links(n, &compare::wide(new), 16777215),
@@ -87,6 +91,7 @@ fn filled(
 
 // The distances, the full next-hop sets and the sets of four from router 0 to the last router, the old before the new.
 fn way(
+    rt: &HostRuntime,
     n: usize,
     old_dist: &[u32; LONG_TABLE],
     old_hops: &[Set; LONG_TABLE],
@@ -102,13 +107,14 @@ fn way(
         return;
     }
     let k = n - 1;
-    distances(k, old_dist[k], new_dist[k]);
-    print::form(b" hops # #", &[old_hops[k], new_hops[k]]);
-    print::form(b" fours # #\n", &[old_fours[k], new_fours[k]]);
+    distances(rt, k, old_dist[k], new_dist[k]);
+    print::form(rt, b" hops # #", &[old_hops[k], new_hops[k]]);
+    print::form(rt, b" fours # #\n", &[old_fours[k], new_fours[k]]);
 }
 
-fn distances(k: usize, old: u32, new: u32) {
+fn distances(rt: &HostRuntime, k: usize, old: u32, new: u32) {
     print::form(
+        rt,
         b"from 0 to # distances # #",
         &[k as u64, old as u64, new as u64],
     );
@@ -116,6 +122,7 @@ fn distances(k: usize, old: u32, new: u32) {
 
 // How many cells of each table changed.
 fn changed(
+    rt: &HostRuntime,
     new: &[u32; LONG_TABLE],
     old_dist: &[u32; LONG_TABLE],
     old_hops: &[Set; LONG_TABLE],
@@ -125,6 +132,7 @@ fn changed(
     new_fours: &[Set; LONG_TABLE],
 ) {
     print::form(
+        rt,
         b" changed # # # # # # #\n",
         &[
             compare::changed(&compare::wide(new), NEW as u64),

@@ -13,10 +13,10 @@ ghost use Rattle.streams.specs.Streams.{ReadOf};
 use area::limits::{CELLS, LARGEST, Set, UNUSED};
 use report::{REHEARSAL_ROOM, Text};
 
-fn main() {
+fn main(rt: HostRuntime) {
     // One byte more than the largest file has, so that a longer one is seen to be too long.
     let mut file = [0u8; LARGEST + 1];
-    let input = streams::read(b"rehearse", &mut file);
+    let input = streams::read(&rt, b"rehearse", &mut file);
     if input.is_failed {
         return;
     }
@@ -42,7 +42,7 @@ fn main() {
         &mut new_fours,
         &mut out,
     );
-    streams::write(b"rehearse", &out[..printed]);
+    streams::write(&rt, b"rehearse", &out[..printed]);
 }
 
 // Puts the rehearsal of the input at the start of `out`, and gives its length. The first `count` bytes of `file`

@@ -5,40 +5,40 @@ use cases::read;
 
 // With a word l33084 it is so many bytes of the largest file. Else it is what stands after the words: the number of
 // routers, links and changes, or hexadecimal.
-pub fn run(words: &[u8], said: &[u8]) {
+pub fn run(rt: &HostRuntime, words: &[u8], said: &[u8]) {
     let length = read::value(words, b'l', 0) as usize;
     if 0 < length {
-        by_rule(words, length);
+        by_rule(rt, words, length);
     } else if read::find(said, b'n') < said.len() {
-        made(words, said);
+        made(rt, words, said);
     } else {
-        written(words, said);
+        written(rt, words, said);
     }
 }
 
-fn by_rule(words: &[u8], length: usize) {
+fn by_rule(rt: &HostRuntime, words: &[u8], length: usize) {
     let mut file = [0u8; LARGEST + 1];
     largest::fill(&mut file);
-    lend(words, &file, length);
+    lend(rt, words, &file, length);
 }
 
-fn made(words: &[u8], said: &[u8]) {
+fn made(rt: &HostRuntime, words: &[u8], said: &[u8]) {
     let mut file = [0u8; LARGEST + 1];
     let length = by_words::fill(&mut file, said);
-    lend(words, &file, length);
+    lend(rt, words, &file, length);
 }
 
-fn lend(words: &[u8], file: &[u8; LARGEST + 1], length: usize) {
+fn lend(rt: &HostRuntime, words: &[u8], file: &[u8; LARGEST + 1], length: usize) {
     let all = &file[..];
     if all.len() < length {
         return;
     }
-    texts::print(words, &all[0..length]);
+    texts::print(rt, words, &all[0..length]);
 }
 
-fn written(words: &[u8], hexadecimal: &[u8]) {
+fn written(rt: &HostRuntime, words: &[u8], hexadecimal: &[u8]) {
     let mut file = [0u8; 8192];
     let unhexed = hexadecimal::unhex(hexadecimal, &mut file);
     let length = unhexed.length;
-    texts::print(words, &file[..length]);
+    texts::print(rt, words, &file[..length]);
 }

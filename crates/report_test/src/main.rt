@@ -16,33 +16,32 @@ mod texts;
 
 ghost use Rattle.std.specs.Prelude.{◌≤◌, length};
 
-use cases::{lines, print, read};
-use libc::STDIN_FILENO;
+use cases::{input, lines, print, read};
 
-fn main() {
-    let mut input = [0u8; 32768];
-    let length = io::read_full(STDIN_FILENO, &mut input);
-    run(&input[..length]);
+fn main(rt: HostRuntime) {
+    let mut text = [0u8; 32768];
+    let length = input::standard(&rt, &mut text);
+    run(&rt, &text[..length]);
 }
 
-fn run(text: &[u8]) {
+fn run(rt: &HostRuntime, text: &[u8]) {
     for at in 0..text.len() {
-        case(lines::line(text, at));
+        case(rt, lines::line(text, at));
     }
 }
 
-fn case(line: &[u8]) {
+fn case(rt: &HostRuntime, line: &[u8]) {
     if lines::is_case(line) {
-        print::text(lines::name(line));
-        print::byte(b'\n');
-        parts(lines::words(line));
+        print::text(rt, lines::name(line));
+        print::byte(rt, b'\n');
+        parts(rt, lines::words(line));
     }
 }
 
 // The words, and what says the file.
-fn parts(case: &[u8]) {
+fn parts(rt: &HostRuntime, case: &[u8]) {
     let from = end_of_words(case);
-    file::run(&case[0..from], &case[from..]);
+    file::run(rt, &case[0..from], &case[from..]);
 }
 
 // The words end with an equals sign, and there may be none.

@@ -4,25 +4,26 @@ ghost use Rattle.std.specs.Prelude.{◌<◌};
 use area::limits::{MOST_STEPS, WIDTH};
 use cases::{lines, print};
 
-pub fn print(text: &[u8]) {
+pub fn print(rt: &HostRuntime, text: &[u8]) {
     if text.len() < 10000 {
-        print::text(text);
+        print::text(rt, text);
     } else {
-        short(text);
+        short(rt, text);
     }
 }
 
 // The rehearsal of most routers and most steps has a line for each, `needs` between them, and an end: the lines of the
 // routers, `needs`, two steps, and the last three lines.
-fn short(text: &[u8]) {
+fn short(rt: &HostRuntime, text: &[u8]) {
     print::form(
+        rt,
         b"length #\nchecksum #\n",
         &[text.len() as u64, checksum(text)],
     );
     let first = lines::start(text, WIDTH + 3);
     let last = lines::start(text, WIDTH + MOST_STEPS - 1);
-    print::text(&text[0..first]);
-    print::text(&text[last..]);
+    print::text(rt, &text[0..first]);
+    print::text(rt, &text[last..]);
 }
 
 // A sum of all bytes that depends on their order.

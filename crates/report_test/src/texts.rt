@@ -7,23 +7,23 @@ use cases::{LONG_TABLE, print, read};
 use report::{ROUTES_ROOM, Text};
 
 // Prints the text that the words say, or with the letter b whether the file is taken for a text.
-pub fn print(words: &[u8], file: &[u8]) {
+pub fn print(rt: &HostRuntime, words: &[u8], file: &[u8]) {
     if !has(words, b'b') {
-        of_file(words, file);
+        of_file(rt, words, file);
     } else if hexadecimal::is_text(file) {
-        print::text(b"text\n");
+        print::text(rt, b"text\n");
     } else {
-        print::text(b"binary\n");
+        print::text(rt, b"binary\n");
     }
 }
 
 // No text has more bytes than the routes. One that may be cut is printed with a line end after it.
-fn of_file(words: &[u8], file: &[u8]) {
+fn of_file(rt: &HostRuntime, words: &[u8], file: &[u8]) {
     let mut out = [0u8; ROUTES_ROOM];
     let length = text(words, file, &mut out);
-    summary::print(&out[..length]);
+    summary::print(rt, &out[..length]);
     if has(words, b'o') {
-        print::byte(b'\n');
+        print::byte(rt, b'\n');
     }
 }
 

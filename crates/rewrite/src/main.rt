@@ -11,16 +11,16 @@ ghost use Rattle.streams.specs.Streams.{ReadOf};
 
 use area::limits::LARGEST;
 
-fn main() {
+fn main(rt: HostRuntime) {
     // One byte more than the largest file has, so that a longer one is seen to be too long.
     let mut file = [0u8; LARGEST + 1];
     let mut out = [0u8; LARGEST];
-    let input = streams::read(b"rewrite", &mut file);
+    let input = streams::read(&rt, b"rewrite", &mut file);
     if input.is_failed {
         return;
     }
     let length = whole(&file, input.length, &mut out);
-    streams::write(b"rewrite", &out[..length]);
+    streams::write(&rt, b"rewrite", &out[..length]);
 }
 
 // Puts all that is written for the input at the start of `out`, and gives its length. The first `count` bytes of `file`

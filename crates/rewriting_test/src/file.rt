@@ -3,19 +3,19 @@ use crate::{large, output};
 use cases::read;
 
 // The words `half` and `full` stand for files by a rule: no digit of a file is an h or an l.
-pub fn run(words: &[u8]) {
+pub fn run(rt: &HostRuntime, words: &[u8]) {
     if read::find(words, b'h') < words.len() {
-        large::half();
+        large::half(rt);
     } else if read::find(words, b'l') < words.len() {
-        large::full();
+        large::full(rt);
     } else {
-        written(words);
+        written(rt, words);
     }
 }
 
-fn written(hexadecimal: &[u8]) {
+fn written(rt: &HostRuntime, hexadecimal: &[u8]) {
     let mut file = [0u8; 1024];
     let unhexed = hexadecimal::unhex(hexadecimal, &mut file);
     let length = unhexed.length;
-    output::print(&file[..length]);
+    output::print(rt, &file[..length]);
 }

@@ -30,7 +30,7 @@ struct Shape {
     times: usize,
 }
 
-pub fn half() {
+pub fn half(rt: &HostRuntime) {
     let stored = Shape {
         links: LINKS,
         odd: false,
@@ -47,10 +47,10 @@ pub fn half() {
         steps: 0,
         times: 4,
     };
-    compare(stored, expected);
+    compare(rt, stored, expected);
 }
 
-pub fn full() {
+pub fn full(rt: &HostRuntime) {
     let stored = Shape {
         links: LINKS,
         odd: false,
@@ -67,10 +67,10 @@ pub fn full() {
         steps: MOST_STEPS,
         times: 4,
     };
-    compare(stored, expected);
+    compare(rt, stored, expected);
 }
 
-fn compare(stored: Shape, expected: Shape)
+fn compare(rt: &HostRuntime, stored: Shape, expected: Shape)
     requires links_bound { (stored.links ≤ width * (width - 1)) × (stored.changes ≤ most_changes) }
     requires steps_le_most_steps { (stored.steps ≤ most_steps) × (stored.times ≤ 4) }
     requires links_bound_2 { (expected.links ≤ width * (width - 1)) × (expected.changes ≤ most_changes) }
@@ -80,29 +80,30 @@ fn compare(stored: Shape, expected: Shape)
     let mut wanted = [0u8; ROOM];
     fill(&mut file, stored);
     fill(&mut wanted, expected);
-    lend(&file, length(stored), &wanted, length(expected));
+    lend(rt, &file, length(stored), &wanted, length(expected));
 }
 
 // Lends as many bytes as each file has.
-fn lend(file: &[u8; ROOM], size: usize, wanted: &[u8; ROOM], wanted_size: usize)
+fn lend(rt: &HostRuntime, file: &[u8; ROOM], size: usize, wanted: &[u8; ROOM], wanted_size: usize)
     requires { (size ≤ 33088) × (wanted_size ≤ 33088) }
 {
     let stored = &file[..];
     let expected = &wanted[..];
-    rewrite(&stored[0..size], &expected[0..wanted_size]);
+    rewrite(rt, &stored[0..size], &expected[0..wanted_size]);
 }
 
 // Prints the length of the stored file and of what is written for it, and how many bytes of this are not those of the
 // file that is expected. Then that is rewritten again.
-fn rewrite(stored: &[u8], expected: &[u8]) {
+fn rewrite(rt: &HostRuntime, stored: &[u8], expected: &[u8]) {
     let mut out = [0u8; ROOM];
     let written = rewriting::rewrite(stored, &mut out);
     let others = differing(&out[..written], expected);
     print::form(
+        rt,
         b"from # length # differing #\n",
         &[stored.len() as u64, written as u64, others],
     );
-    output::again(&out[..written]);
+    output::again(rt, &out[..written]);
 }
 
 fn length(s: Shape) -> usize

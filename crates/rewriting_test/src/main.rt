@@ -10,25 +10,24 @@ mod file;
 mod large;
 mod output;
 
-use cases::{lines, print};
-use libc::STDIN_FILENO;
+use cases::{input, lines, print};
 
-fn main() {
-    let mut input = [0u8; 8192];
-    let length = io::read_full(STDIN_FILENO, &mut input);
-    run(&input[..length]);
+fn main(rt: HostRuntime) {
+    let mut text = [0u8; 8192];
+    let length = input::standard(&rt, &mut text);
+    run(&rt, &text[..length]);
 }
 
-fn run(text: &[u8]) {
+fn run(rt: &HostRuntime, text: &[u8]) {
     for at in 0..text.len() {
-        case(lines::line(text, at));
+        case(rt, lines::line(text, at));
     }
 }
 
-fn case(line: &[u8]) {
+fn case(rt: &HostRuntime, line: &[u8]) {
     if lines::is_case(line) {
-        print::text(lines::name(line));
-        print::byte(b'\n');
-        file::run(lines::words(line));
+        print::text(rt, lines::name(line));
+        print::byte(rt, b'\n');
+        file::run(rt, lines::words(line));
     }
 }

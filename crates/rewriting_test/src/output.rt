@@ -2,29 +2,29 @@
 use cases::print;
 
 // What is written for the file; and where that is a file, what is written for this one.
-pub fn print(file: &[u8]) {
+pub fn print(rt: &HostRuntime, file: &[u8]) {
     let mut out = [0u8; 1024];
     let length = rewriting::rewrite(file, &mut out);
-    show(&out[..length]);
+    show(rt, &out[..length]);
     if !is_line(&out[..length]) {
-        again(&out[..length]);
+        again(rt, &out[..length]);
     }
 }
 
 // What is written for a file that has been rewritten.
-pub fn again(file: &[u8]) {
+pub fn again(rt: &HostRuntime, file: &[u8]) {
     let mut out = [0u8; 1024];
     let length = rewriting::rewrite(file, &mut out);
-    print::text(b"again ");
-    show(&out[..length]);
+    print::text(rt, b"again ");
+    show(rt, &out[..length]);
 }
 
-fn show(written: &[u8]) {
+fn show(rt: &HostRuntime, written: &[u8]) {
     if is_line(written) {
-        print::text(written);
+        print::text(rt, written);
     } else {
-        hexadecimal(written);
-        print::byte(b'\n');
+        hexadecimal(rt, written);
+        print::byte(rt, b'\n');
     }
 }
 
@@ -33,10 +33,10 @@ fn is_line(written: &[u8]) -> bool {
     0 < written.len() && written[0] == b'r'
 }
 
-fn hexadecimal(bytes: &[u8]) {
+fn hexadecimal(rt: &HostRuntime, bytes: &[u8]) {
     for at in 0..bytes.len() {
-        print::byte(digit(bytes[at] / 16));
-        print::byte(digit(bytes[at] % 16));
+        print::byte(rt, digit(bytes[at] / 16));
+        print::byte(rt, digit(bytes[at] % 16));
     }
 }
 

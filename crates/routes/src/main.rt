@@ -14,10 +14,10 @@ ghost use Rattle.streams.specs.Streams.{ReadOf};
 use area::limits::{CELLS, LARGEST, Set, UNUSED};
 use report::{ROUTES_ROOM, Text};
 
-fn main() {
+fn main(rt: HostRuntime) {
     // One byte more than the largest file has, so that a longer one is seen to be too long.
     let mut file = [0u8; LARGEST + 1];
-    let input = streams::read(b"routes", &mut file);
+    let input = streams::read(&rt, b"routes", &mut file);
     if input.is_failed {
         return;
     }
@@ -43,7 +43,7 @@ fn main() {
         &mut new_fours,
         &mut out,
     );
-    streams::write(b"routes", &out[..printed]);
+    streams::write(&rt, b"routes", &out[..printed]);
 }
 
 // Puts the routes of the input at the start of `out`, and gives its length. The first `count` bytes of `file`

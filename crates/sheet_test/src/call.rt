@@ -23,36 +23,42 @@ pub const NEW_SET: Set = 8888888888888888886;
 pub const NEW_FOUR: Set = 8888888888888888887;
 
 // The sheet of a record made by hand where a word says how many routers it has, and else that of a change.
-pub(crate) fn run(words: &[u8]) {
+pub(crate) fn run(rt: &HostRuntime, words: &[u8]) {
     let n = read::value(words, b'i', 256);
     if n < 256 {
-        show::routers(n as usize, in_turn(by_hand::record(n as u8, words)));
+        show::routers(rt, n as usize, in_turn(by_hand::record(n as u8, words)));
     } else {
-        of_change(words);
+        of_change(rt, words);
     }
 }
 
 // The old table and the change list of a case. Every byte that is not of a change is 255, so that an entry there has a
 // router that is unknown.
-fn of_change(words: &[u8]) {
+fn of_change(rt: &HostRuntime, words: &[u8]) {
     let mut old = [0; LONG_TABLE];
     let mut list = [255; LONG_LIST];
     metrics::fill(&mut old, words);
     let bytes = lists::fill(&mut list, words);
-    parts(words, &old, &list, bytes);
+    parts(rt, words, &old, &list, bytes);
 }
 
-fn parts(words: &[u8], old: &[u32; LONG_TABLE], list: &[u8; LONG_LIST], bytes: usize)
+fn parts(
+    rt: &HostRuntime,
+    words: &[u8],
+    old: &[u32; LONG_TABLE],
+    list: &[u8; LONG_LIST],
+    bytes: usize,
+)
     requires { bytes ≤ 5 * (most_changes + 2) }
 {
     let table = &old[..];
     let changes = &list[..];
     let cells = read::size(words, 0, table.len());
-    lend(words, &table[0..cells], &changes[0..bytes]);
+    lend(rt, words, &table[0..cells], &changes[0..bytes]);
 }
 
 // A call with tables of which some cells are lent.
-fn lend(words: &[u8], old: &[u32], list: &[u8]) {
+fn lend(rt: &HostRuntime, words: &[u8], old: &[u32], list: &[u8]) {
     let mut new = [NEW; LONG_TABLE];
     let mut old_dist = [OLD_DISTANCE; LONG_TABLE];
     let mut old_hops = [OLD_SET; LONG_TABLE];
@@ -75,9 +81,9 @@ fn lend(words: &[u8], old: &[u32], list: &[u8]) {
         &mut new_fours,
     );
     show::changed(
-        &new, &old_dist, &old_hops, &old_fours, &new_dist, &new_hops, &new_fours,
+        rt, &new, &old_dist, &old_hops, &old_fours, &new_dist, &new_hops, &new_fours,
     );
-    show::sheet(n, s);
+    show::sheet(rt, n, s);
 }
 
 // Lends the first cells of longer tables, so that a table can be one cell too short or too long.

@@ -9,6 +9,7 @@ use sheet::RunningSheet;
 
 // How many cells of each table changed.
 pub(crate) fn changed(
+    rt: &HostRuntime,
     new: &[u32; LONG_TABLE],
     old_dist: &[u32; LONG_TABLE],
     old_hops: &[Set; LONG_TABLE],
@@ -18,6 +19,7 @@ pub(crate) fn changed(
     new_fours: &[Set; LONG_TABLE],
 ) {
     print::form(
+        rt,
         b" changed # # # # # # #",
         &[
             compare::changed(&compare::wide(new), NEW as u64),
@@ -32,37 +34,37 @@ pub(crate) fn changed(
 }
 
 // The number of the answer and the routers, which are none where it is a refusal.
-pub(crate) fn sheet(n: usize, s: RunningSheet) {
+pub(crate) fn sheet(rt: &HostRuntime, n: usize, s: RunningSheet) {
     let answer = s.answer;
     let listed = s.routers;
-    print::form(b" answer #", &[answer.number() as u64]);
+    print::form(rt, b" answer #", &[answer.number() as u64]);
     if answer.number() == 0 {
-        routers(n, listed);
+        routers(rt, n, listed);
     } else {
-        routers(0, listed);
+        routers(rt, 0, listed);
     }
 }
 
 // The routers of n places, and how many of the other places are 0. There are WIDTH places, so that of a larger n none
 // is shown.
-pub(crate) fn routers(n: usize, listed: [u8; WIDTH]) {
+pub(crate) fn routers(rt: &HostRuntime, n: usize, listed: [u8; WIDTH]) {
     let shown = if n <= WIDTH { n } else { 0 };
-    print::text(b" sheet");
-    places(shown, listed);
-    print::form(b" zeros #\n", &[zeros(shown, listed)]);
+    print::text(rt, b" sheet");
+    places(rt, shown, listed);
+    print::form(rt, b" zeros #\n", &[zeros(shown, listed)]);
 }
 
-fn places(shown: usize, listed: [u8; WIDTH]) {
+fn places(rt: &HostRuntime, shown: usize, listed: [u8; WIDTH]) {
     for k in 0..WIDTH {
-        place(shown, listed, k);
+        place(rt, shown, listed, k);
     }
 }
 
-fn place(shown: usize, listed: [u8; WIDTH], k: usize)
+fn place(rt: &HostRuntime, shown: usize, listed: [u8; WIDTH], k: usize)
     requires { k < width }
 {
     if k < shown {
-        print::form(b" #", &[listed[k] as u64]);
+        print::form(rt, b" #", &[listed[k] as u64]);
     }
 }
 

@@ -22,38 +22,37 @@ mod show;
 mod table;
 mod taking;
 
-use cases::{lines, print};
-use libc::STDIN_FILENO;
+use cases::{input, lines, print};
 use plan::Record;
 
-fn main() {
-    let mut input = [0u8; 32768];
-    let length = io::read_full(STDIN_FILENO, &mut input);
-    run(&input[..length]);
-    table::show();
+fn main(rt: HostRuntime) {
+    let mut text = [0u8; 32768];
+    let length = input::standard(&rt, &mut text);
+    run(&rt, &text[..length]);
+    table::show(&rt);
 }
 
-fn run(text: &[u8]) {
+fn run(rt: &HostRuntime, text: &[u8]) {
     let mut left = records::blank(0, 0, 0);
     for at in 0..text.len() {
-        left = case(left, lines::line(text, at));
+        left = case(rt, left, lines::line(text, at));
     }
 }
 
 // A case may go on from the record that the one before has left. Gives the record that it leaves itself.
-fn case(left: Record, line: &[u8]) -> Record {
+fn case(rt: &HostRuntime, left: Record, line: &[u8]) -> Record {
     if !lines::is_case(line) {
         return left;
     }
-    print::text(lines::name(line));
-    print::byte(b':');
-    parts(left, lines::words(line))
+    print::text(rt, lines::name(line));
+    print::byte(rt, b':');
+    parts(rt, left, lines::words(line))
 }
 
 // The words of the record, and after a colon those of the steps.
-fn parts(left: Record, words: &[u8]) -> Record {
+fn parts(rt: &HostRuntime, left: Record, words: &[u8]) -> Record {
     let first = records::with_words(left, lines::name(words));
-    let last = taking::steps(first, lines::words(words));
-    pointers::show(last, lines::name(words));
+    let last = taking::steps(rt, first, lines::words(words));
+    pointers::show(rt, last, lines::name(words));
     last
 }

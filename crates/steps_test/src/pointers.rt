@@ -9,56 +9,69 @@ use cases::{print, read};
 use plan::Record;
 
 // A line for the destination of the word g, if there is one: each router with its next hops, as 0>1.
-pub(crate) fn show(last: Record, words: &[u8]) {
+pub(crate) fn show(rt: &HostRuntime, last: Record, words: &[u8]) {
     let d = read::value(words, b'g', 256) as usize;
     if d < WIDTH {
-        to(last, words, d);
+        to(rt, last, words, d);
     }
 }
 
-fn to(last: Record, words: &[u8], d: usize)
+fn to(rt: &HostRuntime, last: Record, words: &[u8], d: usize)
     requires { d < width }
 {
     let mut old_fours = [0; CELLS];
     let mut new_fours = [0; CELLS];
     planning::planned(words, &mut old_fours, &mut new_fours);
-    print::form(b"packets to # go", &[d as u64]);
+    print::form(rt, b"packets to # go", &[d as u64]);
     let written = last.written;
-    routers(written, &old_fours, &new_fours, d);
-    print::byte(b'\n');
+    routers(rt, written, &old_fours, &new_fours, d);
+    print::byte(rt, b'\n');
 }
 
-fn routers(written: [Set; WIDTH], old_fours: &[Set; CELLS], new_fours: &[Set; CELLS], d: usize)
+fn routers(
+    rt: &HostRuntime,
+    written: [Set; WIDTH],
+    old_fours: &[Set; CELLS],
+    new_fours: &[Set; CELLS],
+    d: usize,
+)
     requires { d < width }
 {
     for r in 0..WIDTH {
-        router(r, written[r], old_fours, new_fours, d);
+        router(rt, r, written[r], old_fours, new_fours, d);
     }
 }
 
-fn router(r: usize, written: Set, old_fours: &[Set; CELLS], new_fours: &[Set; CELLS], d: usize)
+fn router(
+    rt: &HostRuntime,
+    r: usize,
+    written: Set,
+    old_fours: &[Set; CELLS],
+    new_fours: &[Set; CELLS],
+    d: usize,
+)
     requires { (r < width) × (d < width) }
 {
     let at = WIDTH * r + d;
     if has(written, d) {
-        hops(r, new_fours[at]);
+        hops(rt, r, new_fours[at]);
     } else {
-        hops(r, old_fours[at]);
+        hops(rt, r, old_fours[at]);
     }
 }
 
 // The next hops of one router.
-fn hops(r: usize, four: Set) {
+fn hops(rt: &HostRuntime, r: usize, four: Set) {
     for k in 0..WIDTH {
-        hop(r, four, k);
+        hop(rt, r, four, k);
     }
 }
 
-fn hop(r: usize, four: Set, k: usize)
+fn hop(rt: &HostRuntime, r: usize, four: Set, k: usize)
     requires { k < width }
 {
     if has(four, k) {
-        print::form(b" #>#", &[r as u64, k as u64]);
+        print::form(rt, b" #>#", &[r as u64, k as u64]);
     }
 }
 

@@ -6,37 +6,37 @@ use machine::states::{Event, NextState};
 use machine::{DONE, FINISH, HOLDING, IDLE, LEARN, ONGOING, RELEASE, WRITE, states};
 use plan::Record;
 
-pub(crate) fn show() {
-    line(IDLE);
-    line(HOLDING);
-    line(ONGOING);
-    line(DONE);
-    line(4);
-    line(255);
+pub(crate) fn show(rt: &HostRuntime) {
+    line(rt, IDLE);
+    line(rt, HOLDING);
+    line(rt, ONGOING);
+    line(rt, DONE);
+    line(rt, 4);
+    line(rt, 255);
 }
 
-fn line(number: u8) {
-    print::text(b"from ");
-    state(number);
-    print::byte(b':');
-    cell(number, LEARN);
-    cell(number, RELEASE);
-    cell(number, WRITE);
-    cell(number, FINISH);
-    print::byte(b'\n');
+fn line(rt: &HostRuntime, number: u8) {
+    print::text(rt, b"from ");
+    state(rt, number);
+    print::byte(rt, b':');
+    cell(rt, number, LEARN);
+    cell(rt, number, RELEASE);
+    cell(rt, number, WRITE);
+    cell(rt, number, FINISH);
+    print::byte(rt, b'\n');
 }
 
 // The call of a kind at router 0, which is in the state of this number.
-fn cell(number: u8, kind: u8) {
-    event(kind);
-    next(states::named(number).after(event_of(kind)));
+fn cell(rt: &HostRuntime, number: u8, kind: u8) {
+    event(rt, kind);
+    next(rt, states::named(number).after(event_of(kind)));
     let stepped = others::method(ready(number, kind), kind, 0, 1);
     let answer = stepped.answer;
     let back = stepped.next;
-    print::text(b", ");
-    show::outcome(call::number(answer));
-    print::byte(b' ');
-    state(back.states[0]);
+    print::text(rt, b", ");
+    show::outcome(rt, call::number(answer));
+    print::byte(rt, b' ');
+    state(rt, back.states[0]);
 }
 
 // A record in which nothing but the state of router 0 can be in the way: destination 1 is due where it is to be
@@ -59,28 +59,28 @@ fn event_of(kind: u8) -> Event {
     }
 }
 
-fn event(kind: u8) {
+fn event(rt: &HostRuntime, kind: u8) {
     match kind {
-        LEARN => print::text(b" learn "),
-        RELEASE => print::text(b"; release "),
-        WRITE => print::text(b"; write "),
-        _ => print::text(b"; finish "),
+        LEARN => print::text(rt, b" learn "),
+        RELEASE => print::text(rt, b"; release "),
+        WRITE => print::text(rt, b"; write "),
+        _ => print::text(rt, b"; finish "),
     }
 }
 
-fn next(found: NextState) {
+fn next(rt: &HostRuntime, found: NextState) {
     match found {
-        NextState::To(to) => state(to.number()),
-        NextState::Nowhere => print::text(b"none"),
+        NextState::To(to) => state(rt, to.number()),
+        NextState::Nowhere => print::text(rt, b"none"),
     }
 }
 
-fn state(number: u8) {
+fn state(rt: &HostRuntime, number: u8) {
     match number {
-        IDLE => print::text(b"idle"),
-        HOLDING => print::text(b"holding"),
-        ONGOING => print::text(b"ongoing"),
-        DONE => print::text(b"done"),
-        _ => print::number(number as u64),
+        IDLE => print::text(rt, b"idle"),
+        HOLDING => print::text(rt, b"holding"),
+        ONGOING => print::text(rt, b"ongoing"),
+        DONE => print::text(rt, b"done"),
+        _ => print::number(rt, number as u64),
     }
 }

@@ -7,7 +7,7 @@ use plan::Record;
 use steps::Machine;
 
 // Takes the steps one by one, and then all at once from their bytes. Gives the last record.
-pub(crate) fn steps(first: Record, words: &[u8]) -> Record {
+pub(crate) fn steps(rt: &HostRuntime, first: Record, words: &[u8]) -> Record {
     let mut now = first;
     let mut differing = 0;
     let mut bytes = [1; 194];
@@ -16,10 +16,11 @@ pub(crate) fn steps(first: Record, words: &[u8]) -> Record {
         // No line is long enough for this sum to wrap.
         differing = std::num::wrapping_add_u64(differing, others::differing(now, words, k));
         end = call::put(&mut bytes, end, words, k);
-        now = step(now, words, k);
+        now = step(rt, now, words, k);
     }
-    show::clock(now.clock);
+    show::clock(rt, now.clock);
     show::routers(
+        rt,
         now.n,
         &now.states,
         &now.waiting,
@@ -27,13 +28,13 @@ pub(crate) fn steps(first: Record, words: &[u8]) -> Record {
         &now.written,
         &now.learn_times,
     );
-    print::form(b"; methods # run", &[differing]);
-    again(first, now, &bytes, end);
+    print::form(rt, b"; methods # run", &[differing]);
+    again(rt, first, now, &bytes, end);
     now
 }
 
 // The step that begins with number k, if there is one.
-fn step(now: Record, words: &[u8], k: usize) -> Record
+fn step(rt: &HostRuntime, now: Record, words: &[u8], k: usize) -> Record
     requires { k < 200 }
 {
     if !call::is_step(words, k) {
@@ -42,14 +43,14 @@ fn step(now: Record, words: &[u8], k: usize) -> Record
     let stepped = Machine { now }.step(call::kind(words, k), call::a(words, k), call::b(words, k));
     let next = stepped.next;
     let answer = stepped.answer;
-    show::step(words, k);
-    show::answer(call::number(answer), compare::records(now, next));
+    show::step(rt, words, k);
+    show::answer(rt, call::number(answer), compare::records(now, next));
     next
 }
 
 // In how many entries the last record differs where the steps are taken from their bytes, and from these and one or two
 // more, which would begin a learn of router 1.
-fn again(first: Record, last: Record, bytes: &[u8; 194], end: usize)
+fn again(rt: &HostRuntime, first: Record, last: Record, bytes: &[u8; 194], end: usize)
     requires { end ≤ 192 }
 {
     let all = &bytes[..];
@@ -58,5 +59,5 @@ fn again(first: Record, last: Record, bytes: &[u8; 194], end: usize)
     let exact = compare::records(last, steps::run(first, &all[0..end]));
     let one = compare::records(last, steps::run(first, &all[0..one_more]));
     let two = compare::records(last, steps::run(first, &all[0..two_more]));
-    print::form(b" # # #\n", &[exact, one, two]);
+    print::form(rt, b" # # #\n", &[exact, one, two]);
 }

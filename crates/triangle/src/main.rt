@@ -3,12 +3,11 @@
 #![tactic(auto)]
 
 use area::limits::{CELLS, Set, UNUSED, WIDTH};
-use libc::STDOUT_FILENO;
 use machine::{Answer, LEARN};
 use plan::Planned;
 use steps::{Machine, Stepped};
 
-fn main() {
+fn main(rt: HostRuntime) {
     let mut new = [0u32; CELLS];
     let mut old_dist = [0u32; CELLS];
     let mut old_hops: [Set; CELLS] = [0; CELLS];
@@ -38,42 +37,42 @@ fn main() {
         &mut new_hops,
         &mut new_fours,
     );
-    let fresh = print_plan(planned);
-    let learned = print_step(fresh.learn(1));
-    let released = print_step(learned.release(1));
-    let refused = print_step(released.write(1, 2)); // router 1 still waits for 0 and 2
-    print_step(in_place::applied(refused.now, LEARN, 0, 0)); // by its kind, on a record by value
+    let fresh = print_plan(&rt, planned);
+    let learned = print_step(&rt, fresh.learn(1));
+    let released = print_step(&rt, learned.release(1));
+    let refused = print_step(&rt, released.write(1, 2)); // router 1 still waits for 0 and 2
+    print_step(&rt, in_place::applied(refused.now, LEARN, 0, 0)); // by its kind, on a record by value
 }
 
 // Prints the answer and the ranks, and gives the machine over the record.
-fn print_plan(planned: Planned) -> Machine {
+fn print_plan(rt: &HostRuntime, planned: Planned) -> Machine {
     let answer = planned.answer;
     let now = planned.record;
-    print_number(b"plan ", answer.number());
-    print_number(b"rank ", now.ranks[0]);
-    print_number(b"rank ", now.ranks[1]);
-    print_number(b"rank ", now.ranks[2]);
+    print_number(rt, b"plan ", answer.number());
+    print_number(rt, b"rank ", now.ranks[0]);
+    print_number(rt, b"rank ", now.ranks[1]);
+    print_number(rt, b"rank ", now.ranks[2]);
     Machine { now }
 }
 
 // Prints the answer, and gives the machine over the record that the step hands back.
-fn print_step(stepped: Stepped) -> Machine {
+fn print_step(rt: &HostRuntime, stepped: Stepped) -> Machine {
     let answer = stepped.answer;
     let now = stepped.next;
     match answer {
-        Answer::Ok => print(b"ok\n"),
-        Answer::Ignored => print(b"ignored\n"),
-        Answer::Refused(why) => print_number(b"refused ", why.number()),
+        Answer::Ok => print(rt, b"ok\n"),
+        Answer::Ignored => print(rt, b"ignored\n"),
+        Answer::Refused(why) => print_number(rt, b"refused ", why.number()),
     }
     Machine { now }
 }
 
-fn print_number(word: &[u8], number: u8) {
-    print(word);
-    io::print_decimal(STDOUT_FILENO, number as u64);
-    print(b"\n");
+fn print_number(rt: &HostRuntime, word: &[u8], number: u8) {
+    print(rt, word);
+    let _ = rt.print(number);
+    print(rt, b"\n");
 }
 
-fn print(text: &[u8]) {
-    io::write_all(STDOUT_FILENO, text);
+fn print(rt: &HostRuntime, text: &[u8]) {
+    let _ = rt.write_all(text);
 }

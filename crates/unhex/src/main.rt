@@ -11,20 +11,20 @@ ghost use Rattle.unhex.specs.Unhex.{written, is_error};
 
 use hexadecimal::{MOST, Unhexed};
 
-fn main() {
+fn main(rt: HostRuntime) {
     // One byte more than a text may have, so that a longer one is seen to be too long.
     let mut buffer = [0u8; MOST + 1];
     let mut out = [0u8; MOST + 1];
-    let input = streams::read(b"unhex", &mut buffer);
+    let input = streams::read(&rt, b"unhex", &mut buffer);
     if input.is_failed {
         return;
     }
     let output = whole(&buffer, input.length, &mut out);
     let length = output.length;
     if output.is_faulty {
-        streams::error(b"unhex", &out[..length]);
+        streams::error(&rt, b"unhex", &out[..length]);
     } else {
-        streams::write(b"unhex", &out[..length]);
+        streams::write(&rt, b"unhex", &out[..length]);
     }
 }
 
