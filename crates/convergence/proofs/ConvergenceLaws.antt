@@ -2,15 +2,13 @@
 -- router, the root, and routers write their new sets in order. Then, whichever routers have written, the pointers are
 -- `Safe`: `rise` for a rise, `fall` for a fall. Each says which routers are barred (Separation.antt), and the rest is
 -- NoLoop.antt and Arrival.antt.
-use Rattle.std.specs.Prelude.{ℕ, ◌-◌, ◌<◌, ◌≡◌, refl, Bool, true, false, ◌≢◌, ◌⊎◌, List}
+use Rattle.std.specs.Prelude.{ℕ, ◌<◌, ◌≡◌, refl, Bool, true, false, ◌≢◌, ◌⊎◌}
 use Rattle.std.proofs.Common.{◌∙◌, inl, inr, ⊎_elim}
 use Rattle.std.proofs.Math.Decide.{ℕ_discrete}
-use Rattle.area.specs.Limits.{unreached}
 use Rattle.area.proofs.TestLaws.{look}
 use Rattle.topology.specs.Topology.{Topology}
-use Rattle.topology.specs.Distance.{distance}
 use Rattle.topology.specs.NextHops.{Next}
-use Rattle.convergence.specs.Pointers.{Pointers, pointers, Along, NoRouterTwice, Prolonged}
+use Rattle.convergence.specs.Pointers.{Pointers, pointers}
 use Rattle.convergence.specs.Change.{Change, Sets, Ordered, WaitsRise, WaitsFall}
 use Rattle.convergence.proofs.Separation.{Moment}
 use Rattle.convergence.proofs.NoLoop.{no_router_twice}

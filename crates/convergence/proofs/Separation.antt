@@ -25,7 +25,7 @@ use Rattle.convergence.proofs.ThroughRoot.{Through, toward_root, same_next}
 
 -- Each router points to its set in lo or to its set in hi. A barred router does not point by lo alone. A router is
 -- barred if one of its next hops to the root points by hi alone, or is barred. Which routers are barred is said in
--- Convergence.antt: in a rise those that are done, in a fall those that are not done and have not written.
+-- ConvergenceLaws.antt: in a rise those that are done, in a fall those that are not done and have not written.
 pub record Moment (n c d : ℕ) (lo hi : Topology) (at-lo at-hi p : Pointers) : Type 1 where
   pub change : Change n c lo hi
   pub sets : Sets n d lo hi at-lo at-hi

@@ -249,6 +249,9 @@ module _ (n : ℕ) (x : Entry) where
       by_tests (yes i) (yes j) (no a) (yes b) = never bad_metric (omega arith) (faulty_metric i j a b)
       by_tests (yes i) (yes j) (no a) (no b) = record { from_in = i; to_in = j; apart = a; some = b }
 
+-- the refusal of an entry by itself, by the tests that lead to it
+pub ruleset faults = (faulty_from, faulty_to, faulty_self, faulty_metric, faultless)
+
 -- ---- the refusals of an entry of a list
 module _ (n : ℕ) (l : List ℕ) (e : ℕ) where
   pub listed_faulty : entry_refusal n (entry_of l e) ≢ 0 → listed_refusal n l e ≡ entry_refusal n (entry_of l e)

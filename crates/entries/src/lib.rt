@@ -51,7 +51,7 @@ pub fn decode(list: &[u8], e: usize) -> Entry
 }
 
 // The refusal of an entry by itself, in an area of n routers.
-#[tactic(auto, using(crate::proofs::EntryLaws::faulty_from, crate::proofs::EntryLaws::faulty_to, crate::proofs::EntryLaws::faulty_self, crate::proofs::EntryLaws::faulty_metric, crate::proofs::EntryLaws::faultless))]
+#[tactic(auto, using(crate::proofs::EntryLaws::faults))]
 pub fn check(n: usize, entry: Entry) -> Verdict
     ensures answer { verdict_number result ≡ entry_refusal n entry }
 {

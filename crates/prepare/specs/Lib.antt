@@ -1,2 +1,2 @@
--- A bench file before its first step. First the definitions; then the laws about them.
+-- A bench file before its first step. The laws about it are in proofs/
 pub mod Bench

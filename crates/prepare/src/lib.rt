@@ -2,7 +2,7 @@
 //     prepare      Read, and then Plan on what Read gives
 //     changes      the part of the file that Plan gets
 //     started      both answers put together; `first` takes the first refusal of the two
-// What it promises is specs/Bench.antt; that Plan gets what the file says is specs/BenchLaws.antt.
+// What it promises is specs/Bench.antt; that Plan gets what the file says is proofs/BenchLaws.antt.
 #![tactic(auto)]
 
 ghost use Rattle.std.specs.Prelude.{◌≡◌, ◌+◌, ◌*◌, ◌≤◌, length};

@@ -47,7 +47,8 @@ module _ (l : List ℕ) (p : ℕ) where
         pub item_long : 244 < k → Refused LongSubTlvs ≡ item_at l p
         unfolding item_at
         item_long s =
-            rw (lt-leb (length l) p h, le-ltb (length l) (end_of l p) fits, lt-ltb 244 (sub_tlvs l p) (omega arith)) refl
+            rw (lt-leb (length l) p h, le-ltb (length l) (end_of l p) fits, lt-ltb 244 (sub_tlvs l p) (omega arith))
+            refl
 
         pub item_entry :
             k ≤ 244
@@ -172,7 +173,8 @@ part_told : (l : List ℕ) (p : ℕ) (m : List ℕ) (q k : ℕ)
     → (j : ℕ) → j < k → get_or l (p + j) 0 ≡ get_or m (q + j) 0
 part_told l p m q zero a b e j h = absurd (not-suc-le-zero h)
 part_told l p m q (suc k) a b e j h =
-    let last = byte_same (part l p k) (part m q k) (get_or l (p + k) 0) (get_or m (q + k) 0) (a (p + k)) (b (q + k)) e in
+    let last =
+    byte_same (part l p k) (part m q k) (get_or l (p + k) 0) (get_or m (q + k) 0) (a (p + k)) (b (q + k)) e in
     ⊎_elim
     (λ (s : j ≡ k). rw s last.1)
     (λ (s : j < k). part_told l p m q k a b last.0 j s)

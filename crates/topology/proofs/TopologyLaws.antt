@@ -1,4 +1,5 @@
--- What the topology of a metric table has of a graph, and how two of them compare. It follows from what `is_link` tests.
+-- What the topology of a metric table has of a graph, and how two of them compare. It follows from what
+-- `is_link` tests.
 --     Link             what a used link is
 --     used_true, true_used     the metrics that it can have
 --     link_back        it is used in both directions
