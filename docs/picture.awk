@@ -83,7 +83,7 @@ BEGIN {
     at("report", 1, 1, "the text for a file", "is one definition")
     at("rewriting", 1, 2, "stored files without", "their dead links")
     at("text", 1, 3, "words and numbers", "in a lent buffer")
-    at("hex", 1, 4, "hexadecimal", "to bytes")
+    at("hexadecimal", 1, 4, "hexadecimal", "to bytes")
     at("tlv", 2, 0, "entries of TLV 22,", "one after another")
     at("isis", 2, 1, "areas from IS-IS", "")
     at("prepare", 2, 2, "Read, and then Plan", "")
@@ -100,7 +100,8 @@ BEGIN {
     at("order", 5, 3, "waiting, telling", "and due")
     at("ranks", 5, 4, "chains of waiting", "")
     at("paths", 6, 0, "Paths: distances and", "next hops of an area")
-    at("search", 6, 2, "one tree", "per destination")
+    at("search", 6, 2, "the rows of", "one source")
+    at("trees", 6, 3, "one tree", "per destination")
     at("topology", 6, 4, "least sums over walks,", "every next hop")
     at("entries", 7, 2, "links and changes,", "five bytes each")
     at("area", 7, 3, "limits, refusals,", "tables")
@@ -169,29 +170,29 @@ END {
 function proof() {
     text(22, 950, "note", "The proof of demand 3. An arrow leads from a fact to what it proves;" \
         " in italics its crate and file.")
-    fact("next-nearer", 990, 970, 430, "A next hop is nearer to the destination./topology: NextHopLaws")
-    fact("distance-walk, distance-le", 30, 1080, 430, "Some walk has the distance as its sum,/" \
+    fact("next_nearer", 990, 970, 430, "A next hop is nearer to the destination./topology: NextHopLaws")
+    fact("distance_walk, distance_le", 30, 1080, 430, "Some walk has the distance as its sum,/" \
         "and no walk has a smaller one./topology: DistanceLaws")
-    fact("same-next, toward-root", 510, 1080, 430, "A router with no shortest path through the root keeps/" \
+    fact("same_next, toward_root", 510, 1080, 430, "A router with no shortest path through the root keeps/" \
         "its next hops; a next hop with one leads to the root./convergence: ThroughRoot")
     fact("separation", 990, 1080, 430, "Pointers never lead from the smaller metrics alone/" \
         "to the larger ones alone./convergence: Separation")
-    fact("no-router-twice", 990, 1230, 430, "Round a loop the distance to the destination/" \
+    fact("no_router_twice", 990, 1230, 430, "Round a loop the distance to the destination/" \
         "would fall all the way./convergence: NoLoop")
     fact("arrival", 510, 1230, 430, "A walk can go on to the destination,/" \
         "with at most n − 1 links in all./convergence: Arrival")
-    fact("rise, fall", 30, 1230, 430, "Both hold while routers write in order/of waiting./convergence: Convergence")
-    fact("plan-elsewhere, waits-rise, waits-fall", 510, 1380, 430, "Metrics differ at links of the root only;/" \
+    fact("rise, fall", 30, 1230, 430, "Both hold while routers write in order/of waiting./convergence: ConvergenceLaws")
+    fact("plan_elsewhere, waits_rise, waits_fall", 510, 1380, 430, "Metrics differ at links of the root only;/" \
         "waiting follows the next hops to it./plan: FreshLaws, WaitingLaws")
-    fact("run-kept", 990, 1380, 430, "Whom a router no longer waits for is done; who has written/" \
+    fact("run_kept", 990, 1380, 430, "Whom a router no longer waits for is done; who has written/" \
         "waits for none; who is done wrote all that is due./machine: MoveLaws, RunLaws")
-    fact("loop-free", 30, 1510, 910, "For every input that Plan accepts and every list of calls:" \
+    fact("loop_free", 30, 1510, 910, "For every input that Plan accepts and every list of calls:" \
         " no walk along the pointers meets a router twice,/and every walk from a router that reaches d" \
         " before and after the change can be prolonged to d./" \
         "loop_free: LoopFreeLaws")
-    fact("filled-old-hops, filled-new-hops, run-bit", 990, 1640, 430, "The tables that Plan leaves hold the" \
+    fact("filled_old_hops, filled_new_hops, run_bit", 990, 1640, 430, "The tables that Plan leaves hold the" \
         " next hops,/and a written set what was written./plan: FilledLaws; machine: RunLaws")
-    fact("handed-back-free", 30, 1640, 910, "The same, with pointers and distances read off the tables" \
+    fact("handed_back_free", 30, 1640, 910, "The same, with pointers and distances read off the tables" \
         " that Plan leaves,/of every record that comes after Plan's by calls of the code./" \
         "loop_free: HandedBackLaws")
     line("M 1205 1038 L 1205 1076")
