@@ -114,11 +114,11 @@ record Accepts (m l : List ℕ) (r : Record) : Type 0 where
   given : record_of 3 0 1 m l lent ≡ r
 
 planned : Accepts metrics_up goes_down before_rise × Accepts metrics_down comes_up before_fall
-unfolding metrics_down metrics_up goes_down comes_up paths lent before_rise before_fall record_of is_planned fresh per_router
-    build rank longest above greatest waiting telling due old_hops new_hops old_fours new_fours four size total next_hops
-    is_next bit set_of distance sums least topology is_link new_metrics tabulate new_cell listed_metric plan_refusal
-    change_refusal are_tables are_paths is_table is_router_count are_metrics is_metric all first listed_refusal entry_refusal
-    is_free are_at_most is_same is_rise is_fall is_common root entry_count entry_of
+unfolding metrics_down metrics_up goes_down comes_up paths lent before_rise before_fall record_of is_planned fresh
+    per_router build rank longest above greatest waiting telling due old_hops new_hops old_fours new_fours four size
+    total next_hops is_next bit set_of distance sums least topology is_link new_metrics tabulate new_cell listed_metric
+    plan_refusal change_refusal are_tables are_paths is_table is_router_count are_metrics is_metric all first
+    listed_refusal entry_refusal is_free are_at_most is_same is_rise is_fall is_common root entry_count entry_of
 planned = (record { accepted = refl; given = refl }, record { accepted = refl; given = refl })
 
 -- ---- calls in order
@@ -153,10 +153,12 @@ record FallAnswers (r : Record) : Type 0 where
   has_written_lem : has_written r fall_calls 1 2 ≡ true
   has_not : has_written r fall_calls 0 2 ≡ false
 
-answered : RiseAnswers (record_of 3 0 1 metrics_up goes_down lent) × FallAnswers (record_of 3 0 1 metrics_down comes_up lent)
-unfolding before_rise before_fall rise_calls rise_rest fall_calls replies has_written step_of call_of are_routers reads_a reads_b
-    is_kind is_sound is_router_count all deliver listens finish write ready must_wait release learn bit set_of added removed
-    without subset
+answered :
+    RiseAnswers (record_of 3 0 1 metrics_up goes_down lent)
+    × FallAnswers (record_of 3 0 1 metrics_down comes_up lent)
+unfolding before_rise before_fall rise_calls rise_rest fall_calls replies has_written step_of call_of are_routers
+    reads_a reads_b is_kind is_sound is_router_count all deliver listens finish write ready must_wait release learn bit
+    set_of added removed without subset
 answered = (
   subst RiseAnswers (sym planned.0.given) (record { all_replies = refl; has_written_lem = refl; has_not = refl }),
   subst FallAnswers (sym planned.1.given) (record { all_replies = refl; has_written_lem = refl; has_not = refl }),
@@ -192,8 +194,9 @@ Loops m l x = Along (pointers (λ r. old_fours 3 m r 2) (λ r. new_fours 3 m l r
 
 -- in the rise if 1 writes before 0, and in the fall if 0 writes before 1: the two writes that are refused above
 loops : Loops metrics_up goes_down 1 × Loops metrics_down comes_up 0
-unfolding metrics_down metrics_up goes_down comes_up old_hops new_hops old_fours new_fours four size total next_hops is_next bit
-    set_of distance sums least topology is_link new_metrics tabulate build new_cell listed_metric entry_count entry_of
+unfolding metrics_down metrics_up goes_down comes_up old_hops new_hops old_fours new_fours four size total next_hops
+    is_next bit set_of distance sums least topology is_link new_metrics tabulate build new_cell listed_metric
+    entry_count entry_of
 loops = ((refl, (refl, tt)), (refl, (refl, tt)))
 
 -- that walk meets 0 twice

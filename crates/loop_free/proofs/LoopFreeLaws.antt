@@ -31,7 +31,8 @@ use Rattle.plan.specs.NewMetrics.{new_metrics}
 use Rattle.plan.specs.Direction.{is_rise}
 use Rattle.plan.specs.Waiting.{old_hops, new_hops, old_fours, new_fours, waiting}
 use Rattle.plan.specs.Plan.{Tables, are_tables, plan_refusal, fresh, record_of}
-use Rattle.plan.proofs.WaitingLaws.{old_next, new_next, old_four_lem, new_four_lem, waits_rise, waits_fall, waits_inside, due_at}
+use Rattle.plan.proofs.WaitingLaws.{old_next, new_next, old_four_lem, new_four_lem, waits_rise, waits_fall}
+use Rattle.plan.proofs.WaitingLaws.{waits_inside, due_at}
 use Rattle.plan.specs.Planned.{Plan}
 use Rattle.plan.proofs.PlanLaws.{plan_of, plan_step_time, planned_true, record_planned}
 use Rattle.plan.proofs.FreshLaws.{plan_elsewhere, plan_rises, plan_falls, fresh_count, fresh_waiting, fresh_due}

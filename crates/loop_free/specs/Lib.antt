@@ -1,4 +1,4 @@
--- Demand 3, as 01 means it: first the claim, then the theorem; both again in terms of what the code hands back; last an
--- example.
+-- Demand 3, as 01 means it: the claim, and then the same in terms of what the code hands back. Both theorems, and an
+-- example, are in proofs/.
 pub mod LoopFree
 pub mod HandedBack

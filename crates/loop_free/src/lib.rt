@@ -1,4 +1,5 @@
-// Demand 3: packets never circle while the machine runs. There is no code here: specs/ state the claim and prove it.
+// Demand 3: packets never circle while the machine runs. There is no code here: specs/ state the claim, and proofs/
+// prove it.
 //     LoopFree         the claim about a list of calls: `LoopFree`
 //     LoopFreeLaws     the theorem: `loop_free`, for every input that Plan accepts and every list of calls that is
 //                      covered: without ticks every list is, and with ticks those in which no router is late

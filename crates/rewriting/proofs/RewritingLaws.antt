@@ -15,7 +15,8 @@
 use Prim.Native.Nat.{ℕ, suc, ◌+◌, ◌*◌, ◌-◌, ◌/◌, ◌%◌, ◌≤◌, ◌<◌}
 use Rattle.std.specs.Prelude.{◌≡◌, true, false, ◌≢◌, length, drop}
 use Rattle.std.proofs.Math.Path.{refl, ap, ap₂, subst}
-use Rattle.std.proofs.Common.{sym, ◌∙◌, eq-eqb, ne_eqb, take-append-drop, take_all, length-take-le, drop-cons, get_or-drop, get_or-append-add, drop-drop}
+use Rattle.std.proofs.Common.{sym, ◌∙◌, eq-eqb, ne_eqb, take-append-drop, take_all, length-take-le, drop-cons}
+use Rattle.std.proofs.Common.{get_or-drop, get_or-append-add, drop-drop}
 use mathlib.Core.List.{List, [], ◌∷◌, ◌++◌, append_assoc}
 use Rattle.std.proofs.Math.Decide.{dec_lt, ℕ_discrete}
 use native.Mathlib.Omega.{arith}

@@ -5,7 +5,7 @@
 //     count_live   how many links are kept; `links` appends them, one `link` after another
 //     timed_rest   what follows the links
 // What is written is specs/Rewriting.antt, the links that are kept are specs/Live.antt. That Read accepts the rewritten
-// file and gives the old metric table, and what else is the same, is specs/RewritingLaws.antt.
+// file and gives the old metric table, and what else is the same, is proofs/RewritingLaws.antt.
 #![tactic(auto)]
 
 ghost use Rattle.std.specs.Prelude.{◌≡◌, ◌≤◌, ◌<◌, ◌*◌, ◌+◌, length};
@@ -32,31 +32,37 @@ pub fn rewrite(file: &[u8], out: &mut [u8]) -> usize
         return refused_line(out, 0, answer.number());
     }
     let changes = found.contents.changes;
-    let times_at = changes.at + ENTRY * changes.count;
-    whole(file, found.contents.n, found.contents.links, times_at, out)
+    let changes_end = changes.at + ENTRY * changes.count;
+    whole(
+        file,
+        found.contents.n,
+        found.contents.links,
+        changes_end,
+        out,
+    )
 }
 
 // The file without its dead links, and with the times. It has n routers, `announced` links are listed, and the changes
-// end at `times_at`.
-fn whole(file: &[u8], n: usize, announced: usize, times_at: usize, out: &mut [u8]) -> usize
-    requires { Counted file.now n announced times_at }
+// end at `changes_end`.
+fn whole(file: &[u8], n: usize, announced: usize, changes_end: usize, out: &mut [u8]) -> usize
+    requires { Counted file.now n announced changes_end }
     ensures { Appended out.old 0 (rewritten file.now) out.new result }
 {
     let kept = count_live(&file[3..], announced);
     let at = append_head(n, kept, out);
     let at = links(&file[3..], announced, out, at);
-    timed_rest(file, 3 + ENTRY * announced, times_at, out, at)
+    timed_rest(file, 3 + ENTRY * announced, changes_end, out, at)
 }
 
 // What follows the links, with the times put in between the changes, which begin with their count, and the steps.
-fn timed_rest(file: &[u8], from: usize, times_at: usize, out: &mut [u8], at: usize) -> usize
-    requires from_value { (from ≡ change_count_at file.now) × (times_at ≡ times_at file.now) }
+fn timed_rest(file: &[u8], from: usize, changes_end: usize, out: &mut [u8], at: usize) -> usize
+    requires from_value { (from ≡ change_count_at file.now) × (changes_end ≡ times_at file.now) }
     requires file_in_bounds { (times_at file.now ≤ length file.now) × (at ≤ length out.old) }
     ensures { Appended out.old at (timed_rest file.now) out.new result }
 {
-    let at = append(out, at, &file[from..times_at]);
+    let at = append(out, at, &file[from..changes_end]);
     let at = append(out, at, &TIMES);
-    append(out, at, &file[times_at..])
+    append(out, at, &file[changes_end..])
 }
 
 // n and the number of the links.

@@ -1,15 +1,9 @@
 -- `rewrite` has two returns: the old reader refuses the file, or accepts it.
 --     refused, passed      the law of each return, by what the calls before it gave
 --     counted              what an accepted file gives to `whole`
-use mathlib.Core.Path.{◌≡◌, sym, ap, ◌∙◌, subst}
-use mathlib.Core.Bool.{Bool, true, false, not}
-use mathlib.Core.Logic.{◌≢◌}
-use mathlib.Core.List.{List}
-use Prim.Native.Nat.{ℕ, ◌+◌, ◌*◌, ◌<◌}
-use native.Mathlib.Omega.{arith}
-use borrow.Author.Rules.{rules}
-use borrow.Author.Tests.{eqb-true, eqb-false, not-true, not-false}
-use lib.Dec.{eqb}
+use Rattle.std.proofs.Common.{ℕ, ◌+◌, ◌*◌, ◌<◌, ◌≡◌, ◌≢◌, Bool, true, false, List, sym, ap, ◌∙◌, subst, eqb, arith}
+use Rattle.std.proofs.Common.{eqb-true}
+use Rattle.std.proofs.lemmas.Bool.{eqb-false}
 use Rattle.area.specs.Refusals.{verdict_number}
 use Rattle.area.proofs.SizeLaws.{router_count_most}
 use Rattle.bench_file.specs.declared.BenchFile.{BenchFile}
@@ -24,8 +18,7 @@ use Rattle.bench_file.proofs.FileLaws.{links_most, contents_n, contents_links, c
 use Rattle.text.specs.Text.{Appended, refused_line}
 use Rattle.rewriting.specs.Rewriting.{rewritten, written, Counted}
 use Rattle.rewriting.proofs.RewritingLaws.{written_refused, written_accepted}
-use Rattle.rewriting.proofs.rewrite.Statement.{statement}
-use Rattle.rewriting.proofs.rewrite.Tie as tie
+use Rattle.rewriting.proofs.rewrite.Goals as goal
 
 -- the changes of a file and the place of the first one are few
 abbrev Small : (x : BenchFile) → Type 0
@@ -38,7 +31,7 @@ module _
     (ok : Bool) (good : ok ≡ eqb (verdict_number x.answer) 0)
   where
     refused :
-        not ok ≡ true
+        ok ≡ false
         → (k : ℕ)
         → k ≡ verdict_number x.answer
         → {o p : List ℕ} {r : ℕ}
@@ -49,11 +42,11 @@ module _
         subst (λ (w : List ℕ). Appended o 0 w p r) line y
       where
         some : file_refusal Old f ≢ 0
-        some z = eqb-false (verdict_number x.answer) 0 (sym good ∙ not-true ok h) (told ∙ z)
+        some z = eqb-false (verdict_number x.answer) 0 (sym good ∙ h) (told ∙ z)
 
-    module _ (h : not ok ≡ false) where
+    module _ (h : ok ≡ true) where
       none : file_refusal Old f ≡ 0
-      none = sym told ∙ eqb-true (verdict_number x.answer) 0 (sym good ∙ not-false ok h)
+      none = sym told ∙ eqb-true (verdict_number x.answer) 0 (sym good ∙ h)
 
       whole : Accepted Old f
       whole = accepted_of Old f none
@@ -97,57 +90,48 @@ module _
       passed : {o p : List ℕ} {r : ℕ} → Appended o 0 (rewritten f) p r → Appended o 0 (written f) p r
       passed {o} {p} {r} y = subst (λ (w : List ℕ). Appended o 0 w p r) (sym (written_accepted f none)) y
 
-examine-requires : tie.Need-examine-requires
-examine-requires c κs = search rules
+pub returns-then-not-is_accepted : goal.returns-then-not-is_accepted
+returns-then-not-is_accepted c =
+    let found = c.examine-found in
+    let said = c.is_accepted in
+    let told = found.ensures in
+    record {
+      bytes = refused c.args.file.now found.result told.answer told.contents said.result said.ensures.answer
+          c.if-not-is_accepted.true c.number.result c.number.ensures.number c.refused_line.ensures.line;
+    }
 
-is-accepted-requires : tie.Need-is-accepted-requires
-is-accepted-requires c κs = search rules
-
-number-requires : tie.Need-number-requires
-number-requires c κs = search rules
-
-refused-line-requires : tie.Need-refused-line-requires
-refused-line-requires c κs = search rules
-
-same_length : tie.Need-same-length
-same_length c = search rules
-
-returns : tie.Need-returns
-returns c = search refused
-
-mul-times-at : tie.Need-overflow-mul-times-at
-mul-times-at c =
-    let found = c.before.before.before.before.examine.result in
-    let fits : Small found = search small in
+pub overflow_mul-changes_end : goal.overflow_mul-changes_end
+overflow_mul-changes_end c =
+    let found = c.examine-found in
+    let said = c.is_accepted in
+    let told = found.ensures in
+    let fits = small c.args.file.now found.result told.answer told.contents said.result said.ensures.answer
+    c.if-not-is_accepted.false in
     omega (arith, fits.0)
 
-add-times-at : tie.Need-overflow-add-times-at
-add-times-at c =
-    let found = c.before.before.before.before.before.examine.result in
-    let fits : Small found = search small in
+pub overflow_add-changes_end : goal.overflow_add-changes_end
+overflow_add-changes_end c =
+    let found = c.examine-found in
+    let said = c.is_accepted in
+    let told = found.ensures in
+    let fits = small c.args.file.now found.result told.answer told.contents said.result said.ensures.answer
+    c.if-not-is_accepted.false in
     omega (arith, fits.0, fits.1)
 
-whole-requires : tie.Need-whole-requires
-whole-requires c κs = search counted
+pub whole-requires : goal.whole-requires
+whole-requires c =
+    let found = c.examine-found in
+    let said = c.is_accepted in
+    let told = found.ensures in
+    counted c.args.file.now found.result told.answer told.contents said.result said.ensures.answer
+    c.if-not-is_accepted.false
 
-same-length-2 : tie.Need-same-length-2
-same-length-2 c = search rules
-
-returns-2 : tie.Need-returns-2
-returns-2 c = search passed
-
-pub rewrite-spec : {M : Type 1} → statement M
-rewrite-spec =
-    tie.close
-    (tie.spec
-    examine-requires
-    is-accepted-requires
-    number-requires
-    refused-line-requires
-    same_length
-    returns
-    mul-times-at
-    add-times-at
-    whole-requires
-    same-length-2
-    returns-2)
+pub returns : goal.returns
+returns c =
+    let found = c.examine-found in
+    let said = c.is_accepted in
+    let told = found.ensures in
+    record {
+      bytes = passed c.args.file.now found.result told.answer told.contents said.result said.ensures.answer
+          c.if-not-is_accepted.false c.whole.ensures;
+    }
