@@ -1,14 +1,8 @@
 -- The loops that copy the old metrics, row by row, into a table that was cleared.
 --     Copied, copied_none, copied_more, copied_row     the cells of one row, one place after another; then its own cell
 --     Rows, rows_none, rows_more, rows_all             one row after another; then the table is copied
-use Prim.Native.Nat.{ℕ, ◌+◌, ◌*◌, ◌≤◌, ◌<◌}
-use mathlib.Core.Path.{◌≡◌, refl, sym, ap, ◌∙◌}
-use mathlib.Core.Logic.{◌≢◌, ◌⊎◌, inl, inr, ⊎_elim}
-use mathlib.Core.List.{List, []}
-use native.Mathlib.Decide.{dec_lt, ℕ_discrete}
-use native.Mathlib.Omega.{arith}
-use lib.ListN.{length, get_or, set, length-set}
-use lib.Seq.{get_or-set_same, get_or-set_other}
+use Rattle.std.proofs.Math.Decide.{dec_lt, ℕ_discrete}
+use Rattle.std.proofs.Common.{ℕ, ◌+◌, ◌*◌, ◌≤◌, ◌<◌, ◌≡◌, refl, sym, ap, ◌∙◌, ◌≢◌, ◌⊎◌, inl, inr, ⊎_elim, List, [], arith, length, get_or, set, length-set, get_or-set_same, get_or-set_other}
 use Rattle.area.specs.Limits.{width, unused}
 use Rattle.area.specs.Tables.{build, cell, tabulate}
 use Rattle.area.proofs.TableLaws.{length_build, build_at, is_tabulate}
@@ -28,7 +22,8 @@ module _ (a : ℕ) (m was : List ℕ) where
   copied_none = record { size = refl; inside = λ k x y. absurd (omega arith); outside = λ k x. refl }
 
   pub copied_more :
-      (b : ℕ) (t : List ℕ) → Copied a b m was t → a ≤ b → b < length was → Copied a (b + 1) m was (set t b (get_or m b 0))
+      (b : ℕ) (t : List ℕ) → Copied a b m was t → a ≤ b → b < length was
+      → Copied a (b + 1) m was (set t b (get_or m b 0))
   copied_more b t i low h = record {
     size = simp length-set i.size;
     inside = λ k x y. elim (ℕ_discrete k b) [

@@ -3,7 +3,7 @@
 --     rise_at, fall_at     no usable metric becomes smaller in a rise, and none larger in a fall
 --     same_at, same_both   every pair keeps its own exactly where none becomes smaller and none larger
 --     listed_rise, listed_fall     it is enough to look at the pairs of the changes
-use Rattle.std.specs.Prelude.{ℕ, ◌≤◌, ◌<◌, ◌≡◌, Bool, true, ◌&&◌, List}
+use Rattle.std.specs.Prelude.{ℕ, ◌≤◌, ◌<◌, ◌≡◌, true, ◌&&◌, List}
 use Rattle.std.proofs.Math.Path.{sym}
 use Rattle.std.proofs.Common.{◌∙◌, arith}
 use Rattle.std.proofs.Math.Decide.{dec_lt}

@@ -1,10 +1,7 @@
 -- The tables of an input that is planned, put together from what Paths leaves for the old metrics and for the new ones.
 -- Paths refuses neither: the old metrics were judged, and the new ones are old ones or those of changes, which three
 -- bytes hold and of which none is 0.
-use Prim.Native.Nat.{ℕ, ◌<◌}
-use mathlib.Core.Path.{◌≡◌, refl, ap, ◌∙◌}
-use mathlib.Core.List.{List}
-use lib.ListN.{get_or}
+use Rattle.std.proofs.Common.{ℕ, ◌<◌, ◌≡◌, refl, ap, ◌∙◌, List, get_or}
 use Rattle.entries.proofs.EntryLaws.{metric_fits}
 use Rattle.paths.specs.Paths.{PathTables, paths_of}
 use Rattle.paths.specs.Ready.{SizedPaths}

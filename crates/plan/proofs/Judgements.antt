@@ -1,9 +1,5 @@
 -- What is judged of an input that is refused, for each return of src/judging.rt that refuses.
-use Prim.Native.Nat.{ℕ, suc}
-use mathlib.Core.Path.{◌≡◌, sym, ap, ◌∙◌}
-use mathlib.Core.Bool.{Bool}
-use mathlib.Core.List.{List}
-use native.Mathlib.Omega.{arith}
+use Rattle.std.proofs.Common.{ℕ, suc, ◌≡◌, sym, ap, ◌∙◌, Bool, List, arith}
 use Rattle.area.specs.declared.refusal.Verdict.{Verdict}
 use Rattle.area.specs.Refusals.{verdict_number}
 use Rattle.plan.specs.declared.judging.Judged.{Judged}

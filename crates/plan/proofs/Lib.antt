@@ -1,4 +1,4 @@
--- What several functions' proofs share, or what would make one too long.
+-- The laws of a plan, and what several functions' proofs share.
 pub mod Judgements
 pub mod Copying
 pub mod Applying

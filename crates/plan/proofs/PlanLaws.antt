@@ -1,14 +1,15 @@
 -- Laws of what Plan answers, hands back and fills in: those by which the code is proved, and those that callers use.
---     change_count_lem, change_tables, change_metrics      the refusals of the change, each where it is given: of n, tables
---     change_cut, change_many, change_none, Listed     of the list's length,
+--     change_count_lem, change_tables, change_metrics  the refusals of the change, each where it is given: of n, tables
+--                                                      and metrics,
+--     change_cut, change_many, change_none             of the list's length,
 --     change_faulty, change_same, change_mixed, change_apart       of its changes
 --     plan_count, plan_untimed, plan_timed     those of Plan: the step time's comes after that of n
---     Plan, planned_is     an input is planned exactly where none of 01's conditions for a refusal holds
+--     planned_is           an input is planned exactly where none of 01's conditions for a refusal holds
 --     record_planned, record_refused, refused_count, tables_planned, tables_refused    what is handed back and left
 --     filled_size      the tables that are filled have the right size
 -- The tests of the ladder are taken one after another: a refusal is given where its test is the first to fail, and so
 -- an input that is given none has passed all of them.
-use Rattle.std.specs.Prelude.{ℕ, suc, ◌*◌, ◌%◌, ◌≤◌, ◌<◌, ◌≡◌, Bool, true, not, ◌||◌, ◌≢◌, ◌↔◌, ◌⊎◌, List, length}
+use Rattle.std.specs.Prelude.{ℕ, suc, ◌%◌, ◌≤◌, ◌<◌, ◌≡◌, Bool, true, not, ◌||◌, ◌≢◌, ◌↔◌, ◌⊎◌, List, length}
 use Rattle.std.proofs.Math.Path.{refl}
 use Rattle.std.proofs.Common.{sym, ap, ◌∙◌, inl, inr, ⊎_elim, arith}
 use Rattle.std.proofs.Math.Bool.{false}
@@ -24,10 +25,9 @@ use Rattle.area.specs.Sizes.{is_router_count, is_table}
 use Rattle.area.proofs.SizeLaws.{router_count_true, table_true, table_size_lem}
 use Rattle.entries.specs.Entries.{entry_count, listed_refusal}
 use Rattle.paths.specs.Paths.{are_paths, are_metrics}
-use Rattle.paths.specs.Ready.{Ready, SizedPaths}
+use Rattle.paths.specs.Ready.{Ready}
 use Rattle.paths.proofs.PathsLaws.{area_ready, area_metrics, sized_paths_of, filled_sized}
 use Rattle.changes.specs.Root.{is_common, root}
-use Rattle.changes.specs.Sound.{Sound}
 use Rattle.changes.proofs.ChangeLaws.{sound_of, of_sound}
 use Rattle.plan.specs.NewMetrics.{new_cell, new_metrics}
 use Rattle.plan.specs.Direction.{is_same, is_rise, is_fall}
@@ -176,7 +176,8 @@ module _ (n : ℕ) (m l : List ℕ) where
           → (is_common l (root l) ≡ true) ⊎ (is_common l (root l) ≡ false)
           → Plan n m l
       by_tests (no a) d b c = never _ a (change_faulty n m l listed a)
-      by_tests (yes a) (inl d) b c = never same_metric (λ q. let x : ⊥ = omega arith in x) (change_same n m l listed a d)
+      by_tests (yes a) (inl d) b c =
+          never same_metric (λ q. let x : ⊥ = omega arith in x) (change_same n m l listed a d)
       by_tests (yes a) (inr d) (inr b) c =
           never mixed (λ q. let x : ⊥ = omega arith in x) (change_mixed n m l listed a d b)
       by_tests (yes a) (inr d) (inl b) (inr c) =

@@ -1,13 +1,8 @@
 -- The record of a plan, put together from the order that the full next-hop sets give and from what is due by the sets
--- of four. `t` are the tables that are filled: their cells are the sets of the two topologies (specs/FilledLaws.antt).
+-- of four. `t` are the tables that are filled: their cells are the sets of the two topologies (FilledLaws.antt).
 --     waiting_at, telling_of_lem, due_is       so the sets that are found from them are those of specs/Waiting.antt
 --     fresh_is                 and the record is `fresh`
-use Prim.Native.Nat.{ℕ, ◌≤◌, ◌<◌}
-use mathlib.Core.Path.{◌≡◌, refl, ap, ap₂, ◌∙◌}
-use mathlib.Core.Bool.{Bool, not}
-use mathlib.Core.List.{List}
-use native.Mathlib.Omega.{arith}
-use lib.Dec.{eqb}
+use Rattle.std.proofs.Common.{ℕ, ◌≤◌, ◌<◌, ◌≡◌, refl, ap, ap₂, ◌∙◌, Bool, not, List, arith, eqb}
 use Rattle.area.specs.Limits.{width}
 use Rattle.area.specs.Tests.{pick}
 use Rattle.area.specs.Tables.{cell, per_router}

@@ -8,7 +8,7 @@ use Rattle.std.specs.Prelude.{ℕ, ◌%◌, ◌≤◌, ◌<◌, ◌≡◌, true,
 use Rattle.std.proofs.Math.Path.{refl, ap}
 use Rattle.std.proofs.Common.{sym, ap₂, ◌∙◌, ⊎_elim, inl, inr, arith, length-append}
 use Rattle.std.proofs.Math.Bool.{not}
-use mathlib.Core.List.{List, ◌++◌}
+use Rattle.std.proofs.Common.{List, ◌++◌}
 use Rattle.area.specs.Limits.{width, unused}
 use Rattle.area.specs.Tests.{pick}
 use Rattle.area.specs.Tables.{cell, per_router}

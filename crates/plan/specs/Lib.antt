@@ -1,4 +1,4 @@
--- The plan of one change, as 01 means it. First the definitions, in reading order; then the laws about them.
+-- The plan of one change, as 01 means it: the definitions, in reading order. The laws about them are in proofs/.
 pub mod NewMetrics
 pub mod Direction
 pub mod Waiting

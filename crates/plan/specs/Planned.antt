@@ -1,3 +1,7 @@
+-- What is known of an input where some refusals are not given.
+--     Listed       the list has from 1 to `most_changes` whole entries: the refusals of its changes are left
+--     Sized        every table has the right size
+--     Plan         none of 01's conditions for a refusal of n, metrics and changes holds
 use Rattle.std.specs.Prelude.{ℕ, ◌*◌, ◌%◌, ◌≤◌, ◌<◌, ◌≡◌, true, false, ◌≢◌, ◌⊎◌, List, length}
 use Rattle.area.specs.Limits.{width, most_changes}
 use Rattle.entries.specs.Entries.{entry_count}
@@ -7,7 +11,6 @@ use Rattle.changes.specs.Sound.{Sound}
 use Rattle.plan.specs.Direction.{is_same, is_rise, is_fall}
 use Rattle.plan.specs.Plan.{Tables}
 
--- the list has from 1 to `most_changes` whole entries: the refusals of its changes
 pub record Listed (n : ℕ) (m l : List ℕ) : Type 0 where
   pub ready : Ready n m
   pub whole : length l % 5 ≡ 0

@@ -6,8 +6,8 @@
 //     fill       the tables (`topologies`: by Paths over the old metrics and the new ones), and from them the record
 //     fresh      the record, by the order of crate order
 // What Plan promises is specs/Plan.antt, with specs/NewMetrics.antt, specs/Direction.antt and specs/Waiting.antt; what
-// the functions below promise to each other is specs/Parts.antt. The argument is in specs/PlanLaws.antt for the
-// refusals, in specs/DirectionLaws.antt for the direction, in proofs/Copying.antt and proofs/Applying.antt for the
+// the functions below promise to each other is specs/Parts.antt. The argument is in proofs/PlanLaws.antt for the
+// refusals, in proofs/DirectionLaws.antt for the direction, in proofs/Copying.antt and proofs/Applying.antt for the
 // metrics, in proofs/Filling.antt for the tables and proofs/Recording.antt for the record.
 #![tactic(auto)]
 
@@ -132,8 +132,10 @@ fn fill(
 ) -> Record
     requires plan { Plan n old.now list.now }
     requires c_value { (c ≡ root list.now) × (rising ≡ is_rise n old.now list.now) }
-    requires sized { Sized old.now
-        (tables_in new.old old_dist.old old_hops.old old_fours.old new_dist.old new_hops.old new_fours.old) }
+    requires sized { let lent = tables_in new.old
+        old_dist.old old_hops.old old_fours.old
+        new_dist.old new_hops.old new_fours.old in
+        Sized old.now lent }
     ensures value { result ≡ fresh n hold_time step_time old.now list.now }
     ensures left_value { let left = tables_in new.new
         old_dist.new old_hops.new old_fours.new
@@ -162,8 +164,10 @@ fn topologies(
     new_fours: &mut [Set],
 )
     requires plan { Plan n old.now list.now }
-    requires sized { Sized old.now
-        (tables_in new.old old_dist.old old_hops.old old_fours.old new_dist.old new_hops.old new_fours.old) }
+    requires sized { let lent = tables_in new.old
+        old_dist.old old_hops.old old_fours.old
+        new_dist.old new_hops.old new_fours.old in
+        Sized old.now lent }
     ensures { let left = tables_in new.new
         old_dist.new old_hops.new old_fours.new
         new_dist.new new_hops.new new_fours.new in

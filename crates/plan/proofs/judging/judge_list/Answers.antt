@@ -1,13 +1,6 @@
 -- Each return that refuses gives the refusal of the test of the list's length that led to it. Where none fails, the
 -- list is one that `judge_changes` asks for.
-use mathlib.Core.Path.{◌≡◌, refl, sym, ◌∙◌}
-use mathlib.Core.Bool.{true}
-use mathlib.Core.Logic.{◌≢◌}
-use mathlib.Core.List.{List}
-use Prim.Native.Nat.{ℕ, ◌%◌, ◌<◌, ◌≤◌}
-use native.Mathlib.Omega.{arith}
-use borrow.Author.Rules.{rules}
-use lib.ListN.{length}
+use Rattle.std.proofs.Common.{◌≡◌, ◌≢◌, ℕ, ◌%◌, ◌<◌, ◌≤◌, refl, sym, ◌∙◌, true, List, length, arith}
 use Rattle.area.specs.declared.refusal.Refusal.{Refusal}
 use Rattle.area.specs.declared.refusal.Verdict.{Verdict}
 use Rattle.area.specs.Limits.{most_changes}
@@ -15,11 +8,10 @@ use Rattle.entries.specs.Entries.{entry_count}
 use Rattle.paths.specs.Ready.{Ready}
 use Rattle.plan.specs.declared.judging.Judged.{Judged}
 use Rattle.plan.specs.Planned.{Listed}
-use Rattle.plan.proofs.PlanLaws.{change_cut, change_many, change_none}
 use Rattle.plan.specs.Parts.{Judges}
+use Rattle.plan.proofs.PlanLaws.{change_cut, change_many, change_none}
 use Rattle.plan.proofs.Judgements.{judged_refused}
-use Rattle.plan.proofs.judging.judge_list.Statement.{statement}
-use Rattle.plan.proofs.judging.judge_list.Tie as tie
+use Rattle.plan.proofs.judging.judge_list.Goals as goal
 
 -- one law for each return, by the tests before it
 module _ (n : ℕ) (m l : List ℕ) (ready : Ready n m) where
@@ -41,43 +33,22 @@ module _ (n : ℕ) (m l : List ℕ) (ready : Ready n m) where
       listed : k ≢ 0 → Listed n m l
       listed c = record { ready = ready; whole = a; most = omega (arith, counted); some = λ q. c (counted ∙ q) }
 
-refused-requires : tie.Need-refused-requires
-refused-requires c κs = search rules
+pub returns-then-list-ne0 : goal.returns-then-list-ne0
+returns-then-list-ne0 c =
+    cut c.args.n c.args.old.now c.args.list.now c.requires c.if-list-ne0.true _ c.refused.ensures
 
-returns : tie.Need-returns
-returns c = search cut
+pub returns-then-listed-gt-MOST_CHANGES : goal.returns-then-listed-gt-MOST_CHANGES
+returns-then-listed-gt-MOST_CHANGES c =
+    many c.args.n c.args.old.now c.args.list.now c.requires c.if-list-ne0.false c.count-listed.result
+    c.count-listed.ensures.answer c.if-listed-gt-MOST_CHANGES.true _ c.refused-then-listed-gt-MOST_CHANGES.ensures
 
-count-requires : tie.Need-count-requires
-count-requires c κs = search rules
+pub returns-then-listed-eq0 : goal.returns-then-listed-eq0
+returns-then-listed-eq0 c =
+    none c.args.n c.args.old.now c.args.list.now c.requires c.if-list-ne0.false c.count-listed.result
+    c.count-listed.ensures.answer c.if-listed-gt-MOST_CHANGES.false c.if-listed-eq0.true _
+    c.refused-then-listed-eq0.ensures
 
-refused-requires-2 : tie.Need-refused-requires-2
-refused-requires-2 c κs = search rules
-
-returns-2 : tie.Need-returns-2
-returns-2 c = search many
-
-refused-requires-3 : tie.Need-refused-requires-3
-refused-requires-3 c κs = search rules
-
-returns-3 : tie.Need-returns-3
-returns-3 c = search none
-
-judge-changes-requires : tie.Need-judge-changes-requires
-judge-changes-requires c κs = search listed
-
-returns-4 : tie.Need-returns-4
-returns-4 c = search rules
-
-pub judge-list-spec : {M : Type 1} → statement M
-judge-list-spec =
-    tie.close
-    (tie.spec
-    refused-requires
-    returns
-    count-requires
-    refused-requires-2
-    returns-2
-    refused-requires-3
-    returns-3
-    judge-changes-requires
-    returns-4)
+pub judge_changes-requires : goal.judge_changes-requires
+judge_changes-requires c =
+    listed c.args.n c.args.old.now c.args.list.now c.requires c.if-list-ne0.false c.count-listed.result
+    c.count-listed.ensures.answer c.if-listed-gt-MOST_CHANGES.false c.if-listed-eq0.false
