@@ -4,9 +4,9 @@
 --     listed_some                      every cell is a metric, or that of a link that is not used
 --     listed_self, listed_beyond       no link from a router to itself, and none beyond n
 -- An entry that is not refused has a metric that is not 0, and is of another router than the list's, one below n.
-use Rattle.std.specs.Prelude.{ℕ, ◌+◌, ◌*◌, ◌≤◌, ◌<◌, min, ◌≡◌, Bool, true, false, ◌≢◌, ◌⊎◌, ltb, length}
+use Rattle.std.specs.Prelude.{ℕ, ◌*◌, ◌≤◌, ◌<◌, min, ◌≡◌, Bool, true, false, ◌≢◌, ◌⊎◌, ltb, length}
 use Rattle.std.proofs.Math.Path.{refl}
-use Rattle.std.proofs.Common.{sym, ap, ◌∙◌, inl, inr, ⊎_elim, arith, lt-ltb, le-ltb, ltb-true}
+use Rattle.std.proofs.Common.{sym, ◌∙◌, inl, inr, arith, lt-ltb, le-ltb, ltb-true}
 use mathlib.Core.List.{List, [], ◌∷◌}
 use Rattle.std.proofs.Math.Decide.{dec_lt}
 use Rattle.area.specs.Limits.{width, unused}
@@ -17,11 +17,11 @@ use Rattle.area.proofs.TableLaws.{length_tabulate, cell_tabulate}
 use Rattle.tlv.specs.declared.Item.{Item}
 use Rattle.tlv.specs.declared.Item.TheVariants.{End, Refused, Entry}
 use Rattle.tlv.specs.Items.{items}
-use Rattle.isis.specs.Identities.{row_count, router, row_of, is_of}
+use Rattle.isis.specs.Identities.{row_count, row_of, is_of}
 use Rattle.isis.specs.Identities.{RowsIn}
 use Rattle.isis.proofs.IdentityLaws.{rows_in, of_other, of_none}
-use Rattle.isis.specs.Lists.{items_refusal, lowered, lowest_to, length_at, list_of, list_refusal, listed_to}
-use Rattle.isis.proofs.ListLaws.{Passed, passed_of, end_next, refusal_both, no_fault, list_whole}
+use Rattle.isis.specs.Lists.{items_refusal, lowest_to, length_at, list_of, listed_to}
+use Rattle.isis.proofs.ListLaws.{passed_of, end_next, refusal_both, no_fault, list_whole}
 use Rattle.isis.specs.Isis.{area_refusal, listed}
 use Rattle.isis.proofs.IsisLaws.{lists_none, accepted_both}
 use Rattle.isis.proofs.FillLaws.{list_there}

@@ -4,8 +4,8 @@
 --     list_known, rows_small       what `lower` asks
 --     lowered_clear                what it gives for a row without links is row i of the table
 --     fill_start, fill_all         the table before the first row, and after the last
-use Rattle.std.specs.Prelude.{ℕ, suc, ◌+◌, ◌-◌, ◌*◌, ◌≤◌, ◌<◌, ◌≡◌, refl, Bool, true, false, ltb, take, drop}
-use Rattle.std.proofs.Common.{sym, ◌∙◌, subst, ⊎_elim, arith}
+use Rattle.std.specs.Prelude.{ℕ, ◌+◌, ◌-◌, ◌*◌, ◌≤◌, ◌<◌, ◌≡◌, ltb, take, drop}
+use Rattle.std.proofs.Common.{sym, ◌∙◌, subst, arith}
 use Rattle.std.proofs.Math.Path.{ap, ap₂}
 use mathlib.Core.List.{List}
 use Rattle.std.proofs.Math.Decide.{dec_lt}
@@ -13,8 +13,6 @@ use Rattle.std.proofs.Math.ListN.{length, get_or}
 use Rattle.area.specs.Bytes.{two}
 use Rattle.area.specs.Tests.{pick}
 use Rattle.area.specs.Limits.{width, unused}
-use Rattle.area.specs.Refusals.{incomplete}
-use Rattle.area.specs.Sizes.{is_router_count}
 use Rattle.area.proofs.SizeLaws.{router_count_most}
 use Rattle.area.specs.Tables.{build, tabulate}
 use Rattle.area.proofs.TableLaws.{length_build, build_at, is_build, length_tabulate}

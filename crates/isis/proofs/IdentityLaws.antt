@@ -1,15 +1,14 @@
 -- Laws of the table of identities: those by which the code is proved, and what is known of a table that is accepted.
---     RowsIn                               the routers of the first e rows are below n
 --     rows_unknown, rows_cut, rows_pass    the refusals of the rows, one for each way in which the code returns
 --     rows_in                              all rows of a table that is not refused are so
 --     last_differs, first_told             whether a row has an identity, by the parts that the code compares
 --     row_hit, row_none                    the first row of an identity, for a loop over the rows
 --     not_known, known_at, of_router, of_other, of_none
 --                                          an identity, by its first row
-use Rattle.std.specs.Prelude.{ℕ, ◌+◌, ◌*◌, ◌/◌, ◌%◌, ◌≤◌, ◌<◌, ◌≡◌, Bool, true, false, ◌≢◌, List, eqb, ltb, length, get_or}
+use Rattle.std.specs.Prelude.{ℕ, ◌+◌, ◌*◌, ◌/◌, ◌%◌, ◌≤◌, ◌<◌, ◌≡◌, Bool, true, false, ◌≢◌, List, eqb, ltb, length}
+use Rattle.std.specs.Prelude.{get_or}
 use Rattle.std.proofs.Math.Path.{refl, sym}
 use Rattle.std.proofs.Common.{ap, ◌∙◌, arith}
-use Rattle.std.proofs.lemmas.Bool.{false≢true}
 use Rattle.std.proofs.Math.Logic.{⊎_elim}
 use Rattle.std.proofs.Math.Decide.{ℕ_discrete}
 use borrow.Author.Tests.{lt-ltb, le-ltb, eq-eqb, ne_eqb, ltb-true}

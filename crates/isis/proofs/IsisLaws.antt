@@ -9,7 +9,6 @@ use Rattle.std.specs.Prelude.{◌≡◌, Bool, true, false, not, ◌≢◌, List
 use Rattle.std.proofs.Math.Path.{refl, sym, ap}
 use Rattle.std.proofs.Common.{◌∙◌, arith}
 use Rattle.std.proofs.Math.Logic.{⊎_elim}
-use Rattle.std.proofs.Math.Decide.{dec_lt}
 use borrow.Author.Tests.{lt-ltb, le-ltb, eq-eqb, ne_eqb, eqb-true, eqb-false, not-true, not-false}
 use Rattle.area.specs.Bytes.{two}
 use Rattle.area.specs.Limits.{width, unused}

@@ -5,16 +5,16 @@
 --     lowest_none, lowest_next         the lowest metric, likewise
 --     length_start, length_next, length-up     where the lists stand
 --     list_cut, list_whole             the refusals of a list
-use Prim.Native.Nat.{ℕ, zero, suc, ◌+◌, ◌-◌, ◌≤◌, ◌<◌, min}
-use Rattle.std.specs.Prelude.{◌≡◌, Bool, true, false, not, ◌≢◌, ◌⊎◌, List, [], ◌∷◌, eqb, ltb, length, take, drop}
+use Prim.Native.Nat.{ℕ, suc, ◌+◌, ◌≤◌, ◌<◌, min}
+use Rattle.std.specs.Prelude.{◌≡◌, true, false, ◌≢◌, ◌⊎◌, List, [], ◌∷◌, length, take, drop}
 use Rattle.std.proofs.Math.Path.{refl}
-use Rattle.std.proofs.Common.{sym, ap, ◌∙◌, inl, inr, ⊎_elim}
+use Rattle.std.proofs.Common.{sym, ap, ◌∙◌, inl, inr}
 use native.Mathlib.Omega.{arith}
 use borrow.Author.Tests.{lt-ltb, le-ltb, eq-eqb, ne_eqb}
 use Rattle.area.specs.Bytes.{two}
 use Rattle.area.specs.Refusals.{refusal_number, incomplete, self_link, bad_metric, unknown_identity}
 use Rattle.area.proofs.RefusalLaws.{refusal_positive}
-use Rattle.area.specs.Tests.{pick, or_then}
+use Rattle.area.specs.Tests.{pick}
 use Rattle.area.proofs.TestLaws.{then_some, then_none, then_both, look}
 use Rattle.area.specs.declared.refusal.Refusal.{Refusal}
 use Rattle.tlv.specs.declared.Neighbour.{Neighbour}
@@ -23,8 +23,8 @@ use Rattle.tlv.specs.declared.Item.TheVariants.{End, Refused, Entry}
 use Rattle.tlv.specs.Items.{items}
 use Rattle.isis.specs.Identities.{row_count, router, row_of, is_known, is_of}
 use Rattle.isis.proofs.IdentityLaws.{not_known, known_at, of_router, of_other}
-use Rattle.isis.specs.Lists.{neighbour_refusal, item_refusal, items_refusal, lowered, lowest_to}
-use Rattle.isis.specs.Lists.{length_at, list_of, list_refusal}
+use Rattle.isis.specs.Lists.{neighbour_refusal, items_refusal, lowest_to}
+use Rattle.isis.specs.Lists.{length_at, list_refusal}
 
 -- ---- an entry in the list of router i; r is the first row with its identity
 module _ (t : List ℕ) (i : ℕ) (x : Neighbour) (r : ℕ) (is : r ≡ row_of t x.identity) where

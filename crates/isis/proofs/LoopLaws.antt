@@ -1,8 +1,8 @@
 -- The loop over the items of a list: what is left of the list from the place p on decides. i is what stands there.
 --     list_end, list_fault, list_first     one for each return of the loop that judges
 --     list_next, list_less                 and for the next turn: the same is known, and less is left
-use Rattle.std.specs.Prelude.{ℕ, ◌-◌, ◌<◌, ◌≡◌, refl, Bool, true, false, not, ◌≢◌, List, eqb, length}
-use Rattle.std.proofs.Common.{sym, ap, ◌∙◌, arith, eqb-true}
+use Rattle.std.specs.Prelude.{ℕ, ◌-◌, ◌<◌, ◌≡◌, Bool, true, false, not, List, eqb, length}
+use Rattle.std.proofs.Common.{sym, ◌∙◌, arith, eqb-true}
 use Rattle.std.proofs.lemmas.Bool.{eqb-false, not-true, not-false}
 use Rattle.area.specs.Refusals.{refusal_number, verdict_number}
 use Rattle.area.specs.declared.refusal.Refusal.{Refusal}

@@ -6,12 +6,11 @@
 --     lowering_less, -stays        an entry with a lower metric, and one with none
 --     entry_known, entry_router    its identity has a row, whose router has a cell
 --     all_known                    so it is for every entry of a list that is not refused
-use Rattle.std.specs.Prelude.{ℕ, ◌+◌, ◌≤◌, ◌<◌, min, ◌≡◌, refl, Bool, true, false, ◌≢◌, List, [], ◌∷◌, ltb, length, get_or, set}
+use Rattle.std.specs.Prelude.{ℕ, ◌≤◌, ◌<◌, min, ◌≡◌, refl, true, ◌≢◌, List, [], ◌∷◌, length, get_or, set}
 use Rattle.std.proofs.Math.Path.{sym}
-use Rattle.std.proofs.Common.{ap, ◌∙◌, subst, ⊎_elim, arith, length-set, get_or-set_same, get_or-set_other, ltb-true}
+use Rattle.std.proofs.Common.{ap, ◌∙◌, subst, arith, length-set, get_or-set_same, get_or-set_other, ltb-true}
 use Rattle.std.proofs.Math.Decide.{ℕ_discrete}
 use Rattle.area.specs.Limits.{width}
-use Rattle.area.specs.Tests.{pick}
 use Rattle.area.proofs.TableLaws.{is_build}
 use Rattle.area.specs.declared.refusal.Refusal.{Refusal}
 use Rattle.tlv.specs.declared.Neighbour.{Neighbour}
@@ -19,7 +18,7 @@ use Rattle.tlv.specs.declared.Item.{Item}
 use Rattle.tlv.specs.declared.Item.TheVariants.{End, Refused, Entry}
 use Rattle.tlv.specs.Items.{item_at, items, items_at}
 use Rattle.tlv.proofs.ItemLaws.{items_end, items_refused, items_entry}
-use Rattle.isis.specs.Identities.{row_count, router, row_of, is_known, is_of}
+use Rattle.isis.specs.Identities.{row_count, router, row_of, is_known}
 use Rattle.isis.specs.Identities.{RowsIn}
 use Rattle.isis.proofs.IdentityLaws.{of_router, of_other}
 use Rattle.isis.specs.Lists.{items_refusal, lowest_to}

@@ -1,4 +1,4 @@
--- Areas from IS-IS, as 02 means them. First the definitions, in reading order; then the laws about them.
+-- Areas from IS-IS, as 02 means them: the definitions, in reading order. The laws about them are in proofs/
 pub mod Identities
 pub mod Lists
 pub mod Isis

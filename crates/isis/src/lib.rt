@@ -4,7 +4,7 @@
 //     rows         the row of the metric table that a list gives
 //     read         judges all, and fills the metric table
 // Definitions, in reading order: specs/Identities.antt, Lists.antt, Isis.antt (the promise). What a caller may conclude
-// from them is specs/AreaLaws.antt. The entries themselves are read by crate `tlv`.
+// from them is proofs/AreaLaws.antt. The entries themselves are read by crate `tlv`.
 #![tactic(auto)]
 
 mod identities;

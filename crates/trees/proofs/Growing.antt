@@ -9,7 +9,7 @@
 use Prim.Native.Nat.{ℕ, ◌+◌, ◌-◌, ◌^◌, ◌<◌, ◌≤◌}
 use mathlib.Core.Path.{◌≡◌, refl, sym, ap, ◌∙◌}
 use mathlib.Core.Bool.{true, false, not, false≢true}
-use mathlib.Core.Logic.{◌≢◌, ◌↔◌, ◌⊎◌, inl, ⊎_elim}
+use mathlib.Core.Logic.{◌≢◌, ◌↔◌, inl, ⊎_elim}
 use mathlib.Core.List.{List}
 use native.Mathlib.Decide.{dec_lt, ℕ_discrete}
 use native.Mathlib.Omega.{arith}

@@ -1,3 +1,4 @@
+pub mod Visiting
 pub mod Offering
 pub mod Turning
 pub mod Dijkstra

@@ -39,6 +39,7 @@ pub fn trees(n: usize, metric: &[u32], dist: &mut [u32], hops: &mut [Set])
 }
 
 // Are these the sizes that a search needs?
+#[tactic(auto, unfolding(crate::specs::Trees::are_sizes))]
 fn are_sizes(n: usize, cells: usize, distances: usize, sets: usize) -> bool
     ensures { result ≡ are_sizes n cells distances sets }
 {

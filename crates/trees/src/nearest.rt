@@ -8,6 +8,7 @@ use sets::{add, lowest, rest};
 
 // The nearest members of a set of routers: those that are at the same, least distance. Two tests without an `else` are
 // compiled to conditional moves; branches on the distances of an area are hard to predict.
+#[tactic(auto, using(crate::proofs::Visiting::lowest_inside))]
 pub(crate) fn nearest(set: Set, dist: &[u32]) -> Set
     requires { length dist.now ≡ width }
     ensures { Nearest dist.now set result }

@@ -45,6 +45,7 @@ pub(crate) fn tree(
 }
 
 // Each router of `next` offers its way to those that have a link to it and are not settled. They are handed back.
+#[tactic(auto, using(crate::proofs::Visiting::lowest_inside))]
 fn settle(
     metric: &[u32],
     links: &[Set],
@@ -76,6 +77,7 @@ fn settle(
 }
 
 // The settled router q offers its way to the routers of `ahead`, each over its link to q.
+#[tactic(auto, using(crate::proofs::Visiting::lowest_inside))]
 fn relax(metric: &[u32], q: usize, ahead: Set, dist: &mut [u32], hops: &mut [Set])
     requires metric_len { (length metric.now ≡ width * width) × (q < width) }
     requires dist_len { (length dist.old ≡ width) × (length hops.old ≡ width) }
