@@ -3,9 +3,9 @@
 --     text_lines, text_none    its lines; and nothing where there is no area
 --     text_room        `room` bytes have room for it
 --     text_read        decoded as a text in hexadecimal it is the bench file of the area
--- Each line says the bytes that it was printed for, and its comment says nothing (`Says` of the crate hexadecimal); so the
--- lines say these bytes one after another. A router fits a byte, and the metric of a used link fits three.
-use Rattle.std.specs.Prelude.{ℕ, zero, suc, ◌+◌, ◌*◌, ◌≤◌, ◌<◌, ◌≡◌, true, false, get_or}
+-- Each line says the bytes that it was printed for, and its comment says nothing (`Says` of the crate hexadecimal); so
+-- the lines say these bytes one after another. A router fits a byte, and the metric of a used link fits three.
+use Rattle.std.specs.Prelude.{ℕ, zero, suc, ◌*◌, ◌≤◌, ◌<◌, ◌≡◌, true, false, get_or}
 use Rattle.std.proofs.Math.Path.{refl}
 use Rattle.std.proofs.Common.{sym, ap, ◌∙◌, subst, ⊎_elim, arith, length-append}
 use mathlib.Core.List.{List, [], ◌∷◌, ◌++◌, append_assoc}

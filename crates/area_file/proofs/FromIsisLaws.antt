@@ -10,9 +10,11 @@
 --     isis_any                                 so does any metric table of the right size
 --     isis_again                               where the lists are accepted, the text, decoded and read by Read, gives
 --                                              the metric table that isis::read has filled
-use Rattle.std.specs.Prelude.{ℕ, ◌+◌, ◌*◌, ◌-◌, ◌≤◌, ◌<◌, min, ◌≡◌, Bool, true, false, not, ◌≢◌, eqb, length, take, drop}
+use Rattle.std.specs.Prelude.{ℕ, ◌+◌, ◌*◌, ◌-◌, ◌≤◌, ◌<◌, min, ◌≡◌, Bool, true, false, not, ◌≢◌, eqb, length, take}
+use Rattle.std.specs.Prelude.{drop}
 use Rattle.std.proofs.Math.Path.{refl, ap₂}
-use Rattle.std.proofs.Common.{sym, ap, ◌∙◌, subst, arith, length-drop, drop_of_length-le, take_all, get_or-take, length-take-le}
+use Rattle.std.proofs.Common.{sym, ap, ◌∙◌, subst, arith, length-drop, drop_of_length-le, take_all, get_or-take}
+use Rattle.std.proofs.Common.{length-take-le}
 use mathlib.Core.List.{List}
 use Rattle.std.proofs.Math.Decide.{dec_lt, ℕ_discrete}
 use borrow.Author.Tests.{lt-ltb, le-ltb, eq-eqb, ne_eqb, eqb-true, eqb-false, not-true, not-false}

@@ -1,14 +1,14 @@
 -- The bench file of an area of n routers with the metric table m: its links, no change, the hold time 0 and the step
 -- time 1, and no step (01, "The bench file"; 02, No. 10); as bytes, and as a text in hexadecimal with a comment in each
 -- line.
-use Rattle.std.specs.Prelude.{ℕ, zero, suc, ◌*◌, ◌/◌, ◌%◌, Bool, not, ◌&&◌, List, [], ◌∷◌, ◌++◌, eqb, ltb, length, get_or}
+use Rattle.std.specs.Prelude.{ℕ, zero, suc, ◌*◌, ◌/◌, ◌%◌, Bool, not, ◌&&◌, List, [], ◌∷◌, ◌++◌, eqb, ltb, length}
 use Rattle.area.specs.Limits.{width, unused}
 use Rattle.area.specs.Tests.{pick}
 use Rattle.area.specs.Sizes.{is_router_count, is_table}
 use Rattle.entries.specs.declared.Entry.{Entry}
 use Rattle.text.specs.Text.{word, field, line}
 use Rattle.hexadecimal.specs.Digits.{hexed}
-use Rattle.std.specs.Prelude.{◌+◌}
+use Rattle.std.specs.Prelude.{get_or, ◌+◌}
 
 -- ---- the links
 abbrev pub link : (from to metric : ℕ) → Entry

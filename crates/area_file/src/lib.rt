@@ -4,7 +4,7 @@
 //     is_listed        which cells of the table are links
 //     link_state       `from_isis`: the same by link-state data, which crate `isis` makes a metric table of
 // What is appended is specs/AreaFile.antt. That it says the bytes of a bench file, and how long it is, is
-// specs/AreaFileLaws.antt; that Read accepts this file and gives the table back is specs/ReadAgainLaws.antt.
+// proofs/AreaFileLaws.antt; that Read accepts this file and gives the table back is proofs/ReadAgainLaws.antt.
 #![tactic(auto)]
 
 mod link_state;
