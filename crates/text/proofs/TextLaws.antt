@@ -14,8 +14,10 @@
 -- Cutting off what does not fit may be done after each append or once at the end (take_again): so one append after
 -- another is an append. What is said of digits is by induction on how many there may be: a number below 10 is its own
 -- digit, and every other is the digits of a tenth of it, and one more.
-use Rattle.std.specs.Prelude.{ℕ, zero, suc, ◌+◌, ◌*◌, ◌-◌, ◌/◌, ◌%◌, ◌^◌, ◌≤◌, ◌<◌, ◌≡◌, refl, List, [], ◌∷◌, ◌++◌, length, get_or, take}
-use Rattle.std.proofs.Common.{sym, ap, ◌∙◌, append-nil, append_assoc, arith, not-suc-le-zero, div-lt_iff_lt-mul, pow-suc, add-one, lt-ltb, le-ltb, length-take, take_all, length-take-le}
+use Rattle.std.specs.Prelude.{ℕ, zero, suc, ◌+◌, ◌*◌, ◌-◌, ◌/◌, ◌%◌, ◌^◌, ◌≤◌, ◌<◌, ◌≡◌, refl, List, [], ◌∷◌, ◌++◌}
+use Rattle.std.specs.Prelude.{length, get_or, take}
+use Rattle.std.proofs.Common.{sym, ap, ◌∙◌, append-nil, append_assoc, arith, not-suc-le-zero, div-lt_iff_lt-mul}
+use Rattle.std.proofs.Common.{pow-suc, add-one, lt-ltb, le-ltb, length-take, take_all, length-take-le}
 use Rattle.std.proofs.Math.Decide.{dec_lt}
 use Rattle.std.proofs.Math.ListN.{length-append, get_or-append}
 use Rattle.std.proofs.Math.Seq.{get_or-append_seam}
