@@ -116,7 +116,7 @@ unfolding oks run
 run_counts [] held = omega arith
 run_counts {r = r} (c ∷ cs) held =
     let m = moves r c.kind c.a c.b in
-    omega (arith, move_counts held m, run_counts cs (move_held held m))
+    omega (arith, move_counts held m, run_counts {r = (step r c).next} cs (move_held held m))
 
 -- ---- the first record, and the last
 pub fresh_missing : (first : Record) → Start first → missing first ≡ needs first

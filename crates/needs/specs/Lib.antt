@@ -1,2 +1,2 @@
--- How many calls a change takes. First the definitions; then the laws about them.
+-- How many calls a change takes: the definitions. The laws about them are in proofs/.
 pub mod Needs

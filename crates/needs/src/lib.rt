@@ -3,8 +3,8 @@
 //     needs        in all, by the fresh record
 //     missing      how many are still to come, by a record on the way
 //     lent         the same by the parts of a record that they read
-// Both are definitions in specs/Needs.antt. specs/CountedLaws.antt has the one invariant of every list of calls,
-// specs/ProgressLaws.antt why none gets stuck, and specs/NeedsLaws.antt the promises themselves.
+// Both are definitions in specs/Needs.antt. proofs/CountedLaws.antt has the one invariant of every list of calls,
+// proofs/ProgressLaws.antt why none gets stuck, and proofs/NeedsLaws.antt the promises themselves.
 #![tactic(auto)]
 
 pub mod lent;

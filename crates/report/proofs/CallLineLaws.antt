@@ -8,7 +8,8 @@
 --     opening_called, turn_called, sheet_called    the calls before the turns, of a turn, and of a whole sheet
 --     section_whole, section_long                  the section, and one with too many steps
 --     places_called                                the calls of a sheet, by its places
-use Rattle.std.specs.Prelude.{ℕ, zero, suc, ◌+◌, ◌/◌, ◌%◌, ◌≤◌, ◌<◌, ◌≡◌, refl, Bool, true, false, List, [], ◌∷◌, ◌++◌, length, get_or}
+use Rattle.std.specs.Prelude.{ℕ, zero, suc, ◌+◌, ◌/◌, ◌%◌, ◌≤◌, ◌<◌, ◌≡◌, refl, Bool, true, false, List}
+use Rattle.std.specs.Prelude.{[], ◌∷◌, ◌++◌, length, get_or}
 use Rattle.std.proofs.Common.{sym, ap, subst, ◌∙◌, append-nil, append_assoc, add-one}
 use borrow.Author.Tests.{le-leb, lt-leb}
 use Rattle.area.specs.Limits.{most_steps}

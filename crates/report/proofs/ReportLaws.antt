@@ -2,19 +2,18 @@
 -- the steps are, and filled tables, each by an equation on the file. Where it refuses, that one line is the text. Where
 -- it does not, the record is Plan's, the steps are those of the file and the tables are filled by Plan, so their lines
 -- are the lines of the definition; and what the file was accepted for gives the bounds that the loops ask for.
---     lines_by, lines_of                          the lines of each text, by its name
+--     lines_of                                   the lines of each text, by its name
 --     rehearsal_appended, unfinished_appended    those of the rehearsal, and of what is left after it
 --     refused_printed, lines_printed             the refusal, or all lines
 --     text_refused                               the text where Read or Plan refuses
 --     rehearsal_whole, routes_whole, sheet_turns_whole, sheet_steps_whole, unfinished_whole
 --                                                the text where neither refuses
---     Within, Full, Ready, ready                 what the lines ask for, and that `prepare` gives it
+--     ready                                      `prepare` gives what the lines ask for (specs/Parts.antt)
 --     text_printed                               the text by what `prepare` gives
-use Rattle.std.specs.Prelude.{ℕ, ◌+◌, ◌*◌, ◌≤◌, ◌≡◌, ◌≢◌, List, ◌++◌, length, take, drop}
+use Rattle.std.specs.Prelude.{ℕ, ◌*◌, ◌≡◌, ◌≢◌, List, ◌++◌, drop}
 use Rattle.std.proofs.Math.Path.{refl}
 use Rattle.std.proofs.Common.{sym, ap, subst, ◌∙◌, arith, eq-eqb, ne_eqb, length-take}
 use Rattle.std.proofs.Math.Decide.{ℕ_discrete}
-use Rattle.area.specs.Limits.{width, longest_time, most_steps}
 use Rattle.area.proofs.SizeLaws.{router_count_most}
 use Rattle.plan.specs.declared.Record.{Record}
 use Rattle.plan.specs.Plan.{Tables}
@@ -42,7 +41,7 @@ use Rattle.report.specs.declared.Text.{Text}
 use Rattle.report.specs.declared.Text.TheVariants.{Rehearsal, Routes, SheetTurns, SheetSteps, Unfinished}
 use Rattle.report.specs.Parts.{step_bytes, Within, Full, Counted, Ready, lines_by}
 
--- the same of all tables
+-- the tables that are printed have all cells
 abbrev FullTables : (u : Tables) → Type 0
 FullTables u = Full u.old.distances u.old.hops u.new.distances u.new.hops
 

@@ -2,7 +2,8 @@
 -- is one short line. Otherwise a file has at most `width` routers and `most_steps` steps, and LengthLaws bounds the
 -- lines of each; `end` is the last one of a rehearsal and of the turns.
 --     rehearsal_room, routes_room, sheet_turns_room, sheet_steps_room, unfinished_room            so many bytes
---     rehearsal_room_lem, routes_room_lem, sheet_turns_room_lem, sheet_steps_room_lem, unfinished_room_lem     no text has more
+--     rehearsal_room_lem, routes_room_lem, sheet_turns_room_lem, sheet_steps_room_lem, unfinished_room_lem
+--                                                no text has more
 use Rattle.std.specs.Prelude.{ℕ, ◌+◌, ◌*◌, ◌≤◌, ◌≡◌, List, length, drop}
 use Rattle.std.proofs.Math.Decide.{ℕ_discrete}
 use Rattle.std.proofs.Common.{arith, length-append, length-take}

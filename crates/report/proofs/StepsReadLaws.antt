@@ -7,7 +7,8 @@
 --     steps_fit                                        up to 44 routers, a sheet without hold time never has too many
 --                                                      steps for a file
 --     section_read, steps_read                         the section of such calls, and the steps of a file's sheet
-use Rattle.std.specs.Prelude.{ℕ, zero, suc, ◌+◌, ◌/◌, ◌%◌, ◌≤◌, ◌<◌, ◌≡◌, Bool, true, false, List, [], ◌∷◌, ◌++◌, length, get_or}
+use Rattle.std.specs.Prelude.{ℕ, zero, suc, ◌+◌, ◌/◌, ◌%◌, ◌≤◌, ◌<◌, ◌≡◌, Bool, true, false, List}
+use Rattle.std.specs.Prelude.{[], ◌∷◌, ◌++◌, length, get_or}
 use Rattle.std.proofs.Common.{ap, ◌∙◌, add-one, arith, le-leb}
 use Rattle.std.proofs.Math.Decide.{dec_lt}
 use Rattle.area.specs.Limits.{width, longest_time, most_steps}

@@ -1,4 +1,4 @@
--- What the programs print for a bench file. First the definitions, in reading order; then the laws about them.
+-- What the programs print for a bench file: the definitions, in reading order. The laws about them are in proofs/.
 pub mod Lines
 pub mod Report
 pub mod Parts

@@ -1,6 +1,7 @@
 -- The lines that the programs print, as bytes: those of the rehearsal (01, "The rehearsal"; 02, No. 8), and those of
 -- the routes, of the running sheet and of what is left after the last step, which are our own (docs/DECISIONS.md).
-use Rattle.std.specs.Prelude.{ℕ, zero, suc, ◌+◌, ◌/◌, ◌%◌, Bool, not, ◌&&◌, List, [], ◌∷◌, ◌++◌, eqb, leb, length, get_or}
+use Rattle.std.specs.Prelude.{ℕ, zero, suc, ◌+◌, ◌/◌, ◌%◌, Bool, not, ◌&&◌, List, [], ◌∷◌}
+use Rattle.std.specs.Prelude.{◌++◌, eqb, leb, length, get_or}
 use Rattle.area.specs.Limits.{width, unreached, most_steps}
 use Rattle.area.specs.Tests.{pick}
 use Rattle.area.specs.Tables.{cell}

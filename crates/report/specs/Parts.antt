@@ -1,25 +1,31 @@
-use Rattle.std.specs.Prelude.{ℕ, ◌+◌, List, ◌++◌}
-use Rattle.machine.specs.Machine.{learn_kind, release_kind}
-use Rattle.machine.specs.Run.{Call, call, ticks}
-use Rattle.sheet.specs.Follow.{call_each}
-use Rattle.std.specs.Prelude.{◌*◌, ◌≤◌, ◌≡◌, length, take, drop}
+-- What the functions of src/ promise of the parts of a text, and what their lines ask for.
+--     opening, times_end           the calls before the turns of a sheet; a router's times, and the end of its line
+--     step_bytes, Within           the steps of a file, by where they are
+--     Full, Counted, Ready         what is known of the tables, of the calls of a sheet, and of all that is printed
+--     lines_by                     the lines of each text
+use Rattle.std.specs.Prelude.{ℕ, ◌+◌, ◌*◌, ◌≤◌, ◌≡◌, List, ◌++◌, length, take, drop}
 use Rattle.area.specs.Limits.{width, longest_time, most_steps}
 use Rattle.plan.specs.declared.Record.{Record}
+use Rattle.machine.specs.declared.states.State.{State}
+use Rattle.machine.specs.Machine.{learn_kind, release_kind}
+use Rattle.machine.specs.Run.{Call, call, ticks}
 use Rattle.needs.specs.Needs.{needs}
-use Rattle.sheet.specs.Follow.{sheet_calls}
-use Rattle.bench_file.specs.Sections.{routers, hold_time, steps}
+use Rattle.sheet.specs.Follow.{call_each, sheet_calls}
 use Rattle.bench_file.specs.declared.Section.{Section}
-use Rattle.report.specs.Lines.{rehearsal_lines, routes_lines, sheet_lines, step_section}
-use Rattle.report.specs.Lines.{unfinished_after}
+use Rattle.text.specs.Text.{word}
 use Rattle.report.specs.declared.Text.{Text}
 use Rattle.report.specs.declared.Text.TheVariants.{Rehearsal, Routes, SheetTurns, SheetSteps, Unfinished}
-use Rattle.machine.specs.declared.states.State.{State}
-use Rattle.text.specs.Text.{word}
-use Rattle.report.specs.Lines.{hold_text, wait_text}
+use Rattle.report.specs.Lines.{rehearsal_lines, routes_lines, sheet_lines, step_section}
+use Rattle.report.specs.Lines.{hold_text, wait_text, unfinished_after}
 
+-- all routers learn, the hold time goes by, and all are released
 abbrev pub opening : (n hold : ℕ) → List Call
 opening n hold =
     call_each n (λ x. call learn_kind x 0) ++ (ticks hold ++ call_each n (λ x. call release_kind x 0))
+
+-- until when a router holds, when its timer lets it go, and the end of its line
+abbrev pub times_end : (s : State) (waits until due : ℕ) → List ℕ
+times_end s waits until due = hold_text s until ++ (wait_text s waits due ++ word "\n")
 
 -- the steps of a file, by where they are
 abbrev pub step_bytes : (f : List ℕ) (s : Section) → List ℕ
@@ -54,6 +60,3 @@ lines_by Routes r bytes d h e g = routes_lines d h e g r.n
 lines_by SheetTurns r bytes d h e g = sheet_lines r
 lines_by SheetSteps r bytes d h e g = step_section (sheet_calls r)
 lines_by Unfinished r bytes d h e g = unfinished_after r bytes
-
-abbrev pub times_end : (s : State) (waits until due : ℕ) → List ℕ
-times_end s waits until due = hold_text s until ++ (wait_text s waits due ++ word "\n")

@@ -11,11 +11,11 @@
 // line. This is how a metric of the file gets to a line: `prepare` puts it into the table `old`, Plan fills the tables
 // of distances and next hops, and the routes print these; the rehearsal prints the ranks and sets of Plan's record, and
 // the sheet is the order that `sheet::in_turn` finds for this record.
-// What is printed is specs/Report.antt, made of the lines of specs/Lines.antt. Why it is right: specs/LineLaws.antt,
+// What is printed is specs/Report.antt, made of the lines of specs/Lines.antt. Why it is right: proofs/LineLaws.antt,
 // SheetLineLaws.antt, UnfinishedLaws.antt and CallLineLaws.antt join the parts of a line, and a line to those before
-// it; specs/ReportLaws.antt goes from what `prepare` gives to the whole text; specs/RoomLaws.antt says that ROOM bytes
-// are enough for it, and specs/FirstBytesLaws.antt that 33,089 bytes of an input are. specs/StepsReadLaws.antt reads
-// the steps of the sheet again: they are the calls that the sheet stands for.
+// it; proofs/ReportLaws.antt goes from what `prepare` gives to the whole text; proofs/RoomLaws.antt says that ROOM
+// bytes are enough for it, and proofs/FirstBytesLaws.antt that 33,089 bytes of an input are. proofs/StepsReadLaws.antt
+// reads the steps of the sheet again: they are the calls that the sheet stands for.
 #![tactic(auto)]
 
 mod all_routes;

@@ -207,6 +207,7 @@ fn named_set(name: &[u8], set: Set, out: &mut [u8], at: usize) -> usize
 }
 
 // The members of a set, or that it has none.
+#[tactic(auto, using(crate::proofs::SheetLineLaws::set_none, crate::proofs::SheetLineLaws::set_some))]
 fn set_text(set: Set, out: &mut [u8], at: usize) -> usize
     requires { at ≤ length out.old }
     ensures text { Appended out.old at (set_text set) out.new result }

@@ -1,0 +1,12 @@
+use Rattle.std.proofs.Common.{◌≡◌, arith}
+use Rattle.report.proofs.CallLineLaws.{each_start, each_next}
+use Rattle.report.proofs.step_section.member_calls.Goals as goal
+
+pub loop-x-init : goal.loop-x-init
+loop-x-init c = each_start _ _ _ c.requires.1
+
+pub loop-x-preserved : goal.loop-x-preserved
+loop-x-preserved c = each_next _ _ c.loop-x.invariant c.member_call-at.ensures.lines
+
+pub returns : goal.returns
+returns c = let all : c.loop-x.x ≡ c.args.n = omega arith in record { lines = rw all at c.loop-x.invariant }
