@@ -1,8 +1,9 @@
 -- The definitions agree with every row of the list of small areas.
 --     agreed           the theorem
-use Rattle.std.specs.Prelude.{◌≡◌, refl, ◌++◌}
+use Rattle.std.specs.Prelude.{refl, ◌++◌}
 use Rattle.small_areas.specs.Questions.{answer}
-use Rattle.small_areas.specs.SmallAreas.{Agree, ten_steps, hub, cases, sheets, orders, half_links, dead_links, isis_areas, isis_faults, largest, counted, five_next_hops, timers, rehearsed}
+use Rattle.small_areas.specs.SmallAreas.{Agree, ten_steps, hub, cases, sheets, orders, half_links, dead_links}
+use Rattle.small_areas.specs.SmallAreas.{isis_areas, isis_faults, largest, counted, five_next_hops, timers, rehearsed}
 
 -- The definitions agree with the list: both sides are computed, in each of its 89 rows.
 last_rows : Agree rehearsed
@@ -29,14 +30,17 @@ isis_rows : Agree (isis_faults ++ largest ++ counted ++ five_next_hops ++ timers
 unfolding answer
 isis_rows = (refl, (refl, (refl, (refl, (refl, (refl, (refl, (refl, (refl, (refl, (refl, (refl, large_rows))))))))))))
 
-dead_rows : Agree (dead_links ++ isis_areas ++ isis_faults ++ largest ++ counted ++ five_next_hops ++ timers ++ rehearsed)
+dead_rows :
+    Agree
+    (dead_links ++ isis_areas ++ isis_faults ++ largest ++ counted ++ five_next_hops ++ timers ++ rehearsed)
 unfolding answer ten_steps
 dead_rows =
     (refl, (refl, (refl, (refl, (refl, (refl, (refl, (refl, (refl, (refl, (refl, (refl, (refl, isis_rows)))))))))))))
 
 half_rows :
     Agree
-    (half_links ++ dead_links ++ isis_areas ++ isis_faults ++ largest ++ counted ++ five_next_hops ++ timers ++ rehearsed)
+    (half_links ++ dead_links ++ isis_areas ++ isis_faults ++ largest ++ counted ++ five_next_hops ++ timers
+    ++ rehearsed)
 unfolding answer
 half_rows = (refl, (refl, (refl, (refl, (refl, (refl, (refl, (refl, (refl, (refl, (refl, dead_rows)))))))))))
 

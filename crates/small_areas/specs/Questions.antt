@@ -20,8 +20,8 @@ use Rattle.plan.specs.declared.Record.{Record}
 use Rattle.plan.specs.NewMetrics.{new_cell, new_metrics}
 use Rattle.plan.specs.Direction.{are_at_most, is_same, is_rise, is_fall}
 use Rattle.plan.specs.Waiting.{old_hops, new_hops, old_fours, new_fours, waiting, telling}
-use Rattle.plan.specs.Plan.{Tables, are_tables, change_refusal, plan_refusal, is_planned, fresh, blank, filled, record_of}
-use Rattle.plan.specs.Plan.{tables_of}
+use Rattle.plan.specs.Plan.{Tables, are_tables, change_refusal, plan_refusal, is_planned, fresh, blank, record_of}
+use Rattle.plan.specs.Plan.{filled, tables_of}
 use Rattle.machine.specs.Answers.{Reply, refused}
 use Rattle.machine.specs.Machine.{learn, release, must_wait, ready, write, finish, listens, deliver, tick, is_sound}
 use Rattle.machine.specs.Machine.{is_kind, reads_a, reads_b, are_routers, call_of, step_of}
@@ -171,18 +171,18 @@ times_of n r = r.hold_time ∷ r.step_time ∷ r.clock ∷ take n r.learn_times
 -- under the signature are what has to be unfolded to compute it.
 unfoldable pub answer : (f : List ℕ) (q : Question) → Value q
 unfolding read_refusal file_refusal most_links dead_refusal link_refusal rest_refusal contents_of contents no_contents
-    metrics_by linked all first bit set_of added removed without subset is_router_count is_table build tabulate per_router
-    entry_count entry_of is_free entry_refusal listed_refusal listed_metric is_link topology sums least
-    Rattle.topology.specs.Distance.distance is_next next_hops is_metric are_metrics are_paths paths_refusal distance_cell
-    hop_cell four_cell Rattle.sets.specs.Four.four filled_paths paths_of are_at_most is_same is_rise is_fall is_common
-    Rattle.changes.specs.Root.root new_cell new_metrics old_hops new_hops old_fours new_fours waiting telling
-    Rattle.plan.specs.Waiting.due greatest above longest rank are_tables change_refusal plan_refusal is_planned fresh
-    blank filled record_of tables_of learn release must_wait ready write finish listens deliver tick is_sound is_kind
-    reads_a reads_b are_routers call_of step_of calls_of run replies lowest placed sheet_of total size counts.needs
-    counts.missing digits decimal field line Rattle.prepare.specs.Bench.refusal refused_line router_line router_lines
-    answer_text step_line step_lines rehearsal live live_count rewritten written item_at items_from items_at rows_refusal
-    row_of is_of neighbour_refusal items_refusal lowest_to length_at list_refusal listed_to lists_refusal area_refusal
-    isis_refusal listed no_links isis_metrics
+    metrics_by linked all first bit set_of added removed without subset is_router_count is_table build tabulate
+    per_router entry_count entry_of is_free entry_refusal listed_refusal listed_metric is_link topology sums least
+    Rattle.topology.specs.Distance.distance is_next next_hops is_metric are_metrics are_paths paths_refusal
+    distance_cell hop_cell four_cell Rattle.sets.specs.Four.four filled_paths paths_of are_at_most is_same is_rise
+    is_fall is_common Rattle.changes.specs.Root.root new_cell new_metrics old_hops new_hops old_fours new_fours
+    waiting telling Rattle.plan.specs.Waiting.due greatest above longest rank are_tables change_refusal plan_refusal
+    is_planned fresh blank filled record_of tables_of learn release must_wait ready write finish listens deliver tick
+    is_sound is_kind reads_a reads_b are_routers call_of step_of calls_of run replies lowest placed sheet_of total
+    size counts.needs counts.missing digits decimal field line Rattle.prepare.specs.Bench.refusal refused_line
+    router_line router_lines answer_text step_line step_lines rehearsal live live_count rewritten written item_at
+    items_from items_at rows_refusal row_of is_of neighbour_refusal items_refusal lowest_to length_at list_refusal
+    listed_to lists_refusal area_refusal isis_refusal listed no_links isis_metrics
 answer f refusal = or_then (read_refusal f lent) (refused_by f)
 answer f root = (planned f).root
 answer f ranks = take (routers f) (planned f).ranks

@@ -124,18 +124,18 @@ rehearsal_is = refl
 
 -- ---- the list
 -- a question and its answer
-record Result : Type 0 where
-  asked : Question
-  value : Value asked
+pub record Result : Type 0 where
+  pub asked : Question
+  pub value : Value asked
 
 infix 70 ◌is◌
 abbrev ◌is◌ : (q : Question) → Value q → Result
 q is v = record { asked = q; value = v }
 
 -- a row: a file, and the results on it
-record Case : Type 0 where
-  file : List ℕ
-  results : List Result
+pub record Case : Type 0 where
+  pub file : List ℕ
+  pub results : List Result
 
 abbrev case : (f : List ℕ) (rs : List Result) → Case
 case f rs = record { file = f; results = rs }
@@ -742,7 +742,7 @@ whole_text = case rehearsal (printed is (router_lines ++ needs_line ++ step_line
 abbrev pub rehearsed : List Case
 rehearsed = replied ∷ whole_text ∷ []
 
--- ---- the theorem
+-- ---- all rows, and what the theorem says of them
 unfoldable pub cases : List Case
 cases =
     C1 ∷ C2 ∷ C3 ∷ C4 ∷ C5 ∷ C6 ∷ C7 ∷ C8 ∷ C9 ∷ C10 ∷ C11 ∷ C12 ∷ C13

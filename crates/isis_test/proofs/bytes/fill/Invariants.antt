@@ -1,0 +1,6 @@
+-- Less than 2,048 bytes are filled.
+use Rattle.std.proofs.Common.{◌<◌}
+use Rattle.isis_test.proofs.bytes.fill.Given as goal
+
+abbrev pub invariant-loop-at : goal.invariant-loop-at
+invariant-loop-at l = l.reading.length < 2048
