@@ -1,3 +1,1 @@
--- What the proofs of the moves share.
-mod Moving
 pub mod OutcomeLaws

@@ -18,6 +18,7 @@ use area::refusal::Refusal;
 use machine::{Answer, DELIVER, DONE, LEARN, RELEASE, TICK, WRITE};
 
 // One step, by its kind: first the tests of the record, of the kind and of the routers, then the call.
+#[tactic(auto, using(machine::proofs::StepLaws::sound_most), unfolding(machine::specs::Machine::step_of, machine::specs::Machine::are_routers, machine::specs::Machine::reads_a))]
 pub fn step(
     n: u8,
     ranks: &[u8; WIDTH],
@@ -170,6 +171,7 @@ fn call_two(
 }
 
 // Is this one of the six kinds?
+#[tactic(auto, unfolding(machine::specs::Machine::is_kind))]
 fn is_kind(kind: u8) -> bool
     ensures { result ≡ is_kind kind }
 {
@@ -183,6 +185,7 @@ fn is_kind(kind: u8) -> bool
 }
 
 // Does a call of this kind read b?
+#[tactic(auto, unfolding(machine::specs::Machine::reads_b))]
 fn reads_b(kind: u8) -> bool
     ensures { result ≡ reads_b kind }
 {
@@ -196,6 +199,7 @@ fn reads_b(kind: u8) -> bool
 }
 
 // Is n a number of routers, and is every state one of the four?
+#[tactic(auto, unfolding(machine::specs::Machine::is_sound, area::specs::Sizes::is_router_count))]
 fn is_record(n: u8, states: &[u8; WIDTH]) -> bool
     ensures { result ≡ is_sound n states.now }
 {

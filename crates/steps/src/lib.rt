@@ -7,7 +7,8 @@
 //     moves, messages, timers  the call of each kind: learn, release, write and finish of one router, deliver between
 //                              two, and tick. Here a router's entries are read and written, by its index
 // The machine is defined in the crate machine, specs/Machine.antt. What the functions over lent tables promise of it
-// has a name in specs/Lent.antt; their proofs cite a law of machine's StepLaws for each way that a call can end.
+// has a name in specs/Lent.antt. The proofs of the calls open the machine's definitions; that of `lent::step` cites a
+// law of machine's StepLaws for each way that it can end.
 #![tactic(auto)]
 
 pub mod lent;

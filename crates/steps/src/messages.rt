@@ -12,6 +12,7 @@ use machine::{Answer, DONE, HOLDING, ONGOING};
 use sets::{member, remove};
 
 // The message that the sender is done arrives at the receiver.
+#[tactic(auto, unfolding(machine::specs::Machine::deliver))]
 pub(crate) fn deliver(
     waiting: &mut [Set; WIDTH],
     telling: &[Set; WIDTH],
@@ -39,6 +40,7 @@ pub(crate) fn deliver(
 }
 
 // Does a router in this state, which waits for these routers, listen for the message of the sender?
+#[tactic(auto, unfolding(machine::specs::Machine::listens))]
 fn listens(state: u8, waits: Set, sender: usize) -> bool
     ensures { result ≡ listens state waits sender }
 {

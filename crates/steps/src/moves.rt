@@ -14,6 +14,7 @@ use machine::states::{Event, NextState, named};
 use sets::{add, is_subset, member};
 
 // A router learns of the change.
+#[tactic(auto, unfolding(machine::specs::Machine::learn))]
 pub(crate) fn learn(
     states: &mut [u8; WIDTH],
     clock: u32,
@@ -33,6 +34,7 @@ pub(crate) fn learn(
 }
 
 // The hold-down of a router is over.
+#[tactic(auto, unfolding(machine::specs::Machine::release))]
 pub(crate) fn release(
     states: &mut [u8; WIDTH],
     hold_time: u16,
@@ -56,6 +58,7 @@ pub(crate) fn release(
 }
 
 // A router writes its new next hops to destination d.
+#[tactic(auto, unfolding(machine::specs::Machine::write, machine::specs::Machine::ready))]
 pub(crate) fn write(
     ranks: &[u8; WIDTH],
     waiting: &[Set; WIDTH],
@@ -94,6 +97,7 @@ pub(crate) fn write(
 }
 
 // A router has written all that is due, and is done.
+#[tactic(auto, unfolding(machine::specs::Machine::finish, machine::specs::Machine::ready))]
 pub(crate) fn finish(
     ranks: &[u8; WIDTH],
     waiting: &[Set; WIDTH],

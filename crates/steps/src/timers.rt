@@ -24,6 +24,7 @@ pub fn due_time(learn_time: u32, hold_time: u16, rank: u8, step_time: u16) -> u6
 }
 
 // Must a router that waits for these routers go on waiting?
+#[tactic(auto, unfolding(machine::specs::Machine::must_wait))]
 pub(crate) fn must_wait(waits_for: Set, clock: u32, due: u64) -> bool
     ensures { result ≡ must_wait waits_for clock due }
 {
@@ -35,6 +36,7 @@ pub(crate) fn must_wait(waits_for: Set, clock: u32, due: u64) -> bool
 }
 
 // The clock goes on by one.
+#[tactic(auto, unfolding(machine::specs::Machine::tick))]
 pub(crate) fn tick(clock: &mut u32) -> Answer
     ensures { Ticks clock.old clock.new (reply_of result) }
 {
