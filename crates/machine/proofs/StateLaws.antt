@@ -1,11 +1,12 @@
 -- Step goes by `next_state`, for the four kinds of calls that are events of a router.
 --     next_at, next_none, next_to      from which state an event leads on, and where to
---     learn_none .. finish_to          the calls, by the next state; the proofs of the crate steps cite these. For a
---                                      release there is one too where it comes too early
+--     learn_none .. finish_to          the calls, by the next state. For a release there is one too where it comes too
+--                                      early
 --     state_after                      after ok, the next state is the state of a in the record that is handed back
 --     others_stay                      all other routers keep their states
 --     none_23                          there is no next state exactly where the reply is 23
-use Rattle.std.specs.Prelude.{ℕ, zero, suc, ◌≤◌, ◌<◌, ◌≡◌, refl, Bool, true, false, not, ◌||◌, ◌≢◌, ◌↔◌, eqb, ltb, length}
+use Rattle.std.specs.Prelude.{ℕ, zero, suc, ◌≤◌, ◌<◌, ◌≡◌, refl, Bool, true, false, not, ◌||◌, ◌≢◌, ◌↔◌}
+use Rattle.std.specs.Prelude.{eqb, ltb, length}
 use Rattle.std.proofs.Common.{sym, ap, ◌∙◌, eqb-true, eq-eqb, ne_eqb, get_or-set_same, get_or-set_other}
 use Rattle.std.proofs.lemmas.Bool.{false≢true}
 use native.Mathlib.Omega.{arith}

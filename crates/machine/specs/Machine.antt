@@ -1,7 +1,7 @@
 -- Step (01, "The steps"; 02, No. 10): the machine over a plan's record, for every record r, every kind and all numbers
 -- a and b. First the words: states, kinds, a router's entries and times, the record with an entry replaced. Then a
--- definition for each kind (`learn` .. `tick`), the refusals that come before (`is_record`, `is_kind`, `are_routers`), and
--- Step: `step_of`.
+-- definition for each kind (`learn` .. `tick`), the refusals that come before (`is_record`, `is_kind`, `are_routers`),
+-- and Step: `step_of`.
 -- `set t a s` is the table t with s as its entry a.
 use Rattle.std.specs.Prelude.{ℕ, ◌+◌, ◌*◌, Bool, not, ◌&&◌, ◌||◌, List, eqb, leb, ltb, get_or, set}
 use Rattle.area.specs.Limits.{width, last_time}

@@ -6,7 +6,7 @@
 //     States       the next state, a line for each state and event: `next_state`
 //     Run          lists of calls, and what a router has written by them: `run`, `replies`, `has_written`
 //     Timely       what is supposed of a list of calls that holds ticks: `Timely`
-//     StepLaws     a law for each way that a call can end; the proofs of the crate steps cite them
+//     StepLaws     a law for each way that a call can end; the proofs of the crate steps cite some of them
 //     StateLaws    Step goes by `next_state`; the proofs of the crate steps cite these too
 //     MoveLaws     the ways in which a call changes the record: `Move`
 //     CallLaws     bytes and the calls that they stand for
