@@ -6,7 +6,8 @@
 --     move_counts, run_counts                          one call, and every list of calls
 --     fresh_missing                                    at first all that the change needs is missing
 --     none_missing, missing_done, missing_heard        in the end nothing is, and only then
-use Rattle.std.specs.Prelude.{ℕ, suc, ◌+◌, ◌*◌, ◌-◌, ◌≤◌, ◌<◌, ◌≡◌, refl, true, false, not, ◌&&◌, List, [], ◌∷◌, length, get_or, set}
+use Rattle.std.specs.Prelude.{ℕ, suc, ◌+◌, ◌*◌, ◌-◌, ◌≤◌, ◌<◌, ◌≡◌, refl, true, false, not, ◌&&◌, List, [], ◌∷◌, length}
+use Rattle.std.specs.Prelude.{get_or, set}
 use Rattle.std.proofs.Common.{sym, ap, ◌∙◌, arith, get_or-set_same, get_or-set_other}
 use Rattle.area.specs.Limits.{width}
 use Rattle.area.proofs.TestLaws.{and_true, and_false}

@@ -6,7 +6,8 @@
 --     sheet_uncounted                  of a sheet, the ticks
 --     fresh_length, sheet_length       the calls of a plan's sheet, by its fresh record and by what Plan hands back
 --     fresh_fits, sheet_fits           up to so many routers, those that count never exceed the steps of a bench file
-use Rattle.std.specs.Prelude.{ℕ, zero, suc, ◌+◌, ◌≤◌, ◌≡◌, refl, Bool, true, false, not, ◌&&◌, List, [], ◌∷◌, ◌++◌, length, get_or}
+use Rattle.std.specs.Prelude.{ℕ, zero, suc, ◌+◌, ◌≤◌, ◌≡◌, refl, Bool, true, false, not, ◌&&◌, List, [], ◌∷◌, ◌++◌}
+use Rattle.std.specs.Prelude.{length, get_or}
 use Rattle.std.proofs.Common.{ap, arith}
 use Rattle.area.specs.Limits.{longest_time, most_steps}
 use Rattle.area.specs.Tests.{pick}

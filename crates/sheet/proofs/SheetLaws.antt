@@ -261,7 +261,7 @@ module _ (r : Record) where
   pub sheet_size : length (sheet_of r) ≡ width
   unfolding sheet_of
   sheet_size = elim (dec_le r.n width) [
-    | yes h ↦ rw (le-leb r.n width h) (per_length width r.n place)
+    | yes h ↦ rw (le-leb r.n width h) (per_length width r.n _)
     | no f ↦ rw (lt-leb r.n width (omega arith)) (length-replicate {A = ℕ} width 0)
   ]
 
@@ -272,7 +272,7 @@ module _ (r : Record) where
   pub sheet_beyond : (k : ℕ) → r.n ≤ k → get_or (sheet_of r) k 0 ≡ 0
   unfolding sheet_of
   sheet_beyond k h = elim (dec_lt k width) [
-    | yes l ↦ rw (le-leb r.n width (omega arith)) (per_beyond width r.n place k h l)
+    | yes l ↦ rw (le-leb r.n width (omega arith)) (per_beyond width r.n _ k h l)
     | no f ↦ get_or-eq_default (sheet_of r) 0 (omega (arith, sheet_size))
   ]
 

@@ -1,3 +1,3 @@
--- The running sheet. First the definitions; then the laws about them.
+-- The running sheet: the definitions. The laws about them are in proofs/.
 pub mod Sheet
 pub mod Follow

@@ -5,8 +5,9 @@
 //     by_turns      the loop: at each place the router that comes next
 //     next_after    the lowest router that could come after those that are placed
 //     could_come    whether a router could
-// What they promise is specs/Sheet.antt; what makes it a sheet is specs/SheetLaws.antt. The calls of following a sheet
-// are specs/Follow.antt; that they finish every router is specs/FollowLaws.antt, and how many they are LengthLaws.antt.
+// What they promise is specs/Sheet.antt; what makes it a sheet is proofs/SheetLaws.antt. The calls of following a sheet
+// are specs/Follow.antt; that they finish every router is proofs/FollowLaws.antt, and how many they are
+// proofs/LengthLaws.antt.
 #![tactic(auto)]
 
 ghost use Rattle.std.specs.Prelude.{◌≡◌, not, ◌&&◌, ◌≤◌, get_or};
