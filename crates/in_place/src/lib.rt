@@ -1,9 +1,8 @@
 // The bench's single record: one call changes it in place, with the effect of the machine's step.
 //     apply        the step on a lent record
 //     applied      the same for callers that hold the record by value
-// Both contracts are the machine's `step_of` (crate machine, specs/Machine.antt). The toolchain makes no proof of a
-// function over a reference to a struct, so both are proved by hand, statement after statement; what the two proofs
-// share is proofs/Walking.antt.
+// Both contracts are the machine's `step_of` (crate machine, specs/Machine.antt). The toolchain proves both without a
+// proof file.
 #![tactic(auto)]
 
 ghost use Rattle.std.specs.Prelude.{◌≡◌};
