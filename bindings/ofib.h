@@ -1,6 +1,6 @@
 // The ordered FIB bench for C and C++: the eleven functions of the proved static library, x86-64 Linux.
 //
-//     rt staticlib exports                                     # makes target/staticlib/libexports.a
+//     tools/build exports                                      # makes target/staticlib/libexports.a
 //     cc -I bindings program.c target/staticlib/libexports.a   # it needs memcpy and memset, and nothing else
 //
 // The words are those of README.md. What each function gives is an equation with a definition, on every input: the
