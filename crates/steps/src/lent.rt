@@ -18,7 +18,7 @@ use area::refusal::Refusal;
 use machine::{Answer, DELIVER, DONE, LEARN, RELEASE, TICK, WRITE};
 
 // One step, by its kind: first the tests of the record, of the kind and of the routers, then the call.
-#[tactic(auto, using(machine::proofs::StepLaws::sound_most), unfolding(machine::specs::Machine::step_of, machine::specs::Machine::are_routers, machine::specs::Machine::reads_a))]
+#[tactic(auto, using(crate::proofs::StepEnds::step_ends))]
 pub fn step(
     n: u8,
     ranks: &[u8; WIDTH],
