@@ -9,7 +9,7 @@
 //     ofib_rehearse, ofib_routes      the texts that the programs print
 // Module `fields` takes a record from its fields and puts it back, and makes a number of a step's answer. Each function
 // promises what the call under it promises: the same definitions, over the numbers of specs/Fields.antt and
-// specs/Exports.antt. What the proofs have beside the contracts of those calls is proofs/Handing.antt.
+// specs/Exports.antt. How such an equation is handed on is proofs/Handing.antt.
 #![tactic(auto)]
 
 mod fields;
