@@ -1,6 +1,6 @@
 // Reads link-state data from standard input, and writes the bench file of its area as a text in hexadecimal, or the
-// line that says why there is none. What is written is `isis_text` of crates/area_file/specs/FromIsis.antt, the whole of
-// it, of the whole input; this program has buffers with room for both.
+// line that says why there is none. What is written is `isis_text` of crates/area_file/specs/FromIsis.antt, the whole
+// of it, of the whole input; this program has buffers with room for both.
 #![tactic(auto)]
 
 ghost use Rattle.std.specs.Prelude.{◌≡◌, List, ℕ, ◌+◌, ◌≤◌, ◌<◌, length, take};

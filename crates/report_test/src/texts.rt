@@ -17,10 +17,15 @@ pub fn print(rt: &HostRuntime, words: &[u8], file: &[u8]) {
     }
 }
 
-// No text has more bytes than the routes. One that may be cut is printed with a line end after it.
+// No text has more bytes than the routes.
 fn of_file(rt: &HostRuntime, words: &[u8], file: &[u8]) {
     let mut out = [0u8; ROUTES_ROOM];
-    let length = text(words, file, &mut out);
+    lend(rt, words, file, &mut out);
+}
+
+// Prints the text of a file. One that may be cut is printed with a line end after it.
+fn lend(rt: &HostRuntime, words: &[u8], file: &[u8], out: &mut [u8; ROUTES_ROOM]) {
+    let length = text(words, file, out);
     summary::print(rt, &out[..length]);
     if has(words, b'o') {
         print::byte(rt, b'\n');

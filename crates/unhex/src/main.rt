@@ -1,6 +1,7 @@
 // Reads a text in hexadecimal from standard input, and writes the bytes that it stands for to standard output, or the
 // line of its first fault to standard error. What is no text goes to standard output as it is, up to the most bytes
-// that are read, which no bench file has. What is written is specs/Unhex.antt; what a text stands for is crates/hexadecimal.
+// that are read, which no bench file has. What is written is specs/Unhex.antt; what a text stands for is
+// crates/hexadecimal.
 #![tactic(auto)]
 
 ghost use Rattle.std.specs.Prelude.{◌≡◌, List, ℕ, ◌+◌, ◌≤◌, length, take};
