@@ -1,2 +1,2 @@
--- What the program writes. First the definitions, then the laws about them.
+-- What the program writes. The laws about it are in proofs/.
 pub mod Unhex
