@@ -1,2 +1,2 @@
--- What the programs say of the input that they read. First the definition, then the law about it.
+-- What the programs say of the input that they read. The law about it is in proofs/.
 pub mod Streams
