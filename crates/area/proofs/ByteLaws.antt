@@ -2,7 +2,7 @@
 --     byte_missing, two_missing    past the end of the list there is 0
 --     byte_same                    bytes of a number are known by it: for each further byte, high bytes first
 use Rattle.std.specs.Prelude.{ℕ, ◌+◌, ◌*◌, ◌≤◌, ◌<◌, ◌≡◌, List, length, get_or}
-use Rattle.std.proofs.Common.{sym, ◌∙◌, arith}
+use Rattle.std.proofs.Common.{sym, arith}
 use Rattle.std.proofs.Math.ListN.{get_or-eq_default}
 use Rattle.area.specs.Bytes.{two}
 

@@ -3,7 +3,7 @@
 --     refusal_positive     no refusal has the number 0
 --     same_refusal         refusals with the same number are the same
 --     same_verdict         and so are answers
-use Rattle.std.specs.Prelude.{ℕ, ◌≤◌, ◌≡◌, refl, eqb}
+use Rattle.std.specs.Prelude.{ℕ, ◌≤◌, ◌≡◌, refl, eqb, Result, Ok, Err}
 use Rattle.std.proofs.Common.{sym, ap, ◌∙◌, arith}
 use Rattle.area.specs.declared.refusal.Refusal.{Refusal}
 use Rattle.area.specs.declared.refusal.Refusal.TheVariants.{Incomplete, Trailing, RouterCount}
@@ -13,8 +13,6 @@ use Rattle.area.specs.declared.refusal.Refusal.TheVariants.{Mixed, NoCommonRoute
 use Rattle.area.specs.declared.refusal.Refusal.TheVariants.{Waiting, NotDue, Unwritten, NotDone, NotTold}
 use Rattle.area.specs.declared.refusal.Refusal.TheVariants.{DeadLink, PastList, LongSubTlvs, UnknownIdentity}
 use Rattle.area.specs.declared.refusal.Refusal.TheVariants.{TooEarly, ClockEnd, NoStepTime}
-use Rattle.area.specs.declared.refusal.Verdict.{Verdict}
-use Rattle.area.specs.declared.refusal.Verdict.TheVariants.{Accepted, Refused}
 use Rattle.area.specs.Tests.{pick}
 use Rattle.area.specs.Refusals.{refusal_number, verdict_number}
 use Rattle.area.specs.Refusals.{incomplete, trailing, router_count, unknown_router, self_link, bad_metric, repeated}
@@ -117,8 +115,8 @@ refusal_positive NoStepTime = omega arith
 pub same_refusal : (j k : Refusal) → refusal_number j ≡ refusal_number k → j ≡ k
 same_refusal j k e = sym (of_number j) ∙ ap numbered e ∙ of_number k
 
-pub same_verdict : (v w : Verdict) → verdict_number v ≡ verdict_number w → v ≡ w
-same_verdict Accepted Accepted e = refl
-same_verdict Accepted (Refused k) e = absurd (let x : ⊥ = omega (arith, refusal_positive k) in x)
-same_verdict (Refused j) Accepted e = absurd (let x : ⊥ = omega (arith, refusal_positive j) in x)
-same_verdict (Refused j) (Refused k) e = ap Refused (same_refusal j k e)
+pub same_verdict : (v w : Result Unit Refusal) → verdict_number v ≡ verdict_number w → v ≡ w
+same_verdict (Ok _) (Ok _) e = refl
+same_verdict (Ok _) (Err k) e = absurd (let x : ⊥ = omega (arith, refusal_positive k) in x)
+same_verdict (Err j) (Ok _) e = absurd (let x : ⊥ = omega (arith, refusal_positive j) in x)
+same_verdict (Err j) (Err k) e = ap Err (same_refusal j k e)

@@ -10,7 +10,8 @@
 --     over_start, over_lent, over_more, over_all
 --                                      this holds of the table of g; what is lent then; with one row more; after n rows
 use Rattle.std.specs.Prelude.{ℕ, ◌+◌, ◌*◌, ◌-◌, ◌<◌, ◌≤◌, ◌≡◌, refl, List, ◌++◌, length, get_or, take, drop, ltb}
-use Rattle.std.proofs.Common.{sym, ap, ◌∙◌, subst, ⊎_elim, arith, eq-or-lt_of_le, length-take, length-drop, get_or-take, get_or-drop, get_or-append-add, length-take-le, lt-ltb, le-ltb}
+use Rattle.std.proofs.Common.{sym, ap, ◌∙◌, subst, ⊎_elim, arith, eq-or-lt_of_le, length-take, length-drop}
+use Rattle.std.proofs.Common.{get_or-take, get_or-drop, get_or-append-add, length-take-le, lt-ltb, le-ltb}
 use Rattle.std.proofs.Math.Decide.{dec_lt}
 use Rattle.std.proofs.Math.ListN.{get_or-append}
 use borrow.Rule.Slice.PartMut.{put_mid, post_of, same_len_mid, drop_put}

@@ -1,13 +1,16 @@
 -- Laws of tables, once for every width w. The place of the cell (i, j) is w * i + j, and division by w gives i and j
 -- back: so a table is known by its cells.
---     length_build, build_at, is_build     a list by its elements
+--     length_build, replicate_is, build_at, is_build     a list by its elements
 --     Front, front_none, front_more        a list that is written from its first element on
 --     rows_le, cell_in, row_of, column_of  the places of cells
 --     length_tabulate, cell_tabulate, is_tabulate, places_tabulate
 --                                          a table by its cells, and by its places
 --     tabulate_mapped                      a table made place by place from another
-use Rattle.std.specs.Prelude.{ℕ, zero, suc, ◌+◌, ◌*◌, ◌/◌, ◌%◌, ◌≤◌, ◌<◌, ◌≡◌, refl, List, length, get_or, set}
-use Rattle.std.proofs.Common.{sym, ap, ap₂, ◌∙◌, ⊎_elim, not-suc-le-zero, eq-or-lt_of_le, mul-le-mul_left, mul_comm, div-add-mod', div-lt_iff_lt-mul, mod-lt, mod-eq_of_lt, arith, ext_get_or, get_or-set_same, get_or-set_other}
+use Rattle.std.specs.Prelude.{ℕ, zero, suc, ◌+◌, ◌*◌, ◌/◌, ◌%◌, ◌≤◌, ◌<◌, ◌≡◌, refl, List, ◌∷◌, length, get_or, set}
+use Rattle.std.specs.Prelude.{replicate}
+use Rattle.std.proofs.Common.{sym, ap, ap₂, ◌∙◌, ⊎_elim, not-suc-le-zero, eq-or-lt_of_le, mul-le-mul_left, mul_comm}
+use Rattle.std.proofs.Common.{div-add-mod', div-lt_iff_lt-mul, mod-lt, mod-eq_of_lt, arith, ext_get_or}
+use Rattle.std.proofs.Common.{get_or-set_same, get_or-set_other}
 use Rattle.std.proofs.Math.Nat.{add-mul-div_right, add-mul-mod_self_right, div-eq_of_lt}
 use Rattle.area.specs.Tables.{build, cell, tabulate}
 
@@ -15,6 +18,12 @@ pub length_build : (n : ℕ) (f : ℕ → ℕ) → length (build n f) ≡ n
 unfolding build
 length_build zero f = refl
 length_build (suc n) f = ap suc (length_build n (λ k. f (suc k)))
+
+-- a list of one number, over and over
+pub replicate_is : (n x : ℕ) → replicate n x ≡ build n (λ _. x)
+unfolding build
+replicate_is zero x = refl
+replicate_is (suc n) x = ap (λ l. x ∷ l) (replicate_is n x)
 
 pub build_at : (n : ℕ) (f : ℕ → ℕ) (k : ℕ) → k < n → get_or (build n f) k 0 ≡ f k
 unfolding build

@@ -1,6 +1,6 @@
 -- The refusals of 01 and 02: a name for the number of each, and when it is given. No two have the same number,
 -- and none has 0 (RefusalLaws.antt), so an equation on the number decides the answer.
-use Rattle.std.specs.Prelude.{ℕ}
+use Rattle.std.specs.Prelude.{ℕ, Result, Ok, Err}
 use Rattle.area.specs.declared.refusal.Refusal.{Refusal}
 use Rattle.area.specs.declared.refusal.Refusal.TheVariants.{Incomplete, Trailing, RouterCount}
 use Rattle.area.specs.declared.refusal.Refusal.TheVariants.{UnknownRouter, SelfLink, Metric, Repeated}
@@ -9,8 +9,6 @@ use Rattle.area.specs.declared.refusal.Refusal.TheVariants.{Mixed, NoCommonRoute
 use Rattle.area.specs.declared.refusal.Refusal.TheVariants.{Waiting, NotDue, Unwritten, NotDone, NotTold}
 use Rattle.area.specs.declared.refusal.Refusal.TheVariants.{DeadLink, PastList, LongSubTlvs, UnknownIdentity}
 use Rattle.area.specs.declared.refusal.Refusal.TheVariants.{TooEarly, ClockEnd, NoStepTime}
-use Rattle.area.specs.declared.refusal.Verdict.{Verdict}
-use Rattle.area.specs.declared.refusal.Verdict.TheVariants.{Accepted, Refused}
 
 -- ---- of Paths, Plan and Read: what they were handed
 -- a bench file or a list of IS-IS entries ends too early, or the bytes of a change list or of a table of identities are
@@ -164,6 +162,6 @@ refusal_number ClockEnd = clock_end
 refusal_number NoStepTime = no_step_time
 
 -- the number of an answer: the refusal's, and 0 where the input is accepted
-abbrev pub verdict_number : (v : Verdict) → ℕ
-verdict_number Accepted = 0
-verdict_number (Refused k) = refusal_number k
+abbrev pub verdict_number : {T : Type 0} → (v : Result T Refusal) → ℕ
+verdict_number (Ok _) = 0
+verdict_number (Err k) = refusal_number k

@@ -9,10 +9,7 @@ pub fn byte(list: &[u8], at: usize) -> usize
     ensures number { result ≡ get_or list.now at 0 }
     ensures small { result < 256 }
 {
-    if list.len() <= at {
-        return 0;
-    }
-    wide(list[at])
+    list.get(at).map_or(0, |x| usize::from(*x))
 }
 
 pub fn two(list: &[u8], at: usize) -> usize
@@ -22,14 +19,5 @@ pub fn two(list: &[u8], at: usize) -> usize
     if list.len() <= at {
         return 0;
     }
-    let high = byte(list, at);
-    let low = byte(list, at + 1);
-    256 * high + low
-}
-
-// A byte in a wider type.
-fn wide(x: u8) -> usize
-    ensures { (result ≡ x) × (result < 256) }
-{
-    x as usize
+    256 * byte(list, at) + byte(list, at + 1)
 }

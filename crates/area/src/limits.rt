@@ -3,7 +3,8 @@
 // Routers of an area, and so members of a set, rows of a table and cells of a row.
 pub const WIDTH: usize = 64;
 
-// A set of routers: bit k stands for router k, so it has WIDTH bits.
+// A set of routers: bit k stands for router k, so it has WIDTH bits. It is a plain number, since C lends tables of sets
+// and is lent them.
 pub type Set = u64;
 
 // Cells of a table.

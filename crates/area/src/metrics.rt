@@ -6,10 +6,9 @@ ghost use Rattle.area.specs.Limits.{unused};
 
 use crate::limits::UNUSED;
 
+#[tactic(auto, using(crate::proofs::TableLaws::replicate_is))]
 pub fn clear(table: &mut [u32])
     ensures cells { table.new ≡ build (length table.old) (λ _. unused) }
 {
-    for k in 0..table.len() {
-        table[k] = UNUSED;
-    }
+    table.fill(UNUSED);
 }

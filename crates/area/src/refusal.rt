@@ -1,106 +1,63 @@
-// Why a call is refused: a named case for each number of 01 and 02. When each is given, specs/Refusals.antt says.
-ghost use Rattle.std.specs.Prelude.{◌≡◌, eqb};
+// Why a call is refused: a named case for each number of 01 and 02, which is its discriminant. When each is given,
+// specs/Refusals.antt says.
+ghost use Rattle.std.specs.Prelude.{◌≡◌};
 ghost use Rattle.area.specs.Refusals.{refusal_number, verdict_number};
 
-#[derive(Clone, Copy)]
+#[derive(Clone, Copy, Debug, PartialEq, Eq)]
 pub enum Refusal {
     // Of Paths, Plan and Read.
-    Incomplete,
-    Trailing,
-    RouterCount,
-    UnknownRouter,
-    SelfLink,
-    Metric,
-    Repeated,
-    TableSize,
-    TooMany,
+    Incomplete = 1,
+    Trailing = 2,
+    RouterCount = 3,
+    UnknownRouter = 4,
+    SelfLink = 5,
+    Metric = 6,
+    Repeated = 7,
+    TableSize = 8,
+    TooMany = 9,
     // Of Plan.
-    NoChange,
-    SameMetric,
-    Mixed,
-    NoCommonRouter,
+    NoChange = 10,
+    SameMetric = 11,
+    Mixed = 12,
+    NoCommonRouter = 13,
     // Of Step, which has UnknownRouter too.
-    Record,
-    Kind,
-    State,
-    Waiting,
-    NotDue,
-    Unwritten,
-    NotDone,
-    NotTold,
+    Record = 20,
+    Kind = 21,
+    State = 23,
+    Waiting = 24,
+    NotDue = 25,
+    Unwritten = 26,
+    NotDone = 27,
+    NotTold = 28,
     // Of Read: a link of a file that is not used.
-    DeadLink,
+    DeadLink = 30,
     // Of areas from IS-IS, which have those of Read too but for DeadLink, Repeated and TooMany.
-    PastList,
-    LongSubTlvs,
-    UnknownIdentity,
+    PastList = 31,
+    LongSubTlvs = 32,
+    UnknownIdentity = 33,
     // Of Step: the timers.
-    TooEarly,
-    ClockEnd,
+    TooEarly = 34,
+    ClockEnd = 35,
     // Of Plan: the step time.
-    NoStepTime,
-}
-
-// What a call says of the input that it was handed.
-#[derive(Clone, Copy)]
-pub enum Verdict {
-    Accepted,
-    Refused(Refusal),
+    NoStepTime = 36,
 }
 
 impl Refusal {
     // The paper's number.
+    #[tactic(auto, unfolding(crate::specs::Refusals::refusal_number))]
     pub fn number(self) -> u8
         ensures number { result ≡ refusal_number self }
     {
-        match self {
-            Refusal::Incomplete => 1,
-            Refusal::Trailing => 2,
-            Refusal::RouterCount => 3,
-            Refusal::UnknownRouter => 4,
-            Refusal::SelfLink => 5,
-            Refusal::Metric => 6,
-            Refusal::Repeated => 7,
-            Refusal::TableSize => 8,
-            Refusal::TooMany => 9,
-            Refusal::NoChange => 10,
-            Refusal::SameMetric => 11,
-            Refusal::Mixed => 12,
-            Refusal::NoCommonRouter => 13,
-            Refusal::Record => 20,
-            Refusal::Kind => 21,
-            Refusal::State => 23,
-            Refusal::Waiting => 24,
-            Refusal::NotDue => 25,
-            Refusal::Unwritten => 26,
-            Refusal::NotDone => 27,
-            Refusal::NotTold => 28,
-            Refusal::DeadLink => 30,
-            Refusal::PastList => 31,
-            Refusal::LongSubTlvs => 32,
-            Refusal::UnknownIdentity => 33,
-            Refusal::TooEarly => 34,
-            Refusal::ClockEnd => 35,
-            Refusal::NoStepTime => 36,
-        }
+        self as u8
     }
 }
 
-impl Verdict {
-    // The refusal's number, or 0 where the input was accepted.
-    pub fn number(self) -> u8
-        ensures number { result ≡ verdict_number self }
-    {
-        match self {
-            Verdict::Accepted => 0,
-            Verdict::Refused(k) => k.number(),
-        }
-    }
-
-    // Is the input accepted?
-    pub fn is_accepted(self) -> bool
-        ensures answer { result ≡ eqb (verdict_number self) 0 }
-    {
-        self.number() == 0
+// The number of an answer: the refusal's, or 0 where nothing is refused.
+pub fn number_of<T>(answer: &Result<T, Refusal>) -> u8
+    ensures number { result ≡ verdict_number answer.now }
+{
+    match answer {
+        Ok(_) => 0,
+        Err(why) => why.number(),
     }
 }

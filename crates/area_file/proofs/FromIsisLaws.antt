@@ -1,32 +1,30 @@
 -- Laws of the text of link-state data.
 --     text_long, text_refused, text_accepted   what is appended, case by case
---     table_long, table_short                  and the metric table
---     long_appended, refused_appended, accepted_appended, table_filled         both of them, as code makes them
 --     split_identities, split_lists            the parts of the stream, as they are lent
---     isis_is, isis_table_lem                      what is appended for the stream is that of its parts
+--     isis_is, isis_table_lem                  what is appended for the stream, and the table, are those of its parts
 --     isis_room                                `room` bytes have room for it
 --     isis_first                               the first bytes of a stream decide: as many as the longest table of
 --                                              identities and the longest lists have, and one more
 --     isis_any                                 so does any metric table of the right size
 --     isis_again                               where the lists are accepted, the text, decoded and read by Read, gives
 --                                              the metric table that isis::read has filled
-use Rattle.std.specs.Prelude.{ℕ, ◌+◌, ◌*◌, ◌-◌, ◌≤◌, ◌<◌, min, ◌≡◌, Bool, true, false, not, ◌≢◌, eqb, length, take}
+use Rattle.std.specs.Prelude.{ℕ, ◌+◌, ◌*◌, ◌-◌, ◌≤◌, ◌<◌, min, ◌≡◌, ◌≢◌, eqb, length, take}
 use Rattle.std.specs.Prelude.{drop}
 use Rattle.std.proofs.Math.Path.{refl, ap₂}
 use Rattle.std.proofs.Common.{sym, ap, ◌∙◌, subst, arith, length-drop, drop_of_length-le, take_all, get_or-take}
 use Rattle.std.proofs.Common.{length-take-le}
 use mathlib.Core.List.{List}
 use Rattle.std.proofs.Math.Decide.{dec_lt, ℕ_discrete}
-use borrow.Author.Tests.{lt-ltb, le-ltb, eq-eqb, ne_eqb, eqb-true, eqb-false, not-true, not-false}
+use borrow.Author.Tests.{lt-ltb, le-ltb, eq-eqb, ne_eqb}
 use Rattle.std.proofs.Math.Seq.{take-nil}
 use Rattle.area.specs.Bytes.{two}
 use Rattle.area.specs.Limits.{width}
 use Rattle.area.specs.Tests.{pick}
 use Rattle.area.proofs.SizeLaws.{router_count_most}
-use Rattle.text.specs.Text.{Appended, word, refused_line}
+use Rattle.text.specs.Text.{word, refused_line}
 use Rattle.text.proofs.TextLaws.{refused_most}
 use Rattle.isis.specs.Lists.{list_count}
-use Rattle.isis.specs.Isis.{area_refusal, isis_refusal, isis_metrics, listed}
+use Rattle.isis.specs.Isis.{area_refusal, isis_metrics, listed}
 use Rattle.isis.proofs.IsisLaws.{count_in, isis_area, metrics_accepted, metrics_refused}
 use Rattle.isis.proofs.AreaLaws.{listed_size, listed_some, listed_self, listed_beyond}
 use Rattle.bench_file.specs.Read.{read_refusal, metrics_of}
@@ -44,9 +42,6 @@ module _ (t d m : List ℕ) where
   unfolding text_of
   text_long h = rw (lt-ltb most_bytes (length d) h) refl
 
-  pub table_long : most_bytes < length d → m ≡ table_of t d m
-  table_long h = rw (lt-ltb most_bytes (length d) h) refl
-
   module _ (h : length d ≤ most_bytes) where
     pub table_short : isis_metrics (list_count d) t d m ≡ table_of t d m
     table_short = rw (le-ltb most_bytes (length d) h) refl
@@ -61,57 +56,12 @@ module _ (t d m : List ℕ) where
     unfolding text_of
     text_accepted z = rw (le-ltb most_bytes (length d) h, eq-eqb (answer_of t d m) 0 z) refl
 
--- as code goes: n is how many lists it has counted, k the number of its answer, and p the table that it has filled
-pub long_appended :
-    (t d m : List ℕ) {o q : List ℕ} {r : ℕ}
-    → most_bytes < length d
-    → Appended o 0 (word "too long\n") q r
-    → Appended o 0 (text_of t d m) q r
-long_appended t d m {o} {q} {r} h x = subst (λ (w : List ℕ). Appended o 0 w q r) (text_long t d m h) x
-
-module _ (t d m : List ℕ) (h : length d ≤ most_bytes) (n : ℕ) (counted : n ≡ list_count d) where
-  module _ (p : List ℕ) (filled : p ≡ isis_metrics n t d m) where
-    metrics_is : p ≡ isis_metrics (list_count d) t d m
-    metrics_is = filled ∙ ap (λ (i : ℕ). isis_metrics i t d m) counted
-
-    pub table_filled : p ≡ table_of t d m
-    table_filled = metrics_is ∙ table_short t d m h
-
-  module _ (k : ℕ) (told : k ≡ isis_refusal n t d m) (ok : Bool) (good : ok ≡ eqb k 0) where
-    answer_is : k ≡ answer_of t d m
-    answer_is = told ∙ ap (λ (i : ℕ). isis_refusal i t d m) counted
-
-    pub refused_appended :
-        not ok ≡ true
-        → (j : ℕ)
-        → j ≡ k
-        → {o q : List ℕ} {r : ℕ}
-        → Appended o 0 (refused_line j) q r
-        → Appended o 0 (text_of t d m) q r
-    refused_appended f j e {o} {q} {r} x =
-        let some : answer_of t d m ≢ 0
-        = λ z. eqb-false k 0 (sym good ∙ not-true ok f) (answer_is ∙ z) in
-        let line = ap refused_line (e ∙ answer_is) ∙ text_refused t d m h some in
-        subst (λ (w : List ℕ). Appended o 0 w q r) line x
-
-    pub accepted_appended :
-        not ok ≡ false
-        → (p : List ℕ)
-        → p ≡ isis_metrics n t d m
-        → {o q : List ℕ} {r : ℕ}
-        → Appended o 0 (area_text n p) q r
-        → Appended o 0 (text_of t d m) q r
-    accepted_appended f p filled {o} {q} {r} x =
-        let none = sym answer_is ∙ eqb-true k 0 (sym good ∙ not-false ok f) in
-        let text = ap₂ area_text counted (metrics_is p filled) ∙ text_accepted t d m h none in
-        subst (λ (w : List ℕ). Appended o 0 w q r) text x
-
 -- ---- the parts of the stream, cut off where it ends
 module _ (s : List ℕ) where
   pub split_identities :
       (a b : ℕ)
-      → a ≡ min 2 (length s)
-      → b ≡ min (2 + two s 0) (length s)
+      → a ≡ min (length s) 2
+      → b ≡ min (length s) (2 + two s 0)
       → take (b - a) (drop a s) ≡ identities_of s
   split_identities a b e f = by_length (dec_lt (length s) 2) (dec_lt (length s) (2 + two s 0))
     where
@@ -131,7 +81,7 @@ module _ (s : List ℕ) where
 
   pub split_lists :
       (b : ℕ)
-      → b ≡ min (2 + two s 0) (length s)
+      → b ≡ min (length s) (2 + two s 0)
       → take (length s - b) (drop b s) ≡ lists_of s
   split_lists b f =
       let size = length-drop b s in
@@ -145,34 +95,21 @@ module _ (s : List ℕ) where
 -- what is appended for the parts is what is appended for the stream; x is the length that code has read
 module _
     (s m : List ℕ) (a b x : ℕ)
-    (start : a ≡ min 2 (length s))
+    (start : a ≡ min (length s) 2)
     (read : x ≡ two s 0)
-    (end : b ≡ min (2 + x) (length s))
+    (end : b ≡ min (length s) (2 + x))
   where
-    behind : b ≡ min (2 + two s 0) (length s)
-    behind = end ∙ ap (λ (k : ℕ). min (2 + k) (length s)) read
+    behind : b ≡ min (length s) (2 + two s 0)
+    behind = end ∙ ap (λ (k : ℕ). min (length s) (2 + k)) read
 
-    parts :
-        (P : List ℕ → List ℕ → Type 0)
-        → P (take (b - a) (drop a s)) (take (length s - b) (drop b s))
-        → P (identities_of s) (lists_of s)
-    parts P y =
-        subst (λ (t : List ℕ). P t (lists_of s)) (split_identities s a b start behind)
-        (subst (λ (d : List ℕ). P (take (b - a) (drop a s)) d) (split_lists s b behind) y)
-
-    pub isis_is :
-        {o p : List ℕ} {r : ℕ}
-        → Appended o 0 (text_of (take (b - a) (drop a s)) (take (length s - b) (drop b s)) m) p r
-        → Appended o 0 (isis_text s m) p r
+    pub isis_is : text_of (take (b - a) (drop a s)) (take (length s - b) (drop b s)) m ≡ isis_text s m
     unfolding isis_text
-    isis_is {o} {p} {r} y = parts (λ t d. Appended o 0 (text_of t d m) p r) y
+    isis_is = ap₂ (λ (t d : List ℕ). text_of t d m) (split_identities s a b start behind) (split_lists s b behind)
 
-    pub isis_table_lem :
-        {p : List ℕ}
-        → p ≡ table_of (take (b - a) (drop a s)) (take (length s - b) (drop b s)) m
-        → p ≡ isis_table s m
+    pub isis_table_lem : table_of (take (b - a) (drop a s)) (take (length s - b) (drop b s)) m ≡ isis_table s m
     unfolding isis_table
-    isis_table_lem {p} y = parts (λ t d. p ≡ table_of t d m) y
+    isis_table_lem =
+        ap₂ (λ (t d : List ℕ). table_of t d m) (split_identities s a b start behind) (split_lists s b behind)
 
 -- ---- how long the text is
 text_most : (t d m : List ℕ) → length (text_of t d m) ≤ room

@@ -3,3 +3,6 @@ pub mod FromIsisLaws
 pub mod LineLaws
 pub mod LinkLaws
 pub mod ReadAgainLaws
+pub mod AppendingLaws
+pub mod CellLaws
+pub mod IsisTextLaws

@@ -1,19 +1,15 @@
--- Laws of the text as code makes it: what was appended part by part is the line, and what was appended line by line is
--- the text.
---     area_low, area_high, area_told           whether there is an area
---     listed_beyond, listed_own, listed_told   whether a cell is a link
---     listed_used                              a link is used
---     counted_none, counted_more, counted_less the links, counted cell by cell
---     routers_appended, count_appended, link_appended, words_appended, last_appended       a line
---     cell_listed, cell_none                   the line of a cell, and none
---     lines_start, lines_next                  the lines of the first cells
---     area_sized                               the sizes of an area
---     area_none, area_appended                 the whole text
-use Rattle.std.specs.Prelude.{ℕ, ◌+◌, ◌*◌, ◌/◌, ◌%◌, ◌≤◌, ◌<◌, ◌≡◌, Bool, true, false, not, ◌≢◌, List, [], ◌∷◌, ◌++◌}
-use Rattle.std.specs.Prelude.{eqb, ltb, length, get_or}
-use Rattle.std.proofs.Math.Path.{refl}
-use Rattle.std.proofs.Common.{sym, ap, ◌∙◌, append-nil, append_assoc, add-one, arith}
-use borrow.Author.Tests.{lt-ltb, le-ltb, eq-eqb, ne_eqb, not-true, not-false}
+-- Laws of the text as code makes it.
+--     sizes, area_sized        the sizes of an area
+--     count_listed             the links, counted cell by cell
+--     link_ends                what a link says is small
+--     lines_none, lines_listed, lines_less     the lines of the first cells
+--     area_none, area_written  the whole text
+use Rattle.std.specs.Prelude.{ℕ, zero, suc, ◌+◌, ◌*◌, ◌/◌, ◌%◌, ◌≤◌, ◌<◌, ◌≡◌, Bool, true, false, cond, List}
+use Rattle.std.specs.Prelude.{[], ◌∷◌, ◌++◌, length, get_or, take}
+use Rattle.std.specs.List.{filter, enumerate_from}
+use Rattle.std.proofs.Common.{refl, sym, ap, ◌∙◌, append-nil, append_assoc, add-one, ap₂, arith, take-suc}
+use Rattle.std.proofs.Common.{length-take-le}
+use Rattle.std.proofs.lemmas.List.Elements.{filter-append}
 use Rattle.std.proofs.Math.ListN.{length-append}
 use Rattle.area.specs.Limits.{width, unused}
 use Rattle.area.proofs.TestLaws.{both_true}
@@ -21,105 +17,65 @@ use Rattle.area.specs.Sizes.{is_router_count, is_table}
 use Rattle.area.proofs.SizeLaws.{router_count_true, router_count_low, router_count_high, router_count_most}
 use Rattle.area.proofs.SizeLaws.{table_is, table_size_lem}
 use Rattle.entries.specs.declared.Entry.{Entry}
-use Rattle.text.specs.Text.{Appended, word, field, line}
-use Rattle.text.proofs.TextLaws.{appended_none, appended_then}
-use Rattle.hexadecimal.specs.Digits.{hexed}
-use Rattle.area_file.specs.AreaFile.{times, words_line, link, is_listed, link_of, listed, links_of, link_bytes}
+use Rattle.area.specs.Tests.{pick}
+use Rattle.text.specs.Text.{Writes}
+use Rattle.text.specs.declared.writer.Writer.{Writer}
+use Rattle.text.proofs.WriterLaws.{writes_none, writes_then}
+use Rattle.area_file.specs.AreaFile.{link, is_listed, listed, links_of}
 use Rattle.area_file.specs.AreaFile.{routers_line, count_line, link_line, link_lines, last_lines, all_lines}
 use Rattle.area_file.specs.AreaFile.{is_sized, area_text}
 use Rattle.area_file.proofs.LinkLaws.{listed_is}
 
 -- ---- an area
-module _ (n : ℕ) (m : List ℕ) where
-  pub area_low : n < 1 → false ≡ is_sized n m
-  unfolding is_sized
-  area_low h = rw (router_count_low n h) refl
+-- the tests of its sizes
+pub ruleset sizes = (router_count_true, router_count_low, router_count_high, table_is)
 
-  pub area_high : width < n → false ≡ is_sized n m
-  unfolding is_sized
-  area_high h = rw (router_count_high n h) refl
+pub area_sized : (n : ℕ) (m : List ℕ) → is_sized n m ≡ true → (n ≤ width) × (length m ≡ width * width)
+unfolding is_sized
+area_sized n m e =
+    let both = both_true (is_router_count n) (is_table m) e in
+    (router_count_most n both.0, table_size_lem m both.1)
 
-  pub area_told : 1 ≤ n → n ≤ width → eqb (length m) (width * width) ≡ is_sized n m
-  unfolding is_sized
-  area_told a b = rw (router_count_true n a b, table_is m) refl
+-- ---- how many links there are
+enumerate_more :
+    (i : ℕ) (l : List ℕ) (x : ℕ)
+    → enumerate_from i (l ++ (x ∷ [])) ≡ enumerate_from i l ++ ((i + length l, x) ∷ [])
+enumerate_more i [] x = ap (λ (k : ℕ). (k, x) ∷ []) (let e : i ≡ i + 0 = omega arith in e)
+enumerate_more i (y ∷ l) x =
+    let e : i + 1 + length l ≡ i + suc (length l) = omega arith in
+    ap (λ (t : List (ℕ × ℕ)). (i, y) ∷ t)
+    (enumerate_more (i + 1) l x ∙ ap (λ (k : ℕ). enumerate_from (i + 1) l ++ ((k, x) ∷ [])) e)
 
--- ---- the cells that are links
-module _ (n k metric : ℕ) where
-  pub listed_beyond : n ≤ k % width → false ≡ is_listed n k metric
-  unfolding is_listed
-  listed_beyond h = rw (le-ltb (k % width) n h) refl
+-- the links among the cells of a table, each with its place
+abbrev pub listed_cells : (n : ℕ) (m : List ℕ) → List (ℕ × ℕ)
+listed_cells n m = filter (λ (p : ℕ × ℕ). is_listed n p.0 p.1) (enumerate_from 0 m)
 
-  pub listed_own : k % width < n → k / width ≡ k % width → false ≡ is_listed n k metric
-  unfolding is_listed
-  listed_own h e = rw (lt-ltb (k % width) n h, eq-eqb (k / width) (k % width) e) refl
-
-  pub listed_told : k % width < n → k / width ≢ k % width → ltb metric unused ≡ is_listed n k metric
-  unfolding is_listed
-  listed_told h f = rw (lt-ltb (k % width) n h, ne_eqb (k / width) (k % width) f) refl
-
-  pub listed_used : (t : Bool) → t ≡ is_listed n k metric → t ≡ true → metric < unused
-  listed_used t told e = (listed_is n k metric (sym told ∙ e)).used
-
--- ---- how many they are; t says whether cell k is one
-pub counted_none : (n : ℕ) (m : List ℕ) → 0 ≡ length (listed n m 0)
+pub count_listed :
+    (n : ℕ) (m : List ℕ) (k : ℕ)
+    → k ≤ length m
+    → length (listed_cells n (take k m)) ≡ length (listed n m k)
 unfolding listed
-counted_none n m = refl
-
-module _
-    (n : ℕ) (m : List ℕ) (k count : ℕ)
-    (is : count ≡ length (listed n m k))
-    (t : Bool) (told : t ≡ is_listed n k (get_or m k 0))
+count_listed n m zero h = refl
+count_listed n m (suc k) h =
+    let x = get_or m k 0 in
+    let size : 0 + length (take k m) ≡ k = omega (arith, length-take-le k m (omega arith)) in
+    rw (take-suc m k 0 (omega arith), enumerate_more 0 (take k m) x, filter-append, length-append, length-append, size)
+    (ap₂ (λ (a b : ℕ). a + b) (count_listed n m k (omega arith))
+    (by_test (is_listed n k x) (k, x) (link (k / width) (k % width) x)))
   where
-    pub counted_more : t ≡ true → count + 1 ≡ length (listed n m (k + 1))
-    unfolding listed
-    counted_more e = rw (add-one k, length-append, ← told, e, is) refl
+    by_test :
+        (t : Bool) (p : ℕ × ℕ) (x : Entry)
+        → length (cond t (p ∷ []) []) ≡ length (pick t (x ∷ []) [])
+    by_test true p x = refl
+    by_test false p x = refl
 
-    pub counted_less : t ≡ false → count ≡ length (listed n m (k + 1))
-    unfolding listed
-    counted_less e = rw (add-one k, length-append, ← told, e, is) (omega arith)
-
--- ---- lines
-pub routers_appended :
-    (n : ℕ) {o p q : List ℕ} {a b c : ℕ}
-    → Appended o a (hexed (n ∷ [])) p b
-    → Appended p b (line (word "            # routers ") n) q c
-    → Appended o a (routers_line n) q c
-unfolding routers_line
-routers_appended n u v = appended_then u v
-
-pub count_appended :
-    (count : ℕ) {o p q : List ℕ} {a b c : ℕ}
-    → Appended o a (hexed (count / 256 ∷ (count % 256 ∷ []))) p b
-    → Appended p b (line (word "          # links ") count) q c
-    → Appended o a (count_line count) q c
-unfolding count_line
-count_appended count u v = appended_then u v
-
-pub link_appended :
-    (i j v : ℕ) {o p q s t : List ℕ} {a b c d e : ℕ}
-    → Appended o a (hexed (link_bytes (link i j v))) p b
-    → Appended p b (field (word "    # ") i) q c
-    → Appended q c (field (word " to ") j) s d
-    → Appended s d (line (word " at ") v) t e
-    → Appended o a (link_line (link i j v)) t e
-unfolding link_line
-link_appended i j v w x y z = appended_then w (appended_then x (appended_then y z))
-
-pub words_appended :
-    (bytes words : List ℕ) {o p q : List ℕ} {a b c : ℕ}
-    → Appended o a (hexed bytes) p b
-    → Appended p b words q c
-    → Appended o a (words_line bytes words) q c
-words_appended bytes words x y = appended_then x y
-
-pub last_appended :
-    {o p q s : List ℕ} {a b c d : ℕ}
-    → Appended o a (words_line (0 ∷ []) (word "            # changes\n")) p b
-    → Appended p b (words_line times (word "      # hold time 0, step time 1\n")) q c
-    → Appended q c (words_line (0 ∷ (0 ∷ [])) (word "          # steps\n")) s d
-    → Appended o a last_lines s d
-unfolding last_lines
-last_appended x y z = appended_then x (appended_then y z)
+-- ---- what a link says
+pub link_ends :
+    (n k metric : ℕ)
+    → k < width * width
+    → is_listed n k metric ≡ true
+    → (k / width < width) × (k % width < width) × (metric < unused)
+link_ends n k metric h e = (omega arith, omega arith, (listed_is n k metric e).used)
 
 -- ---- the lines of the links
 pub lines_joined : (l m : List Entry) → link_lines (l ++ m) ≡ link_lines l ++ link_lines m
@@ -128,63 +84,38 @@ lines_joined [] m = refl
 lines_joined (x ∷ l) m =
     ap (λ (k : List ℕ). link_line x ++ k) (lines_joined l m) ∙ sym (append_assoc (link_line x) _ _)
 
--- t says whether cell k is a link
-module _ (n k metric : ℕ) (t : Bool) (told : t ≡ is_listed n k metric) where
-  pub cell_listed :
-      t ≡ true
-      → {o p : List ℕ} {a b : ℕ}
-      → Appended o a (link_line (link (k / width) (k % width) metric)) p b
-      → Appended o a (link_lines (link_of n k metric)) p b
-  unfolding link_lines
-  cell_listed e u = rw (← told, e, append-nil) u
+pub lines_none : (n : ℕ) (m : List ℕ) (w : Writer) → Writes w (link_lines (listed n m 0)) w
+unfolding listed link_lines
+lines_none n m w = writes_none w
 
-  pub cell_none :
-      t ≡ false
-      → (o : List ℕ) (a : ℕ)
-      → a ≤ length o
-      → Appended o a (link_lines (link_of n k metric)) o a
-  unfolding link_lines
-  cell_none e o a h = rw (← told, e) (appended_none o a h)
-
-module _ (n : ℕ) (m : List ℕ) where
-  pub lines_start : (o : List ℕ) (a : ℕ) → a ≤ length o → Appended o a (link_lines (listed n m 0)) o a
+module _ (n : ℕ) (m : List ℕ) (k : ℕ) {u v : Writer} (so_far : Writes u (link_lines (listed n m k)) v) where
+  pub lines_listed :
+      {w : Writer}
+      → is_listed n k (get_or m k 0) ≡ true
+      → Writes v (link_line (link (k / width) (k % width) (get_or m k 0))) w
+      → Writes u (link_lines (listed n m (k + 1))) w
   unfolding listed link_lines
-  lines_start o a h = appended_none o a h
+  lines_listed e x =
+      rw (add-one k, e, lines_joined (listed n m k) (link (k / width) (k % width) (get_or m k 0) ∷ []), append-nil)
+      (writes_then so_far x)
 
-  pub lines_next :
-      (k : ℕ) {o p q : List ℕ} {a b c : ℕ}
-      → Appended o a (link_lines (listed n m k)) p b
-      → Appended p b (link_lines (link_of n k (get_or m k 0))) q c
-      → Appended o a (link_lines (listed n m (k + 1))) q c
+  pub lines_less : is_listed n k (get_or m k 0) ≡ false → Writes u (link_lines (listed n m (k + 1))) v
   unfolding listed
-  lines_next k u v = rw (add-one, lines_joined (listed n m k) (link_of n k (get_or m k 0))) (appended_then u v)
+  lines_less e = rw (add-one k, e, append-nil) so_far
 
--- ---- the text; t says whether there is an area
-module _ (n : ℕ) (m : List ℕ) (t : Bool) (told : t ≡ is_sized n m) where
-  pub area_sized : not t ≡ false → (n ≤ width) × (length m ≡ width * width)
-  unfolding is_sized
-  area_sized f =
-      let both = both_true (is_router_count n) (is_table m) (sym told ∙ not-false t f) in
-      (router_count_most n both.0, table_size_lem m both.1)
-
-  pub area_none :
-      not t ≡ true
-      → {o p : List ℕ} {a b : ℕ}
-      → Appended o a [] p b
-      → Appended o a (area_text n m) p b
+-- ---- the text
+module _ (n : ℕ) (m : List ℕ) where
+  pub area_none : (w : Writer) → is_sized n m ≡ false → Writes w (area_text n m) w
   unfolding area_text
-  area_none e u = rw (← told, not-true t e) u
+  area_none w e = rw e (writes_none w)
 
-  pub area_appended :
-      not t ≡ false
-      → (count : ℕ)
-      → count ≡ length (links_of n m)
-      → {o p q s w : List ℕ} {a b c d e : ℕ}
-      → Appended o a (routers_line n) p b
-      → Appended p b (count_line count) q c
-      → Appended q c (link_lines (links_of n m)) s d
-      → Appended s d last_lines w e
-      → Appended o a (area_text n m) w e
+  pub area_written :
+      {s t u v w : Writer}
+      → is_sized n m ≡ true
+      → Writes s (routers_line n) t
+      → Writes t (count_line (length (links_of n m))) u
+      → Writes u (link_lines (links_of n m)) v
+      → Writes v last_lines w
+      → Writes s (area_text n m) w
   unfolding area_text all_lines
-  area_appended f count is u v x y =
-      rw (← told, not-false t f, ← is) (appended_then u (appended_then v (appended_then x y)))
+  area_written e x y z l = rw e (writes_then x (writes_then y (writes_then z l)))

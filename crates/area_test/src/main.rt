@@ -7,7 +7,7 @@
 #![tactic(auto)]
 
 use area::limits::Set;
-use area::refusal::{Refusal, Verdict};
+use area::refusal::{Refusal, number_of};
 use cases::print;
 
 fn main(rt: HostRuntime) {
@@ -19,33 +19,34 @@ fn main(rt: HostRuntime) {
 }
 
 fn truth(rt: &HostRuntime, yes: bool) {
-    if yes {
-        print::text(rt, b"yes");
-    } else {
-        print::text(rt, b"no");
-    }
+    print::text(rt, if yes { b"yes" } else { b"no" });
 }
 
 // The first and the last router that a set can hold, members and others, and routers that no set holds.
 fn one_router(rt: &HostRuntime) {
-    router(rt, 0, 0);
-    router(rt, 1, 0);
-    router(rt, 6, 0);
-    router(rt, 6, 2);
-    router(rt, 0, 31);
-    router(rt, 4294967296, 32);
-    router(rt, 4294967295, 32);
-    router(rt, 0, 62);
-    router(rt, 0, 63);
-    router(rt, 9223372036854775808, 63);
-    router(rt, 18446744073709551615, 63);
-    router(rt, 18446744073709551615, 62);
-    router(rt, 18446744073709551615, 5);
-    router(rt, 18446744073709551615, 64);
-    router(rt, 0, 64);
-    router(rt, 1, 64);
-    router(rt, 1, 128);
-    router(rt, 6, 18446744073709551615);
+    let asked = [
+        (0, 0),
+        (1, 0),
+        (6, 0),
+        (6, 2),
+        (0, 31),
+        (4294967296, 32),
+        (4294967295, 32),
+        (0, 62),
+        (0, 63),
+        (9223372036854775808, 63),
+        (18446744073709551615, 63),
+        (18446744073709551615, 62),
+        (18446744073709551615, 5),
+        (18446744073709551615, 64),
+        (0, 64),
+        (1, 64),
+        (1, 128),
+        (6, 18446744073709551615),
+    ];
+    for (s, k) in asked {
+        router(rt, s, k);
+    }
 }
 
 fn router(rt: &HostRuntime, s: Set, k: usize) {
@@ -61,16 +62,21 @@ fn router(rt: &HostRuntime, s: Set, k: usize) {
 }
 
 fn two_sets(rt: &HostRuntime) {
-    pair(rt, 0, 0);
-    pair(rt, 0, 5);
-    pair(rt, 5, 0);
-    pair(rt, 5, 7);
-    pair(rt, 7, 5);
-    pair(rt, 6, 3);
-    pair(rt, 4294967296, 1);
-    pair(rt, 1, 4294967297);
-    pair(rt, 9223372036854775808, 18446744073709551615);
-    pair(rt, 18446744073709551615, 9223372036854775808);
+    let asked = [
+        (0, 0),
+        (0, 5),
+        (5, 0),
+        (5, 7),
+        (7, 5),
+        (6, 3),
+        (4294967296, 1),
+        (1, 4294967297),
+        (9223372036854775808, 18446744073709551615),
+        (18446744073709551615, 9223372036854775808),
+    ];
+    for (s, t) in asked {
+        pair(rt, s, t);
+    }
 }
 
 fn pair(rt: &HostRuntime, s: Set, t: Set) {
@@ -81,57 +87,44 @@ fn pair(rt: &HostRuntime, s: Set, t: Set) {
 
 // Sets with fewer members than four, with four and with more, at both ends and in the middle.
 fn of_four(rt: &HostRuntime) {
-    few(rt);
-    exactly_four(rt);
-    more(rt);
-}
-
-fn few(rt: &HostRuntime) {
-    four(rt, 0); // no member
-    four(rt, 1); // 0
-    four(rt, 9223372036854775808); // 63
-    four(rt, 9223372036854775809); // 0, 63
-    four(rt, 4294967296); // 32
-    four(rt, 13835058055282163713); // 0, 62, 63
-    four(rt, 16140901064495857664); // 61, 62, 63
-    four(rt, 7); // 0, 1, 2
-}
-
-fn exactly_four(rt: &HostRuntime) {
-    four(rt, 15); // 0, 1, 2, 3
-    four(rt, 13835058055282163715); // 0, 1, 62, 63
-    four(rt, 16140901064495857665); // 0, 61, 62, 63
-    four(rt, 17293822569102704640); // 60, 61, 62, 63
-    four(rt, 9223372043297226753); // 0, 31, 32, 63
-    four(rt, 9223372043297226754); // 1, 31, 32, 63
-}
-
-fn more(rt: &HostRuntime) {
-    four(rt, 62); // 1 to 5, without 5
-    four(rt, 9223372036854775823); // 0, 1, 2, 3, 63, without 63
-    four(rt, 16140901064495857667); // 0, 1, 61, 62, 63, without 63
-    four(rt, 17293822569102704641); // 0, 60, 61, 62, 63, without 63
-    four(rt, 17870283321406128128); // 59 to 63, without 63
-    four(rt, 18374686479671623680); // 56 to 63, the first four
-    four(rt, 16140901070938308611); // 0, 1, 31, 32, 61, 62, 63, the first four
-    four(rt, 9223372036854775806); // 1 to 62, the first four
-    four(rt, 18446744073709551614); // all but 0, the first four
-    four(rt, 18446744073709551615); // all, the first four
-}
-
-fn four(rt: &HostRuntime, s: Set) {
-    print::form(rt, b"set # four #\n", &[s, sets::four(s)]);
+    let asked = [
+        0, // no member
+        1, // 0
+        9223372036854775808, // 63
+        9223372036854775809, // 0, 63
+        4294967296, // 32
+        13835058055282163713, // 0, 62, 63
+        16140901064495857664, // 61, 62, 63
+        7, // 0, 1, 2
+        15, // 0, 1, 2, 3
+        13835058055282163715, // 0, 1, 62, 63
+        16140901064495857665, // 0, 61, 62, 63
+        17293822569102704640, // 60, 61, 62, 63
+        9223372043297226753, // 0, 31, 32, 63
+        9223372043297226754, // 1, 31, 32, 63
+        62, // 1 to 5, without 5
+        9223372036854775823, // 0, 1, 2, 3, 63, without 63
+        16140901064495857667, // 0, 1, 61, 62, 63, without 63
+        17293822569102704641, // 0, 60, 61, 62, 63, without 63
+        17870283321406128128, // 59 to 63, without 63
+        18374686479671623680, // 56 to 63, the first four
+        16140901070938308611, // 0, 1, 31, 32, 61, 62, 63, the first four
+        9223372036854775806, // 1 to 62, the first four
+        18446744073709551614, // all but 0, the first four
+        18446744073709551615, // all, the first four
+    ];
+    for s in asked {
+        print::form(rt, b"set # four #\n", &[s, sets::four(s)]);
+    }
 }
 
 // Three entries, and two bytes of a fourth.
 fn listed(rt: &HostRuntime) {
     let list = [0, 1, 0, 0, 1, 63, 255, 255, 255, 255, 2, 3, 1, 2, 3, 9, 9];
     count(rt, &list);
-    entry(rt, &list, 0);
-    entry(rt, &list, 1);
-    entry(rt, &list, 2);
-    entry(rt, &list, 3);
-    entry(rt, &list, 18446744073709551615);
+    for e in [0, 1, 2, 3, 18446744073709551615] {
+        entry(rt, &list, e);
+    }
     count(rt, &list[..4]);
     entry(rt, &list[..4], 0);
 }
@@ -154,68 +147,52 @@ fn entry(rt: &HostRuntime, list: &[u8], e: usize) {
     );
 }
 
-// The numbers of all refusals, in the order in which the papers first name them.
+// The number of an answer that refuses nothing, and those of all refusals, in the order in which the papers first name
+// them.
 fn refusals(rt: &HostRuntime) {
-    print::text(rt, b"accepted ");
-    print::number(rt, Verdict::Accepted.number() as u64);
+    let accepted: Result<(), Refusal> = Ok(());
+    let refused: Result<(), Refusal> = Err(Refusal::Incomplete);
+    print::form(rt, b"accepted # ", &[u64::from(number_of(&accepted))]);
+    truth(rt, accepted.is_ok());
     print::byte(rt, b' ');
-    truth(rt, Verdict::Accepted.is_accepted());
-    print::byte(rt, b' ');
-    truth(rt, Verdict::Refused(Refusal::Incomplete).is_accepted());
+    truth(rt, refused.is_ok());
     print::text(rt, b"\nrefused");
-    of_tables(rt);
-    of_entries(rt);
-    of_steps(rt);
-    of_files(rt);
-    of_timers(rt);
+    for why in all() {
+        let answer: Result<(), Refusal> = Err(why);
+        print::form(rt, b" #", &[u64::from(number_of(&answer))]);
+    }
     print::byte(rt, b'\n');
 }
 
-fn refused(rt: &HostRuntime, k: Refusal) {
-    print::byte(rt, b' ');
-    print::number(rt, Verdict::Refused(k).number() as u64);
-}
-
-fn of_tables(rt: &HostRuntime) {
-    refused(rt, Refusal::RouterCount);
-    refused(rt, Refusal::TableSize);
-    refused(rt, Refusal::Metric);
-}
-
-fn of_entries(rt: &HostRuntime) {
-    refused(rt, Refusal::Incomplete);
-    refused(rt, Refusal::TooMany);
-    refused(rt, Refusal::NoChange);
-    refused(rt, Refusal::UnknownRouter);
-    refused(rt, Refusal::SelfLink);
-    refused(rt, Refusal::Repeated);
-    refused(rt, Refusal::SameMetric);
-    refused(rt, Refusal::Mixed);
-    refused(rt, Refusal::NoCommonRouter);
-    refused(rt, Refusal::Trailing);
-}
-
-fn of_steps(rt: &HostRuntime) {
-    refused(rt, Refusal::Record);
-    refused(rt, Refusal::Kind);
-    refused(rt, Refusal::State);
-    refused(rt, Refusal::Waiting);
-    refused(rt, Refusal::NotDue);
-    refused(rt, Refusal::Unwritten);
-    refused(rt, Refusal::NotDone);
-    refused(rt, Refusal::NotTold);
-}
-
-// Of files with dead links, and of areas from IS-IS.
-fn of_files(rt: &HostRuntime) {
-    refused(rt, Refusal::DeadLink);
-    refused(rt, Refusal::PastList);
-    refused(rt, Refusal::LongSubTlvs);
-    refused(rt, Refusal::UnknownIdentity);
-}
-
-fn of_timers(rt: &HostRuntime) {
-    refused(rt, Refusal::TooEarly);
-    refused(rt, Refusal::ClockEnd);
-    refused(rt, Refusal::NoStepTime);
+fn all() -> [Refusal; 28] {
+    [
+        Refusal::RouterCount,
+        Refusal::TableSize,
+        Refusal::Metric,
+        Refusal::Incomplete,
+        Refusal::TooMany,
+        Refusal::NoChange,
+        Refusal::UnknownRouter,
+        Refusal::SelfLink,
+        Refusal::Repeated,
+        Refusal::SameMetric,
+        Refusal::Mixed,
+        Refusal::NoCommonRouter,
+        Refusal::Trailing,
+        Refusal::Record,
+        Refusal::Kind,
+        Refusal::State,
+        Refusal::Waiting,
+        Refusal::NotDue,
+        Refusal::Unwritten,
+        Refusal::NotDone,
+        Refusal::NotTold,
+        Refusal::DeadLink,
+        Refusal::PastList,
+        Refusal::LongSubTlvs,
+        Refusal::UnknownIdentity,
+        Refusal::TooEarly,
+        Refusal::ClockEnd,
+        Refusal::NoStepTime,
+    ]
 }

@@ -9,7 +9,8 @@
 --     file_size, file_largest                          the length of the file, by its counts, and at most
 --     changes_length, steps_length, changes_count      the parts that Plan and Step get
 --     contents_n, .. contents_times                    what the file says of itself
---     no_contents_n, no_contents_changes               and what is handed back with a refusal
+--     no_contents_n, no_contents_changes, no_contents_zeros
+--                                                      and what is handed back with a refusal
 --     long_refused     a file that is longer than the largest is refused
 --     first_refusal    the first bytes of a file, one more than the largest has, decide how it is refused
 --     first_bytes      and all that Read does
@@ -221,6 +222,19 @@ module _ (format : Format) (f : List ℕ) where
   contents_times = (refl, refl)
 
 -- what is handed back with a refusal
+pub no_contents_zeros :
+    no_contents
+    ≡ record {
+      n = 0;
+      links = 0;
+      changes = record { count = 0; at = 0 };
+      steps = record { count = 0; at = 0 };
+      hold_time = 0;
+      step_time = 0;
+    }
+unfolding no_contents
+no_contents_zeros = refl
+
 pub no_contents_n : no_contents.n ≡ 0
 unfolding no_contents
 no_contents_n = refl

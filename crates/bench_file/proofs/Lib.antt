@@ -5,3 +5,4 @@ pub mod FaultLaws
 pub mod FileLaws
 pub mod LargestLaws
 pub mod ReadLaws
+pub mod Reading

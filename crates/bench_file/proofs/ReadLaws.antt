@@ -6,9 +6,9 @@
 --     read_file                                a table of the right size leaves the answer to the file
 --     linked_is, linked_same                   a table by its cells, and links that make the same table
 --     linked_clear                             the table without a link
-use Rattle.std.specs.Prelude.{ℕ, ◌+◌, ◌*◌, ◌<◌, ◌≡◌, ◌≢◌, List, [], length, get_or}
+use Rattle.std.specs.Prelude.{ℕ, ◌+◌, ◌*◌, ◌<◌, ◌≡◌, ◌≢◌, List, [], length}
 use Rattle.std.proofs.Math.Path.{refl}
-use Rattle.std.proofs.Common.{sym, ap, ◌∙◌, arith}
+use Rattle.std.proofs.Common.{sym, ◌∙◌, arith}
 use borrow.Author.Tests.{eq-eqb, ne_eqb}
 use Rattle.area.specs.Limits.{width, unused}
 use Rattle.area.specs.Refusals.{table_size}
@@ -86,18 +86,11 @@ linked_same l m k p same =
     (λ i j a b. cell_tabulate width (λ i j. listed_metric l k i j unused) i j a b ∙ same i j)
 
 -- a table that was cleared
-pub linked_clear :
-    (t : List ℕ)
-    → length t ≡ width * width
-    → (out : List ℕ)
-    → out ≡ build (length t) (λ _. unused)
-    → out ≡ linked [] 0
+pub linked_clear : (n : ℕ) → n ≡ width * width → build n (λ _. unused) ≡ linked [] 0
 unfolding linked
-linked_clear t a out e =
-    let all = e ∙ ap (λ (k : ℕ). build k (λ _. unused)) a in
-    is_tabulate width (λ i j. listed_metric [] 0 i j unused) out (omega arith)
-    (ap length all ∙ length_build (width * width) (λ _. unused))
+linked_clear n a =
+    is_tabulate width (λ i j. listed_metric [] 0 i j unused) (build n (λ _. unused)) (omega arith)
+    (length_build n (λ _. unused) ∙ a)
     (λ i j b c.
-    ap (λ (x : List ℕ). get_or x (width * i + j) 0) all
-    ∙ build_at (width * width) (λ _. unused) (width * i + j) (cell_in width i j b c)
+    build_at n (λ _. unused) (width * i + j) (omega (arith, cell_in width i j b c))
     ∙ sym (given_start [] i j unused))

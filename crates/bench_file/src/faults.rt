@@ -1,143 +1,111 @@
-// Whether a file is accepted: its first fault, in the order of the bytes. The format says whether dead links may stand
-// among its links, and how many bytes the times take.
-//     judge    the file: n, the link count, the links, and then the rest
+// The faults of a file's sections: each gives its first, in the order of the bytes. The format says whether dead links
+// may stand among the links, and how many bytes the times take.
 //     links    the links that the count announces
 //     link     one of them, beside the pairs of those before it; `is_barred` where it is dead
-//     rest     what follows the links
+//     rest     what follows the links, and what the file says of itself where that has no fault
 // What the faults are is specs/Faults.antt; that `seen` tells a repeated pair is entries/proofs/SeenLaws.antt, and what
 // follows for a link's refusal is proofs/Pairs.antt.
-ghost use Rattle.std.specs.Prelude.{◌≡◌, ◌≤◌, ◌*◌};
+ghost use Rattle.std.specs.Prelude.{◌≡◌, ◌≤◌, ◌<◌, ◌*◌, IfOk, OnOk};
 ghost use Rattle.area.specs.Limits.{width};
 ghost use Rattle.area.specs.Refusals.{verdict_number, dead_link};
 ghost use Rattle.area.specs.Tests.{pick, first};
-ghost use Rattle.bench_file.specs.Sections.{link_count};
-ghost use Rattle.bench_file.specs.Formats.{takes_dead};
-ghost use Rattle.bench_file.specs.Faults.{dead_refusal, link_refusal, rest_refusal, file_refusal, seen_refusal};
+ghost use Rattle.bench_file.specs.Sections.{routers, link_count};
+ghost use Rattle.bench_file.specs.Faults.{dead_refusal, link_refusal, rest_refusal, seen_refusal};
+ghost use Rattle.bench_file.specs.Read.{contents};
 
-use crate::{Format, times_size};
-use area::bytes::{byte, two};
+use crate::{Contents, Format, Section};
+use area::bytes::two;
 use area::limits::{ENTRY, MOST_CHANGES, MOST_STEPS, STEP, Set, UNUSED, WIDTH};
-use area::refusal::{Refusal, Verdict};
-use entries::{Entry, check, count, decode};
+use area::refusal::Refusal;
+use entries::{Entries, Entry, check};
 use sets::{add, member};
-
-pub(crate) fn judge(format: Format, file: &[u8]) -> Verdict
-    ensures { verdict_number result ≡ file_refusal format file.now }
-{
-    if file.len() < 1 {
-        return Verdict::Refused(Refusal::Incomplete);
-    }
-    let n = byte(file, 0);
-    if n < 1 {
-        return Verdict::Refused(Refusal::RouterCount);
-    }
-    if WIDTH < n {
-        return Verdict::Refused(Refusal::RouterCount);
-    }
-    if file.len() < 3 {
-        return Verdict::Refused(Refusal::Incomplete);
-    }
-    let announced = two(file, 1);
-    if n * (n - 1) < announced {
-        return Verdict::Refused(Refusal::TooMany);
-    }
-    let answer = links(format, n, &file[3..], announced);
-    if !answer.is_accepted() {
-        return answer;
-    }
-    rest(format, file, announced)
-}
+use std::cmp::Ordering;
 
 // `list` is the bytes from the first link on.
-fn links(format: Format, n: usize, list: &[u8], announced: usize) -> Verdict
+pub(crate) fn links(format: Format, n: usize, list: &[u8], announced: usize) -> Result<(), Refusal>
     requires { n ≤ width }
     ensures { verdict_number result ≡ first announced (link_refusal format n list.now) }
 {
     // Set i holds every j of a link from i to j. The metric table can't tell: a dead link leaves no trace there.
     let mut seen: [Set; WIDTH] = [0; WIDTH];
-    let whole = count(list);
-    for e in 0..announced {
-        if whole <= e {
-            return Verdict::Refused(Refusal::Incomplete);
-        }
-        let entry = decode(list, e);
-        let answer = link(format, n, entry, &seen);
-        if !answer.is_accepted() {
-            return answer;
-        }
-        let from = entry.from;
-        let to = entry.to;
-        seen[from] = add(seen[from], to);
+    let mut entries = Entries::of(list);
+    // So many are announced, whether the list has them or not.
+    for _ in 0..announced {
+        let Some(entry) = entries.next() else {
+            return Err(Refusal::Incomplete);
+        };
+        link(format, n, entry, &seen)?;
+        seen[entry.from] = add(seen[entry.from], entry.to);
     }
-    Verdict::Accepted
+    Ok(())
 }
 
-fn link(format: Format, n: usize, entry: Entry, seen: &[Set; WIDTH]) -> Verdict
+#[tactic(auto, using(area::proofs::TestLaws::then_some, entries::proofs::EntryLaws::faultless_of))]
+fn link(format: Format, n: usize, entry: Entry, seen: &[Set; WIDTH]) -> Result<(), Refusal>
     requires { n ≤ width }
-    ensures { verdict_number result ≡ seen_refusal format n entry seen.now }
+    ensures answer { verdict_number result ≡ seen_refusal format n entry seen.now }
+    ensures in_sets { OnOk result (entry.from < width) }
 {
-    let answer = check(n, entry);
-    if !answer.is_accepted() {
-        return answer;
-    }
+    check(n, entry)?;
     if is_barred(format, entry) {
-        return Verdict::Refused(Refusal::DeadLink);
+        return Err(Refusal::DeadLink);
     }
-    let from = entry.from;
-    let to = entry.to;
-    if member(seen[from], to) {
-        return Verdict::Refused(Refusal::Repeated);
+    if member(seen[entry.from], entry.to) {
+        return Err(Refusal::Repeated);
     }
-    Verdict::Accepted
+    Ok(())
 }
 
 // Is the link dead, in a format that takes none such?
+#[tactic(auto, unfolding(crate::specs::Faults::dead_refusal))]
 fn is_barred(format: Format, entry: Entry) -> bool
     ensures { dead_refusal format entry ≡ pick result dead_link 0 }
 {
-    if takes_dead(format) {
-        return false;
-    }
-    entry.metric == UNUSED
-}
-
-fn takes_dead(format: Format) -> bool
-    ensures { result ≡ takes_dead format }
-{
-    match format {
-        Format::Old => true,
-        Format::New => false,
-    }
+    !format.takes_dead() && entry.metric == UNUSED
 }
 
 // `links` is their number. Each count is tested before what it counts.
-fn rest(format: Format, file: &[u8], links: usize) -> Verdict
+#[tactic(auto, unfolding(crate::specs::Faults::rest_refusal, crate::specs::Read::contents))]
+pub(crate) fn rest(format: Format, file: &[u8], n: usize, links: usize) -> Result<Contents, Refusal>
+    requires n_value { n ≡ routers file.now }
     requires links_value { links ≡ link_count file.now }
-    requires links_bound { links ≤ width * width }
-    ensures { verdict_number result ≡ rest_refusal format file.now }
+    requires links_bound { links < 65536 }
+    ensures answer { verdict_number result ≡ rest_refusal format file.now }
+    ensures contents { IfOk result (λ x. x ≡ contents format file.now) }
 {
     let change_count_at = 3 + ENTRY * links;
-    if file.len() < change_count_at + 1 {
-        return Verdict::Refused(Refusal::Incomplete);
-    }
-    let changes = byte(file, change_count_at);
+    let Some(&changes) = file.get(change_count_at) else {
+        return Err(Refusal::Incomplete);
+    };
+    let changes = usize::from(changes);
     if MOST_CHANGES < changes {
-        return Verdict::Refused(Refusal::TooMany);
+        return Err(Refusal::TooMany);
     }
-    let step_count_at = change_count_at + 1 + ENTRY * changes + times_size(format);
+    let times_at = change_count_at + 1 + ENTRY * changes;
+    let step_count_at = times_at + format.times_size();
     if file.len() < step_count_at + 2 {
-        return Verdict::Refused(Refusal::Incomplete);
+        return Err(Refusal::Incomplete);
     }
     let steps = two(file, step_count_at);
     if MOST_STEPS < steps {
-        return Verdict::Refused(Refusal::TooMany);
+        return Err(Refusal::TooMany);
     }
-    let end = step_count_at + 2 + STEP * steps;
-    if file.len() < end {
-        return Verdict::Refused(Refusal::Incomplete);
+    match file.len().cmp(&(step_count_at + 2 + STEP * steps)) {
+        Ordering::Less => Err(Refusal::Incomplete),
+        Ordering::Greater => Err(Refusal::Trailing),
+        Ordering::Equal => Ok(Contents {
+            n,
+            links,
+            changes: Section {
+                count: changes,
+                at: change_count_at + 1,
+            },
+            steps: Section {
+                count: steps,
+                at: step_count_at + 2,
+            },
+            hold_time: format.time_at(file, times_at),
+            step_time: format.time_at(file, times_at + 2),
+        }),
     }
-    if end < file.len() {
-        return Verdict::Refused(Refusal::Trailing);
-    }
-    Verdict::Accepted
 }

@@ -1,8 +1,10 @@
 // The bench file: one area, one change and a list of steps, as bytes. In the order in which a file goes through them:
-//     faults       judge: the first fault in the order of the bytes
-//     metrics      put: the metric table of the links
-//     examine      judges a file of either format, and says where changes and steps begin
-//     read         Read: the same in the new format, and fills the table
+//     Format       how the two formats differ: dead links, and the times
+//     examine      judges a file of either format, and gives what it says of itself: where changes and steps begin
+//     is_router_count      the first test of it: has an area so many routers?
+//     faults       links, rest: the first fault of the links, and of what follows them
+//     read         Read: the same in the new format, and fills the metric table
+//     metrics      put: the table of the links
 // Definitions, in reading order: specs/Formats.antt (how the formats differ), Sections.antt (what stands where),
 // Faults.antt (the refusals), Read.antt (the promise). What a caller may conclude from them is proofs/FileLaws.antt;
 // the loops' arguments are proofs/Pairs.antt (repeated pairs) and proofs/Linking.antt (the table).
@@ -11,35 +13,36 @@
 mod faults;
 mod metrics;
 
-ghost use Rattle.std.specs.Prelude.{◌≡◌, ◌≤◌};
+ghost use Rattle.std.specs.Prelude.{◌≡◌, ◌≤◌, true, IfOk};
+ghost use Rattle.area.specs.Limits.{width};
 ghost use Rattle.area.specs.Refusals.{verdict_number};
-ghost use Rattle.bench_file.specs.Formats.{times_size, time_at};
+ghost use Rattle.area.specs.Sizes.{is_router_count};
+ghost use Rattle.bench_file.specs.Formats.{takes_dead, times_size, time_at};
 ghost use Rattle.bench_file.specs.Faults.{file_refusal};
-ghost use Rattle.bench_file.specs.Read.{read_refusal, contents, no_contents, contents_by, contents_of, metrics_of};
+ghost use Rattle.bench_file.specs.Read.{read_refusal, contents_by, contents_of, metrics_of};
 
-use area::bytes::{byte, two};
-use area::limits::{CELLS, ENTRY};
+use area::bytes::two;
+use area::limits::{CELLS, WIDTH};
 use area::metrics::clear;
-use area::refusal::{Refusal, Verdict};
-use faults::judge;
+use area::refusal::Refusal;
 
 // The format of stored files, in which links may be listed that are not used and which is without the times, and the
 // format of Read.
-#[derive(Clone, Copy)]
+#[derive(Clone, Copy, Debug, PartialEq, Eq)]
 pub enum Format {
     Old,
     New,
 }
 
 // How many entries or steps a section has, and the place of its first byte in the file.
-#[derive(Clone, Copy)]
+#[derive(Clone, Copy, Debug, PartialEq, Eq)]
 pub struct Section {
     pub count: usize,
     pub at: usize,
 }
 
 // What a file says of itself.
-#[derive(Clone, Copy)]
+#[derive(Clone, Copy, Debug, PartialEq, Eq)]
 pub struct Contents {
     pub n: usize,
     pub links: usize,
@@ -50,113 +53,88 @@ pub struct Contents {
     pub step_time: u16,
 }
 
-// What Read hands back: the answer, and what the file says of itself, which is all 0 with a refusal.
-#[derive(Clone, Copy)]
-pub struct BenchFile {
-    pub answer: Verdict,
-    pub contents: Contents,
+impl Format {
+    // May a link be listed that is not used?
+    fn takes_dead(self) -> bool
+        ensures { result ≡ takes_dead self }
+    {
+        match self {
+            Format::Old => true,
+            Format::New => false,
+        }
+    }
+
+    // How many bytes the two times take.
+    fn times_size(self) -> usize
+        ensures { (result ≡ times_size self) × (result ≤ 4) }
+    {
+        match self {
+            Format::Old => 0,
+            Format::New => 4,
+        }
+    }
+
+    // The time that begins at this place of the file, 0 where the format has none.
+    fn time_at(self, file: &[u8], at: usize) -> u16
+        ensures { result ≡ time_at self file.now at }
+    {
+        match self {
+            Format::Old => 0,
+            Format::New => two(file, at) as u16,
+        }
+    }
 }
 
-// Read: judges the file, and fills the metric table with its links.
-pub fn read(file: &[u8], table: &mut [u32]) -> BenchFile
-    ensures answer { verdict_number result.answer
+// Read: judges the file, fills the metric table with its links, and gives what the file says of itself.
+#[tactic(auto, using(crate::proofs::Reading::reading))]
+pub fn read(file: &[u8], table: &mut [u32]) -> Result<Contents, Refusal>
+    ensures answer { verdict_number result
         ≡ read_refusal file.now table.old }
-    ensures contents { result.contents
-        ≡ contents_of file.now table.old }
+    ensures contents { IfOk result (λ x. x
+        ≡ contents_of file.now table.old) }
     ensures metrics { table.new
         ≡ metrics_of file.now table.old }
 {
     if table.len() != CELLS {
-        return BenchFile {
-            answer: Verdict::Refused(Refusal::TableSize),
-            contents: no_contents(),
-        };
+        return Err(Refusal::TableSize);
     }
     clear(table);
-    let found = examine(Format::New, file);
-    let answer = found.answer;
-    if !answer.is_accepted() {
-        return found;
-    }
-    metrics::put(&file[3..], found.contents.links, table);
-    found
+    let contents = examine(Format::New, file)?;
+    metrics::put(&file[3..], contents.links, table);
+    Ok(contents)
 }
 
 // Judges a file, and gives what it says of itself where it is accepted.
-pub fn examine(format: Format, file: &[u8]) -> BenchFile
-    ensures answer { verdict_number result.answer
+#[tactic(auto, unfolding(crate::specs::Faults::file_refusal, crate::specs::Faults::most_links))]
+pub fn examine(format: Format, file: &[u8]) -> Result<Contents, Refusal>
+    ensures answer { verdict_number result
         ≡ file_refusal format file.now }
-    ensures contents { result.contents
-        ≡ contents_by format file.now }
+    ensures contents { IfOk result (λ x. x
+        ≡ contents_by format file.now) }
 {
-    let answer = judge(format, file);
-    if !answer.is_accepted() {
-        return BenchFile {
-            answer,
-            contents: no_contents(),
-        };
+    let Some(&n) = file.first() else {
+        return Err(Refusal::Incomplete);
+    };
+    let n = usize::from(n);
+    if !is_router_count(n) {
+        return Err(Refusal::RouterCount);
     }
-    BenchFile {
-        answer,
-        contents: describe(format, file),
+    if file.len() < 3 {
+        return Err(Refusal::Incomplete);
     }
+    let announced = two(file, 1);
+    if n * (n - 1) < announced {
+        return Err(Refusal::TooMany);
+    }
+    faults::links(format, n, &file[3..], announced)?;
+    faults::rest(format, file, n, announced)
 }
 
-// What an accepted file says of itself.
-fn describe(format: Format, file: &[u8]) -> Contents
-    ensures { result ≡ contents format file.now }
+// Has an area so many routers?
+#[tactic(auto, using(crate::proofs::Reading::counting))]
+fn is_router_count(n: usize) -> bool
+    ensures answer { result ≡ is_router_count n }
+    ensures within { result ≡ true → (1 ≤ n) × (n ≤ width) }
 {
-    let links = two(file, 1);
-    let change_count_at = 3 + ENTRY * links;
-    let changes = byte(file, change_count_at);
-    let times_at = change_count_at + 1 + ENTRY * changes;
-    let step_count_at = times_at + times_size(format);
-    Contents {
-        n: byte(file, 0),
-        links,
-        changes: Section {
-            count: changes,
-            at: change_count_at + 1,
-        },
-        steps: Section {
-            count: two(file, step_count_at),
-            at: step_count_at + 2,
-        },
-        hold_time: time_at(format, file, times_at),
-        step_time: time_at(format, file, times_at + 2),
-    }
-}
-
-// The time that begins at this place, 0 where the format has none.
-fn time_at(format: Format, file: &[u8], at: usize) -> u16
-    ensures { result ≡ time_at format file.now at }
-{
-    match format {
-        Format::Old => 0,
-        Format::New => two(file, at) as u16,
-    }
-}
-
-// How many bytes the two times take.
-pub(crate) fn times_size(format: Format) -> usize
-    ensures { (result ≡ times_size format) × (result ≤ 4) }
-{
-    match format {
-        Format::Old => 0,
-        Format::New => 4,
-    }
-}
-
-// What is handed back with a refusal.
-fn no_contents() -> Contents
-    ensures { result ≡ no_contents }
-{
-    Contents {
-        n: 0,
-        links: 0,
-        changes: Section { count: 0, at: 0 },
-        steps: Section { count: 0, at: 0 },
-        hold_time: 0,
-        step_time: 0,
-    }
+    (1..=WIDTH).contains(&n)
 }

@@ -1,8 +1,9 @@
 // What the test programs share: from the text of an input to a call, and from what a call gave to the output.
-//     lines      the lines of an input, and of a case its name and its words
+//     lines      the cases of an input: of each its name and its words
 //     read       the numbers of a line, each with its mark, which is the byte before it
 //     metrics    the metric table that a line says
 //     lists      the change list that a line says
+//     tables     the tables that a call is lent, and what became of them
 //     compare    in how many cells two tables differ, and checksums
 //     input      standard input, and files
 //     print      texts and numbers
@@ -19,6 +20,7 @@ pub mod lists;
 pub mod metrics;
 pub mod print;
 pub mod read;
+pub mod tables;
 
 // Cells of the tables that are lent: one more than a table has, so that one can be lent that is too long.
 pub const LONG_TABLE: usize = CELLS + 1;

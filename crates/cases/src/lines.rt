@@ -1,26 +1,18 @@
 // The lines of an input. A case is a line with a colon after its name, and a line with no colon is a comment.
 ghost use Rattle.std.specs.Prelude.{◌≤◌, length};
 
-use crate::read;
 use crate::read::Sought;
+use crate::{input, read};
 
-// The line that begins at this place, without its end, and nothing where no line begins.
-// So a program sees each line once: `for at in 0..text.len() { case(lines::line(text, at)); }`.
-pub fn line(text: &[u8], at: usize) -> &[u8] {
-    let from = begin(text, at);
-    let rest = &text[from..];
-    let end = read::find(rest, b'\n');
-    &rest[0..end]
-}
-
-// This place where a line begins there, and else the length.
-fn begin(text: &[u8], at: usize) -> usize
-    ensures { result ≤ length text.now }
+// Hands each case of standard input, as much of it as has room in `buffer`, to `call`: its name, and its words.
+pub fn each_case<F: FnMut(&[u8], &[u8])>(rt: &HostRuntime, buffer: &mut [u8], mut call: F)
+    requires { F.IsAlwaysCallable call }
 {
-    if at < text.len() && read::is_there(text, Sought::Line, at) {
-        at
-    } else {
-        text.len()
+    let length = input::standard(rt, buffer);
+    for line in buffer[..length].split(|b| *b == b'\n') {
+        if is_case(line) {
+            call(name(line), words(line));
+        }
     }
 }
 
@@ -32,21 +24,20 @@ pub fn start(text: &[u8], k: usize) -> usize
 }
 
 pub fn is_case(line: &[u8]) -> bool {
-    read::find(line, b':') < line.len()
+    line.contains(&b':')
 }
 
 // The name of a case: what stands before the first colon.
 pub fn name(line: &[u8]) -> &[u8] {
     let colon = read::find(line, b':');
-    &line[0..colon]
+    &line[..colon]
 }
 
 // The words of a case: what stands after the first colon.
 pub fn words(line: &[u8]) -> &[u8] {
     let colon = read::find(line, b':');
-    if line.len() <= colon {
-        return &line[colon..];
+    match &line[colon..] {
+        [_, words @ ..] => words,
+        [] => &[],
     }
-    let from = colon + 1;
-    &line[from..]
 }

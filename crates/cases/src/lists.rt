@@ -1,6 +1,6 @@
 // Change lists: an entry is two routers, and the metric in three bytes, the high one first.
-ghost use Rattle.std.specs.Prelude.{◌+◌, ◌-◌, ◌*◌, ◌<◌, ◌≤◌};
-ghost use Rattle.area.specs.Limits.{width, most_changes};
+ghost use Rattle.std.specs.Prelude.{◌+◌, ◌*◌, ◌<◌, ◌≤◌};
+ghost use Rattle.area.specs.Limits.{most_changes};
 
 use crate::LONG_LIST;
 use crate::read::{MOST, mark, number, value};
@@ -17,6 +17,7 @@ pub fn fill(list: &mut [u8; LONG_LIST], line: &[u8]) -> usize
     ensures at_most { result ≤ 5 * (most_changes + 2) }
 {
     let mut e = 0;
+    // By the numbers of the line: a word has one of them, two or three, so that no slice has its words.
     for k in 0..MOST {
         e = word(list, e, line, k);
     }
@@ -67,19 +68,12 @@ fn change(list: &mut [u8; LONG_LIST], e: usize, from: u64, to: u64, sign: u8, m:
 
 // Every link of the hub, both ways, gets the same metric.
 fn hub(list: &mut [u8; LONG_LIST], hub: u64, m: u64) -> usize {
-    for e in 0..WIDTH - 1 {
-        let k = other(hub, e as u64);
-        entry(list, 2 * ENTRY * e, k, hub, m);
-        entry(list, 2 * ENTRY * e + ENTRY, hub, k, m);
+    let others = (0..WIDTH as u64).filter(|k| *k != hub).take(WIDTH - 1);
+    for (links, k) in list.chunks_exact_mut(2 * ENTRY).zip(others) {
+        entry(links, 0, k, hub, m);
+        entry(links, ENTRY, hub, k, m);
     }
     MOST_CHANGES
-}
-
-// Router e of those that are not the hub.
-fn other(hub: u64, e: u64) -> u64
-    requires { e < width - 1 }
-{
-    if e < hub { e } else { e + 1 }
 }
 
 // Puts an entry at a place of a list, as far as there is room for it.

@@ -20,6 +20,7 @@ use area::limits::{CELLS, WIDTH};
 // `area`, so that a wrong number there shows.
 pub fn fill(table: &mut [u32; LONG_TABLE], line: &[u8]) {
     *table = [cell(value(line, b'f', 16777215)); LONG_TABLE];
+    // By the numbers of the line: a word has one of them, two or three, so that no slice has its words.
     for k in 0..MOST {
         word(table, line, k);
     }
@@ -63,8 +64,8 @@ fn put(table: &mut [u32; LONG_TABLE], from: u64, to: u64, m: u64) {
 
 // Every cell by the letter of a word and its numbers.
 fn every(table: &mut [u32; LONG_TABLE], letter: u8, x: u64, y: u64) {
-    for k in 0..CELLS {
-        table[k] = by_letter(letter, x, y, k as u64, table[k]);
+    for (k, cell) in table[..CELLS].iter_mut().enumerate() {
+        *cell = by_letter(letter, x, y, k as u64, *cell);
     }
 }
 
@@ -95,7 +96,7 @@ fn is_next(last: u64, i: u64, j: u64) -> bool
 }
 
 fn is_one_bit(x: u64) -> bool {
-    u64::count_ones(x) == 1
+    x.is_power_of_two()
 }
 
 fn cell(m: u64) -> u32 {

@@ -4,8 +4,7 @@ pub fn text(rt: &HostRuntime, t: &[u8]) {
 }
 
 pub fn byte(rt: &HostRuntime, b: u8) {
-    let one = [b];
-    text(rt, &one);
+    text(rt, &[b]);
 }
 
 pub fn number(rt: &HostRuntime, x: u64) {
@@ -14,13 +13,12 @@ pub fn number(rt: &HostRuntime, x: u64) {
 
 // A text with a number in the place of each #.
 pub fn form(rt: &HostRuntime, t: &[u8], numbers: &[u64]) {
-    let mut k = 0;
-    for at in 0..t.len() {
-        if t[at] != b'#' {
-            byte(rt, t[at]);
-        } else if k < numbers.len() {
-            number(rt, numbers[k]);
-            k += 1;
+    let mut left = numbers.iter();
+    for b in t {
+        if *b != b'#' {
+            byte(rt, *b);
+        } else if let Some(x) = left.next() {
+            number(rt, *x);
         }
     }
 }

@@ -9,8 +9,6 @@ pub const MOST: usize = 200;
 // What is looked for in a text.
 #[derive(Clone, Copy)]
 pub enum Sought {
-    // A byte.
-    Byte(u8),
     // The first byte of a line.
     Line,
     // The first digit of a number.
@@ -23,29 +21,20 @@ pub enum Sought {
 pub fn place(text: &[u8], sought: Sought, k: usize) -> usize
     ensures inside { result ≤ length text.now }
 {
-    let mut seen = 0;
-    for at in 0..text.len() {
-        if is_there(text, sought, at) {
-            if seen == k {
-                return at;
-            }
-            seen += 1;
-        }
-    }
-    text.len()
+    let mut places = (0..text.len()).filter(|at| is_there(text, sought, *at));
+    places.nth(k).unwrap_or(text.len())
 }
 
 // The place of the first byte that is b, and the length where there is none.
 pub fn find(text: &[u8], b: u8) -> usize
     ensures inside { result ≤ length text.now }
 {
-    place(text, Sought::Byte(b), 0)
+    text.iter().position(|x| *x == b).unwrap_or(text.len())
 }
 
 // Is it at this place?
 pub fn is_there(text: &[u8], sought: Sought, at: usize) -> bool {
     match sought {
-        Sought::Byte(b) => byte(text, at) == b,
         Sought::Line => at == 0 || before(text, at) == b'\n',
         Sought::Number => begins(text, at),
         Sought::Marked(mark) => begins(text, at) && before(text, at) == mark,
@@ -54,12 +43,12 @@ pub fn is_there(text: &[u8], sought: Sought, at: usize) -> bool {
 
 // Does a number begin here?
 fn begins(text: &[u8], at: usize) -> bool {
-    is_digit(byte(text, at)) && !is_digit(before(text, at))
+    byte(text, at).is_ascii_digit() && !before(text, at).is_ascii_digit()
 }
 
 // The byte at a place, and 0 where there is none.
 fn byte(text: &[u8], at: usize) -> u8 {
-    if at < text.len() { text[at] } else { 0 }
+    text.get(at).copied().unwrap_or(0)
 }
 
 // The byte before a place, and 0 where there is none.
@@ -68,10 +57,6 @@ fn before(text: &[u8], at: usize) -> u8 {
         return 0;
     }
     byte(text, at - 1)
-}
-
-fn is_digit(b: u8) -> bool {
-    b'0' <= b && b <= b'9'
 }
 
 // Number k, and 0 where the line has fewer.
@@ -126,11 +111,11 @@ fn said(line: &[u8], i: usize) -> u64 {
 // The number that a text begins with, and 0 where it begins with none.
 fn digits(text: &[u8]) -> u64 {
     let mut x = 0;
-    for at in 0..text.len() {
-        if !is_digit(text[at]) {
+    for b in text {
+        if !b.is_ascii_digit() {
             return x;
         }
-        x = longer(x, text[at]);
+        x = longer(x, *b);
     }
     x
 }

@@ -5,6 +5,7 @@
 --     common_root              where any router is common, the root is
 --     root_least               and no common router has a lower number
 --     root_in                  the root is one of the n routers
+--     root_ends                what tells the root by the two ends of the first change
 -- A common router is an end of the first change (`common_end`): the root is found among these two.
 use Rattle.std.specs.Prelude.{ℕ, ◌≤◌, ◌<◌, ◌≡◌, true, false, ◌||◌, ◌⊎◌, List}
 use Rattle.std.proofs.Math.Path.{refl, ap₂}
@@ -16,6 +17,7 @@ use Rattle.std.proofs.Math.Dec.{eqb}
 use Rattle.area.specs.Tests.{pick}
 use Rattle.area.proofs.TestLaws.{look, or_cases, all_at}
 use Rattle.entries.specs.Entries.{entry_count, from, to}
+use Rattle.entries.proofs.EntryLaws.{read_from, read_to}
 use Rattle.changes.specs.Root.{is_common, lower_end, upper_end, root}
 
 module _ (l : List ℕ) where
@@ -82,3 +84,6 @@ root_in n l a b =
     (λ t. omega (arith, root_lower l t))
     (λ f. omega (arith, root_upper l f))
     (look (is_common l (lower_end l)))
+
+-- what tells the root by the two ends of the first change
+pub ruleset root_ends = (root_lower, root_upper, read_from, read_to)

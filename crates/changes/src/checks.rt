@@ -11,43 +11,45 @@ ghost use Rattle.entries.specs.Entries.{entry_count, entry_of, is_first, listed_
 ghost use Rattle.entries.specs.Seen.{Seen};
 
 use area::limits::{Set, WIDTH};
-use area::refusal::{Refusal, Verdict};
+use area::refusal::Refusal;
 use entries::{Entry, check, count, decode};
 use sets::{add, member};
 
 // The refusal of the first faulty change.
-pub fn first_refusal(n: usize, list: &[u8]) -> Verdict
+pub fn first_refusal(n: usize, list: &[u8]) -> Result<(), Refusal>
     ensures answer { verdict_number result ≡ first (entry_count list.now) (listed_refusal n list.now) }
 {
     // Set i holds every j of a change from i to j.
     let mut seen: [Set; WIDTH] = [0; WIDTH];
+    // By places: where no set holds a pair, the list is gone over up to the place of the change.
     for e in 0..count(list) {
         let change = decode(list, e);
-        let answer = refusal(n, list, e, change, &seen);
-        if !answer.is_accepted() {
-            return answer;
-        }
-        let from = change.from;
-        if from < WIDTH {
-            seen[from] = add(seen[from], change.to);
+        refusal(n, list, e, change, &seen)?;
+        if change.from < WIDTH {
+            seen[change.from] = add(seen[change.from], change.to);
         }
     }
-    Verdict::Accepted
+    Ok(())
 }
 
 // The refusal of change e. `seen` has the pairs before it.
-fn refusal(n: usize, list: &[u8], e: usize, change: Entry, seen: &[Set; WIDTH]) -> Verdict
+#[tactic(auto, using(crate::proofs::ChangeLaws::refused))]
+fn refusal(
+    n: usize,
+    list: &[u8],
+    e: usize,
+    change: Entry,
+    seen: &[Set; WIDTH],
+) -> Result<(), Refusal>
     requires { (change ≡ entry_of list.now e) × Seen list.now e seen.now }
     ensures { verdict_number result ≡ listed_refusal n list.now e }
 {
-    let answer = check(n, change);
-    if !answer.is_accepted() {
-        return answer;
+    check(n, change)?;
+    if is_new(list, e, change, seen) {
+        Ok(())
+    } else {
+        Err(Refusal::Repeated)
     }
-    if !is_new(list, e, change, seen) {
-        return Verdict::Refused(Refusal::Repeated);
-    }
-    Verdict::Accepted
 }
 
 // Has no change before e the same pair?
@@ -55,28 +57,20 @@ fn is_new(list: &[u8], e: usize, change: Entry, seen: &[Set; WIDTH]) -> bool
     requires { (change ≡ entry_of list.now e) × Seen list.now e seen.now }
     ensures { result ≡ is_first list.now e }
 {
-    let from = change.from;
-    let to = change.to;
-    if from < WIDTH {
-        if to < WIDTH {
-            return !member(seen[from], to);
-        }
+    if change.from < WIDTH && change.to < WIDTH {
+        !member(seen[change.from], change.to)
+    } else {
+        is_new_beyond(list, e, change)
     }
-    is_new_beyond(list, e)
 }
 
 // The same of any pair: no set holds a router from WIDTH on, so the list is gone over.
-fn is_new_beyond(list: &[u8], e: usize) -> bool
+fn is_new_beyond(list: &[u8], e: usize, change: Entry) -> bool
+    requires { change ≡ entry_of list.now e }
     ensures { result ≡ is_first list.now e }
 {
-    let change = decode(list, e);
-    for d in 0..e {
+    (0..e).all(|d| {
         let earlier = decode(list, d);
-        if earlier.from == change.from {
-            if earlier.to == change.to {
-                return false;
-            }
-        }
-    }
-    true
+        !(earlier.from == change.from && earlier.to == change.to)
+    })
 }

@@ -1,3 +1,5 @@
 pub mod DifferentLaws
+pub mod EachLaws
 pub mod EntryLaws
+pub mod ListLaws
 pub mod SeenLaws

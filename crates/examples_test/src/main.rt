@@ -1,6 +1,6 @@
 // Prints the name of every example that standard input names, one in a line, and under it its rehearsal. What an
 // example says of its own rehearsal is held to this by the gate.
-//     run          the lines of the input
+//     example      the name, and what its file gives
 //     open         the file of an example
 //     rehearse     from its hexadecimal to the text that is printed
 //     rehearsal    the rehearsal, in tables that hold nothing
@@ -8,24 +8,22 @@
 
 ghost use Rattle.std.specs.Prelude.{◌≡◌, ◌≤◌, length, take, IfSome};
 
-use area::limits::{CELLS, LARGEST, Set};
-use cases::{input, lines, print};
+use area::limits::{CELLS, LARGEST};
+use cases::{input, print};
+use paths::Topology;
 use report::{REHEARSAL_ROOM, Text};
+use text::Writer;
 
 fn main(rt: HostRuntime) {
     let mut text = [0u8; 4096];
     let length = input::standard(&rt, &mut text);
-    run(&rt, &text[..length]);
-}
-
-fn run(rt: &HostRuntime, names: &[u8]) {
-    for at in 0..names.len() {
-        example(rt, lines::line(names, at));
+    for name in text[..length].split(|b| *b == b'\n') {
+        example(&rt, name);
     }
 }
 
 fn example(rt: &HostRuntime, name: &[u8]) {
-    if name.len() == 0 {
+    if name.is_empty() {
         return;
     }
     print::text(rt, name);
@@ -42,8 +40,10 @@ fn open(rt: &HostRuntime, name: &[u8], out: &mut [u8]) -> Option<usize>
     ensures { IfSome result (λ n. (n ≤ length out.new) × (n ≡ length (take n out.new))) }
 {
     let mut path = [0u8; 64];
-    let length = text::append(&mut path, 0, name);
-    let length = text::append(&mut path, length, b".hex");
+    let mut text = Writer::new(&mut path);
+    text.append(name);
+    text.append(b".hex");
+    let length = text.at;
     input::file(rt, &path[..length], out)
 }
 
@@ -51,9 +51,9 @@ fn open(rt: &HostRuntime, name: &[u8], out: &mut [u8]) -> Option<usize>
 fn rehearse(rt: &HostRuntime, text: &[u8]) {
     let mut file = [0u8; LARGEST + 1];
     let mut out = [0u8; REHEARSAL_ROOM];
-    let unhexed = hexadecimal::unhex(text, &mut file);
-    let size = unhexed.length;
-    let length = rehearsal(&file[..size], &mut out);
+    let length = match hexadecimal::unhex(text, &mut file) {
+        Ok(size) | Err(size) => rehearsal(&file[..size], &mut out),
+    };
     print::text(rt, &out[..length]);
 }
 
@@ -61,25 +61,25 @@ fn rehearse(rt: &HostRuntime, text: &[u8]) {
 fn rehearsal(file: &[u8], out: &mut [u8]) -> usize
     ensures { (result ≤ length out.new) × (result ≡ length (take result out.new)) }
 {
-    let mut old = [0u32; CELLS];
-    let mut new = [0u32; CELLS];
-    let mut old_dist = [0u32; CELLS];
-    let mut old_hops: [Set; CELLS] = [0; CELLS];
-    let mut old_fours: [Set; CELLS] = [0; CELLS];
-    let mut new_dist = [0u32; CELLS];
-    let mut new_hops: [Set; CELLS] = [0; CELLS];
-    let mut new_fours: [Set; CELLS] = [0; CELLS];
+    let mut before = [0u32; CELLS];
+    let mut metrics = [0u32; CELLS];
+    let mut old = Topology {
+        dist: &mut [0; CELLS],
+        hops: &mut [0; CELLS],
+        fours: &mut [0; CELLS],
+    };
+    let mut new = Topology {
+        dist: &mut [0; CELLS],
+        hops: &mut [0; CELLS],
+        fours: &mut [0; CELLS],
+    };
     report::print(
         Text::Rehearsal,
         file,
+        &mut before,
+        &mut metrics,
         &mut old,
         &mut new,
-        &mut old_dist,
-        &mut old_hops,
-        &mut old_fours,
-        &mut new_dist,
-        &mut new_hops,
-        &mut new_fours,
         out,
     )
 }

@@ -9,7 +9,7 @@
 //     ofib_rehearse, ofib_routes      the texts that the programs print
 // Module `fields` takes a record from its fields and puts it back, and makes a number of a step's answer. Each function
 // promises what the call under it promises: the same definitions, over the numbers of specs/Fields.antt and
-// specs/Exports.antt. How such an equation is handed on is proofs/Handing.antt.
+// specs/Exports.antt. What goes over with a refusal is proofs/Handing.antt.
 #![tactic(auto)]
 
 mod fields;
@@ -31,11 +31,17 @@ ghost use Rattle.exports.specs.Fields.{record_from, reply_number};
 ghost use Rattle.exports.specs.Exports.{numbers};
 
 use area::limits::{Set, WIDTH};
-use fields::{hand_back, record_from, reply_number};
+use area::refusal::number_of;
+use fields::{Places, reply_number};
+use paths::Topology;
+use plan::{Change, blank};
 use report::Text;
+use sheet::in_turn;
+use steps::lent::Lent;
 
 // Read. `contents` gets n, the number of links, the number of changes and where they begin, the number of steps and
 // where they begin, the hold time and the step time.
+#[tactic(auto, using(crate::proofs::Handing::refused))]
 #[unsafe(no_mangle)]
 pub extern "C" fn ofib_read(file: &[u8], table: &mut [u32], contents: &mut [usize; 8]) -> u8
     ensures answer { result ≡ read_refusal file.now table.old }
@@ -44,19 +50,21 @@ pub extern "C" fn ofib_read(file: &[u8], table: &mut [u32], contents: &mut [usiz
     ensures metrics { table.new
         ≡ metrics_of file.now table.old }
 {
-    let found = bench_file::read(file, table);
-    *contents = [
-        found.contents.n,
-        found.contents.links,
-        found.contents.changes.count,
-        found.contents.changes.at,
-        found.contents.steps.count,
-        found.contents.steps.at,
-        found.contents.hold_time as usize,
-        found.contents.step_time as usize,
-    ];
-    let answer = found.answer;
-    answer.number()
+    let answer = bench_file::read(file, table);
+    *contents = match answer {
+        Ok(found) => [
+            found.n,
+            found.links,
+            found.changes.count,
+            found.changes.at,
+            found.steps.count,
+            found.steps.at,
+            usize::from(found.hold_time),
+            usize::from(found.step_time),
+        ],
+        Err(_) => [0; 8],
+    };
+    number_of(&answer)
 }
 
 // The metrics of an area from IS-IS: a table of identities, and a list for each of the n routers.
@@ -66,56 +74,56 @@ pub extern "C" fn ofib_isis(n: usize, identities: &[u8], lists: &[u8], table: &m
     ensures metrics { table.new
         ≡ isis_metrics n identities.now lists.now table.old }
 {
-    let answer = isis::read(n, identities, lists, table);
-    answer.number()
+    number_of(&isis::read(n, identities, lists, table))
 }
 
 // Paths.
 #[unsafe(no_mangle)]
-pub extern "C" fn ofib_paths(
+pub extern "C" fn ofib_paths<'a>(
     n: usize,
     metric: &[u32],
-    dist: &mut [u32],
-    hops: &mut [Set],
-    fours: &mut [Set],
+    dist: &'a mut [u32],
+    hops: &'a mut [Set],
+    fours: &'a mut [Set],
 ) -> u8
     ensures answer { let lent = paths_in dist.old hops.old fours.old in
         result ≡ paths_refusal n metric.now lent }
     ensures tables { let lent = paths_in dist.old hops.old fours.old in
         paths_in dist.new hops.new fours.new ≡ paths_of n metric.now lent }
 {
-    let answer = paths::paths(n, metric, dist, hops, fours);
-    answer.number()
+    let mut tables = Topology { dist, hops, fours };
+    number_of(&paths::paths(n, metric, &mut tables))
 }
 
 // Plan. The record that it hands back is put into the thirteen last places.
+#[tactic(auto, using(crate::proofs::Handing::refused))]
 #[unsafe(no_mangle)]
-pub extern "C" fn ofib_plan(
+pub extern "C" fn ofib_plan<'a>(
     n: usize,
     hold_time: u16,
     step_time: u16,
     old: &[u32],
     list: &[u8],
     new: &mut [u32],
-    old_dist: &mut [u32],
-    old_hops: &mut [Set],
-    old_fours: &mut [Set],
-    new_dist: &mut [u32],
-    new_hops: &mut [Set],
-    new_fours: &mut [Set],
-    routers: &mut u8,
-    root: &mut u8,
-    direction: &mut u8,
-    ranks: &mut [u8; WIDTH],
-    waiting: &mut [Set; WIDTH],
-    telling: &mut [Set; WIDTH],
-    due: &mut [Set; WIDTH],
-    states: &mut [u8; WIDTH],
-    written: &mut [Set; WIDTH],
-    record_hold_time: &mut u16,
-    record_step_time: &mut u16,
-    clock: &mut u32,
-    learn_times: &mut [u32; WIDTH],
+    old_dist: &'a mut [u32],
+    old_hops: &'a mut [Set],
+    old_fours: &'a mut [Set],
+    new_dist: &'a mut [u32],
+    new_hops: &'a mut [Set],
+    new_fours: &'a mut [Set],
+    routers: &'a mut u8,
+    root: &'a mut u8,
+    direction: &'a mut u8,
+    ranks: &'a mut [u8; WIDTH],
+    waiting: &'a mut [Set; WIDTH],
+    telling: &'a mut [Set; WIDTH],
+    due: &'a mut [Set; WIDTH],
+    states: &'a mut [u8; WIDTH],
+    written: &'a mut [Set; WIDTH],
+    record_hold_time: &'a mut u16,
+    record_step_time: &'a mut u16,
+    clock: &'a mut u32,
+    learn_times: &'a mut [u32; WIDTH],
 ) -> u8
     ensures answer { let lent = tables_in new.old
         old_dist.old old_hops.old old_fours.old
@@ -139,12 +147,25 @@ pub extern "C" fn ofib_plan(
         new_dist.new new_hops.new new_fours.new
         ≡ tables_of n step_time old.now list.now lent }
 {
-    let planned = plan::plan(
-        n, hold_time, step_time, old, list, new, old_dist, old_hops, old_fours, new_dist, new_hops,
-        new_fours,
-    );
-    hand_back(
-        planned.record,
+    let change = Change {
+        n,
+        hold_time,
+        step_time,
+        metrics: old,
+        list,
+    };
+    let mut before = Topology {
+        dist: old_dist,
+        hops: old_hops,
+        fours: old_fours,
+    };
+    let mut after = Topology {
+        dist: new_dist,
+        hops: new_hops,
+        fours: new_fours,
+    };
+    let answer = plan::plan(change, new, &mut before, &mut after);
+    let mut places = Places {
         routers,
         root,
         direction,
@@ -154,30 +175,34 @@ pub extern "C" fn ofib_plan(
         due,
         states,
         written,
-        record_hold_time,
-        record_step_time,
+        hold_time: record_hold_time,
+        step_time: record_step_time,
         clock,
         learn_times,
-    );
-    let answer = planned.answer;
-    answer.number()
+    };
+    places.put(match answer {
+        Ok(record) => record,
+        Err(_) => blank(),
+    });
+    number_of(&answer)
 }
 
 // The running sheet: Plan's input and tables, and `routers` gets the routers in their order.
+#[tactic(auto, using(crate::proofs::Handing::refused))]
 #[unsafe(no_mangle)]
-pub extern "C" fn ofib_sheet(
+pub extern "C" fn ofib_sheet<'a>(
     n: usize,
     hold_time: u16,
     step_time: u16,
     old: &[u32],
     list: &[u8],
     new: &mut [u32],
-    old_dist: &mut [u32],
-    old_hops: &mut [Set],
-    old_fours: &mut [Set],
-    new_dist: &mut [u32],
-    new_hops: &mut [Set],
-    new_fours: &mut [Set],
+    old_dist: &'a mut [u32],
+    old_hops: &'a mut [Set],
+    old_fours: &'a mut [Set],
+    new_dist: &'a mut [u32],
+    new_hops: &'a mut [Set],
+    new_fours: &'a mut [Set],
     routers: &mut [u8; WIDTH],
 ) -> u8
     ensures answer { let lent = tables_in new.old
@@ -198,31 +223,46 @@ pub extern "C" fn ofib_sheet(
         new_dist.new new_hops.new new_fours.new
         ≡ tables_of n step_time old.now list.now lent }
 {
-    let made = sheet::sheet(
-        n, hold_time, step_time, old, list, new, old_dist, old_hops, old_fours, new_dist, new_hops,
-        new_fours,
-    );
-    let of_routers = made.routers;
-    *routers = of_routers;
-    let answer = made.answer;
-    answer.number()
+    let change = Change {
+        n,
+        hold_time,
+        step_time,
+        metrics: old,
+        list,
+    };
+    let mut before = Topology {
+        dist: old_dist,
+        hops: old_hops,
+        fours: old_fours,
+    };
+    let mut after = Topology {
+        dist: new_dist,
+        hops: new_hops,
+        fours: new_fours,
+    };
+    let answer = sheet::sheet(change, new, &mut before, &mut after);
+    *routers = match answer {
+        Ok(made) => made,
+        Err(_) => in_turn(blank()),
+    };
+    number_of(&answer)
 }
 
 // Step. It reads all of a record but root and direction, and changes four of the tables per router and the clock. The
 // answer is 0 for ok, 255 for ignored, and the number of a refusal.
 #[unsafe(no_mangle)]
-pub extern "C" fn ofib_step(
+pub extern "C" fn ofib_step<'a>(
     n: u8,
-    ranks: &[u8; WIDTH],
-    waiting: &mut [Set; WIDTH],
-    telling: &[Set; WIDTH],
-    due: &[Set; WIDTH],
-    states: &mut [u8; WIDTH],
-    written: &mut [Set; WIDTH],
+    ranks: &'a [u8; WIDTH],
+    waiting: &'a mut [Set; WIDTH],
+    telling: &'a [Set; WIDTH],
+    due: &'a [Set; WIDTH],
+    states: &'a mut [u8; WIDTH],
+    written: &'a mut [Set; WIDTH],
     hold_time: u16,
     step_time: u16,
-    clock: &mut u32,
-    learn_times: &mut [u32; WIDTH],
+    clock: &'a mut u32,
+    learn_times: &'a mut [u32; WIDTH],
     kind: u8,
     a: u8,
     b: u8,
@@ -244,7 +284,7 @@ pub extern "C" fn ofib_step(
         states.new written.new
         ≡ (step_of before kind a b).next }
 {
-    let answer = steps::lent::step(
+    let mut lent = Lent {
         n,
         ranks,
         waiting,
@@ -256,30 +296,27 @@ pub extern "C" fn ofib_step(
         step_time,
         clock,
         learn_times,
-        kind,
-        a,
-        b,
-    );
-    reply_number(answer)
+    };
+    reply_number(lent.step(kind, a, b))
 }
 
 // All the steps that the bytes stand for, three bytes each. The thirteen first places are the record, and get the last
 // one.
 #[unsafe(no_mangle)]
-pub extern "C" fn ofib_run(
-    routers: &mut u8,
-    root: &mut u8,
-    direction: &mut u8,
-    ranks: &mut [u8; WIDTH],
-    waiting: &mut [Set; WIDTH],
-    telling: &mut [Set; WIDTH],
-    due: &mut [Set; WIDTH],
-    states: &mut [u8; WIDTH],
-    written: &mut [Set; WIDTH],
-    hold_time: &mut u16,
-    step_time: &mut u16,
-    clock: &mut u32,
-    learn_times: &mut [u32; WIDTH],
+pub extern "C" fn ofib_run<'a>(
+    routers: &'a mut u8,
+    root: &'a mut u8,
+    direction: &'a mut u8,
+    ranks: &'a mut [u8; WIDTH],
+    waiting: &'a mut [Set; WIDTH],
+    telling: &'a mut [Set; WIDTH],
+    due: &'a mut [Set; WIDTH],
+    states: &'a mut [u8; WIDTH],
+    written: &'a mut [Set; WIDTH],
+    hold_time: &'a mut u16,
+    step_time: &'a mut u16,
+    clock: &'a mut u32,
+    learn_times: &'a mut [u32; WIDTH],
     bytes: &[u8],
 )
     ensures record { let first = record_from routers.old root.old direction.old
@@ -292,24 +329,7 @@ pub extern "C" fn ofib_run(
         hold_time.new step_time.new clock.new learn_times.new
         ≡ run first (calls_of bytes.now) }
 {
-    let first = record_from(
-        *routers,
-        *root,
-        *direction,
-        ranks,
-        waiting,
-        telling,
-        due,
-        states,
-        written,
-        *hold_time,
-        *step_time,
-        *clock,
-        learn_times,
-    );
-    let last = steps::run(first, bytes);
-    hand_back(
-        last,
+    let mut places = Places {
         routers,
         root,
         direction,
@@ -323,7 +343,9 @@ pub extern "C" fn ofib_run(
         step_time,
         clock,
         learn_times,
-    );
+    };
+    let first = places.record();
+    places.put(steps::run(first, bytes));
 }
 
 // How many calls are answered ok until all routers are done. n and two of the tables per router are all that it reads
@@ -355,16 +377,16 @@ pub extern "C" fn ofib_missing(
 
 // The text of the rehearsal of a file.
 #[unsafe(no_mangle)]
-pub extern "C" fn ofib_rehearse(
+pub extern "C" fn ofib_rehearse<'a>(
     file: &[u8],
     old: &mut [u32],
     new: &mut [u32],
-    old_dist: &mut [u32],
-    old_hops: &mut [Set],
-    old_fours: &mut [Set],
-    new_dist: &mut [u32],
-    new_hops: &mut [Set],
-    new_fours: &mut [Set],
+    old_dist: &'a mut [u32],
+    old_hops: &'a mut [Set],
+    old_fours: &'a mut [Set],
+    new_dist: &'a mut [u32],
+    new_hops: &'a mut [Set],
+    new_fours: &'a mut [Set],
     out: &mut [u8],
 ) -> usize
     ensures text { let lent = tables_in new.old
@@ -381,33 +403,39 @@ pub extern "C" fn ofib_rehearse(
         new_dist.new new_hops.new new_fours.new in
         left ≡ tables_at file.now old.old lent }
 {
+    let mut before = Topology {
+        dist: old_dist,
+        hops: old_hops,
+        fours: old_fours,
+    };
+    let mut after = Topology {
+        dist: new_dist,
+        hops: new_hops,
+        fours: new_fours,
+    };
     report::print(
         Text::Rehearsal,
         file,
         old,
         new,
-        old_dist,
-        old_hops,
-        old_fours,
-        new_dist,
-        new_hops,
-        new_fours,
+        &mut before,
+        &mut after,
         out,
     )
 }
 
 // The text of the routes of a file.
 #[unsafe(no_mangle)]
-pub extern "C" fn ofib_routes(
+pub extern "C" fn ofib_routes<'a>(
     file: &[u8],
     old: &mut [u32],
     new: &mut [u32],
-    old_dist: &mut [u32],
-    old_hops: &mut [Set],
-    old_fours: &mut [Set],
-    new_dist: &mut [u32],
-    new_hops: &mut [Set],
-    new_fours: &mut [Set],
+    old_dist: &'a mut [u32],
+    old_hops: &'a mut [Set],
+    old_fours: &'a mut [Set],
+    new_dist: &'a mut [u32],
+    new_hops: &'a mut [Set],
+    new_fours: &'a mut [Set],
     out: &mut [u8],
 ) -> usize
     ensures text { let lent = tables_in new.old
@@ -423,17 +451,15 @@ pub extern "C" fn ofib_routes(
         new_dist.new new_hops.new new_fours.new in
         left ≡ tables_at file.now old.old lent }
 {
-    report::print(
-        Text::Routes,
-        file,
-        old,
-        new,
-        old_dist,
-        old_hops,
-        old_fours,
-        new_dist,
-        new_hops,
-        new_fours,
-        out,
-    )
+    let mut before = Topology {
+        dist: old_dist,
+        hops: old_hops,
+        fours: old_fours,
+    };
+    let mut after = Topology {
+        dist: new_dist,
+        hops: new_hops,
+        fours: new_fours,
+    };
+    report::print(Text::Routes, file, old, new, &mut before, &mut after, out)
 }

@@ -20,12 +20,10 @@ fn main(rt: HostRuntime) {
     let mut stream = [0u8; LONGEST + 1];
     let mut table = [0u32; CELLS];
     let mut out = [0u8; ROOM];
-    let input = streams::read(&rt, b"from_isis", &mut stream);
-    if input.is_failed {
-        return;
+    if let Some(count) = streams::read(&rt, b"from_isis", &mut stream) {
+        let length = whole(&stream, count, &mut table, &mut out);
+        streams::write(&rt, b"from_isis", &out[..length]);
     }
-    let length = whole(&stream, input.length, &mut table, &mut out);
-    streams::write(&rt, b"from_isis", &out[..length]);
 }
 
 // Puts all that is written for the input at the start of `out`, and gives its length. The first `count` bytes of

@@ -1,40 +1,32 @@
 -- Laws of texts and binary files.
---     control_space, control_other     a control byte: white space is none, and every other byte is one below 32
---     text_more, text_end              a text, byte by byte
+--     text_none                        a text is a list without control bytes
 --     hexed_text                       the text of a list of bytes is one
 --     text_control                     with a control byte anywhere it is none
 --     accepted_binary                  no bench file of either format that is accepted is taken for a text
 -- Why: the high byte of its link count is below 16. Where that is no control byte, it is 9 or more, and there are 2,304
 -- links or more. The routers whose numbers are no control bytes are 37, from 9 to 13 and from 32 on; these have 1,369
 -- pairs, and no pair is listed twice. So some link has an end that is a control byte.
-use Rattle.std.specs.Prelude.{ℕ, zero, suc, ◌+◌, ◌-◌, ◌/◌, ◌%◌, ◌≤◌, ◌<◌, min, ◌≡◌, Bool, true, not, ◌⊎◌, List, [], ◌∷◌}
-use Rattle.std.specs.Prelude.{ltb, length, get_or, drop}
+use Rattle.std.specs.Prelude.{ℕ, zero, suc, ◌+◌, ◌-◌, ◌/◌, ◌%◌, ◌≤◌, ◌<◌, min, ◌≡◌, Bool, true, not, ◌&&◌, ◌||◌, ◌⊎◌}
+use Rattle.std.specs.Prelude.{List, [], ◌∷◌}
+use Rattle.std.specs.Prelude.{length, get_or}
 use Rattle.std.proofs.Math.Path.{refl}
-use Rattle.std.proofs.Common.{sym, ◌∙◌, inl, inr, ⊎_elim, not-suc-le-zero, le_of_suc-le-suc, add-one, arith, lt-ltb}
-use Rattle.std.proofs.Common.{le-ltb, drop_of_length-le, drop-cons}
+use Rattle.std.proofs.Common.{sym, ◌∙◌, inl, inr, ⊎_elim, not-suc-le-zero, le_of_suc-le-suc, arith, lt-ltb}
+use Rattle.std.proofs.Common.{le-ltb}
 use Rattle.std.proofs.Math.Bool.{false}
 use Rattle.std.proofs.lemmas.Bool.{false≢true}
 use Rattle.std.proofs.Math.Decide.{dec_lt}
+use Rattle.std.specs.List.{list_any}
 use Rattle.area.specs.Limits.{width}
-use Rattle.area.proofs.TestLaws.{look, and_false, and_one}
+use Rattle.area.proofs.TestLaws.{look, and_false}
 use Rattle.bench_file.specs.declared.Format.{Format}
 use Rattle.bench_file.specs.Faults.{file_refusal}
 use Rattle.bench_file.proofs.FaultLaws.{Accepted, accepted_of}
 use Rattle.bench_file.proofs.FileLaws.{second_byte, links_among}
-use Rattle.hexadecimal.specs.Hex.{is_space, is_control, is_text}
+use Rattle.hexadecimal.specs.Hex.{is_control, is_text}
 use Rattle.hexadecimal.specs.Digits.{hex_digit, hex_byte, hexed}
 use Rattle.hexadecimal.proofs.ReadingLaws.{space_low, space_other}
 
--- ---- control bytes; s says whether b is white space
-module _ (b : ℕ) (s : Bool) (tells : s ≡ is_space b) where
-  pub control_space : s ≡ true → false ≡ is_control b
-  unfolding is_control
-  control_space e = rw (← tells, e) (sym (and_false (ltb b 32) false refl))
-
-  pub control_other : s ≡ false → ltb b 32 ≡ is_control b
-  unfolding is_control
-  control_other e = rw (← tells, e) (sym (and_one (ltb b 32)))
-
+-- ---- control bytes
 -- the bytes below white space are control bytes, and so are those between it and the space; from there on none is
 control_low : (b : ℕ) → b < 9 → is_control b ≡ true
 unfolding is_control
@@ -48,15 +40,18 @@ control_high : (b : ℕ) → 32 ≤ b → is_control b ≡ false
 unfolding is_control
 control_high b h = rw (le-ltb b 32 h) refl
 
--- ---- a text, from the byte at place k on
-module _ (l : List ℕ) (k : ℕ) where
-  pub text_more : k < length l → is_control (get_or l k 0) ≡ false → is_text (drop k l) ≡ is_text (drop (k + 1) l)
-  unfolding is_text
-  text_more h e = rw (drop-cons l k 0 h, e, add-one) refl
-
-  pub text_end : length l ≤ k → is_text (drop k l) ≡ true
-  unfolding is_text
-  text_end h = rw (drop_of_length-le l {i = k} h) refl
+-- a text is a list without one
+pub text_none : (l : List ℕ) → not (list_any is_control l) ≡ is_text l
+unfolding is_text
+text_none [] = refl
+text_none (b ∷ l) = by_test (is_control b) (text_none l)
+  where
+    by_test :
+        (t : Bool)
+        → not (list_any is_control l) ≡ is_text l
+        → not (t || list_any is_control l) ≡ (not t && is_text l)
+    by_test true e = refl
+    by_test false e = e
 
 -- the text of a list of bytes has digits only
 control_digit : (d : ℕ) → is_control (hex_digit d) ≡ false

@@ -7,3 +7,6 @@ pub mod HexLaws
 pub mod PairLaws
 pub mod PrintingLaws
 pub mod ReadingLaws
+pub mod ByteLaws
+pub mod ControlLaws
+pub mod DigitLaws

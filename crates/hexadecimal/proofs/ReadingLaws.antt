@@ -1,17 +1,13 @@
--- Laws of single bytes of a text in hexadecimal: one for each case of a definition, so that each return of the code has
--- its law.
---     digit_decimal, digit_upper, digit_lower              the value of a digit, by its kind
---     digit_low, digit_middle, digit_between, digit_high   16 below, between and above the digits
---     space_line, space_space, space_low, space_other      white space
---     first_digit, first_space, first_hash, first_bad      a byte where a pair may start
---     second_digit, second_space, second_hash, second_bad  a byte after the first digit of a pair
---     comment_ends, comment_lasts                          a byte of a comment
+-- Laws of single bytes of a text in hexadecimal.
+--     digit_decimal, digit_upper       the value of a digit, by its kind, of those that are printed
+--     space_low, space_other           no white space
+--     first_digit, second_digit        a digit where a pair may start, and after the first digit of a pair
 --     first_not_odd, high_small        where a pair may start no digit is lone, and half a byte is below 16
 use Rattle.std.specs.Prelude.{ℕ, ◌+◌, ◌*◌, ◌-◌, ◌≤◌, ◌<◌, ◌≡◌, Bool, true, false, cond, ◌||◌, ltb, leb, eqb}
 use Rattle.std.proofs.Math.Path.{refl}
 use Rattle.std.proofs.Math.Decide.{dec_lt}
 use native.Mathlib.Omega.{arith}
-use borrow.Author.Tests.{lt-ltb, le-ltb, le-leb, lt-leb, eq-eqb, ne_eqb}
+use borrow.Author.Tests.{lt-ltb, le-ltb, le-leb, lt-leb, ne_eqb}
 use Rattle.area.proofs.TestLaws.{and_false}
 use Rattle.hexadecimal.specs.declared.Reading.{Reading}
 use Rattle.hexadecimal.specs.declared.Reading.TheVariants.{Between, Comment, High, Byte, Bad, Odd}
@@ -39,36 +35,8 @@ module _ (b : ℕ) where
   unfolding digit
   digit_upper h k = rw (above 48 57 b (omega arith), inside 65 70 b h k) refl
 
-  pub digit_lower : 97 ≤ b → b ≤ 102 → b - 87 ≡ digit b
-  unfolding digit
-  digit_lower h k = rw (above 48 57 b (omega arith), above 65 70 b (omega arith), inside 97 102 b h k) refl
-
-  pub digit_low : b < 48 → 16 ≡ digit b
-  unfolding digit
-  digit_low h = rw (below 48 57 b h, below 65 70 b (omega arith), below 97 102 b (omega arith)) refl
-
-  pub digit_middle : 57 < b → b < 65 → 16 ≡ digit b
-  unfolding digit
-  digit_middle h k = rw (above 48 57 b h, below 65 70 b k, below 97 102 b (omega arith)) refl
-
-  pub digit_between : 70 < b → b < 97 → 16 ≡ digit b
-  unfolding digit
-  digit_between h k = rw (above 48 57 b (omega arith), above 65 70 b h, below 97 102 b k) refl
-
-  pub digit_high : 102 < b → 16 ≡ digit b
-  unfolding digit
-  digit_high h = rw (above 48 57 b (omega arith), above 65 70 b (omega arith), above 97 102 b h) refl
-
 -- ---- white space
 module _ (b : ℕ) where
-  pub space_line : 9 ≤ b → b ≤ 13 → true ≡ is_space b
-  unfolding is_space
-  space_line h k = rw (inside 9 13 b h k) refl
-
-  pub space_space : b ≡ 32 → true ≡ is_space b
-  unfolding is_space
-  space_space e = rw e refl
-
   pub space_low : b < 9 → false ≡ is_space b
   unfolding is_space
   space_low h = rw (below 9 13 b h, ne_eqb b 32 (λ (e : b ≡ 32). let x : ⊥ = omega arith in x)) refl
@@ -77,53 +45,17 @@ module _ (b : ℕ) where
   unfolding is_space
   space_other h f = rw (above 9 13 b h, ne_eqb b 32 f) refl
 
--- ---- a byte where a pair may start; d is its value as a digit, and s says whether it is white space
+-- ---- a digit where a pair may start, of value d
 module _ (b d : ℕ) (is : d ≡ digit b) where
   pub first_digit : d < 16 → High d ≡ first b
   unfolding first
   first_digit h = rw (← is, lt-ltb d 16 h) refl
-
-  module _ (s : Bool) (none : 16 ≤ d) (tells : s ≡ is_space b) where
-    pub first_space : s ≡ true → Between ≡ first b
-    unfolding first
-    first_space t = rw (← is, le-ltb d 16 none, ← tells, t) refl
-
-    pub first_hash : s ≡ false → b ≡ 35 → Comment ≡ first b
-    unfolding first
-    first_hash f e = rw (← is, le-ltb d 16 none, ← tells, f, eq-eqb b 35 e) refl
-
-    pub first_bad : s ≡ false → (b ≡ 35 → ⊥) → Bad ≡ first b
-    unfolding first
-    first_bad f n = rw (← is, le-ltb d 16 none, ← tells, f, ne_eqb b 35 n) refl
 
 -- ---- the same after the first digit h of a pair
 module _ (h b d : ℕ) (is : d ≡ digit b) where
   pub second_digit : d < 16 → Byte (16 * h + d) ≡ second h b
   unfolding second
   second_digit l = rw (← is, lt-ltb d 16 l) refl
-
-  module _ (s : Bool) (none : 16 ≤ d) (tells : s ≡ is_space b) where
-    pub second_space : s ≡ true → Odd ≡ second h b
-    unfolding second
-    second_space t = rw (← is, le-ltb d 16 none, ← tells, t) refl
-
-    pub second_hash : s ≡ false → b ≡ 35 → Odd ≡ second h b
-    unfolding second
-    second_hash f e = rw (← is, le-ltb d 16 none, ← tells, f, eq-eqb b 35 e) refl
-
-    pub second_bad : s ≡ false → (b ≡ 35 → ⊥) → Bad ≡ second h b
-    unfolding second
-    second_bad f n = rw (← is, le-ltb d 16 none, ← tells, f, ne_eqb b 35 n) refl
-
--- ---- a byte of a comment
-module _ (b : ℕ) where
-  pub comment_ends : b ≡ 10 → Between ≡ next Comment b
-  unfolding next
-  comment_ends e = rw (eq-eqb b 10 e) refl
-
-  pub comment_lasts : (b ≡ 10 → ⊥) → Comment ≡ next Comment b
-  unfolding next
-  comment_lasts f = rw (ne_eqb b 10 f) refl
 
 -- ---- where a pair may start, no digit is lone; and half a byte is below 16
 pub first_not_odd : (b : ℕ) → first b ≡ Odd → ⊥

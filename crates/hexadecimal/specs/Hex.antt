@@ -3,6 +3,8 @@
 -- src/lib.rt. At the end: how a text is told from a binary file.
 use Rattle.std.specs.Prelude.{ℕ, ◌+◌, ◌*◌, ◌-◌, Bool, true, false, cond, not, ◌&&◌, ◌||◌, List, [], ◌∷◌, ◌++◌, ltb, leb}
 use Rattle.std.specs.Prelude.{eqb, length}
+use Rattle.std.specs.declared.result.Result.{Result}
+use Rattle.std.specs.declared.result.Result.TheVariants.{Ok, Err}
 use Rattle.text.specs.Text.{word, line}
 use Rattle.hexadecimal.specs.declared.Reading.{Reading}
 use Rattle.hexadecimal.specs.declared.Reading.TheVariants.{Between, Comment, High, Byte, Bad, Odd}
@@ -114,6 +116,11 @@ has_fault before (b ∷ l) = is_fault (next before b) || has_fault (next before 
 -- A text that is too long, or has a fault: what is written for it is the line that says so.
 unfoldable pub is_faulty : (text : List ℕ) → Bool
 is_faulty text = ltb most (length text) || has_fault Between text
+
+-- the length of what is written, of bytes or of a line
+abbrev pub length_of : (r : Result ℕ ℕ) → ℕ
+length_of (Ok n) = n
+length_of (Err n) = n
 
 -- the bytes that the pairs of a text stand for
 unfoldable pub bytes_of : (before : Reading) (l : List ℕ) → List ℕ

@@ -2,9 +2,9 @@
 //     unhex                what a text is in bytes, or the line that says its first fault, or that it is too long
 //     is_text              is this a text, or a binary file?
 //     decode               the loop over the text: each byte gets its reading by that of the byte before it
+//     fault_line           the line of a fault
 //     step                 the next reading: `first` where a pair may start, `second` after a first digit
 //     digit, is_space, is_control      what a byte is by itself
-//     put, bad, odd        what is written
 //     printing             `hex_byte`, `hex_bytes`: the digits of bytes
 // What comes of a text is specs/Hex.antt. The laws of single bytes are proofs/ReadingLaws.antt; that every list of
 // bytes has a text, and that ROOM is enough, is proofs/HexLaws.antt; what is written where there is a fault, and where
@@ -15,15 +15,14 @@
 
 mod printing;
 
-ghost use Rattle.std.specs.Prelude.{◌≡◌, true, [], ◌∷◌, ◌≤◌, ◌<◌, length};
-ghost use Rattle.text.specs.Text.{Appended, line};
-ghost use Rattle.hexadecimal.specs.declared.Reading.TheVariants.{Between};
-ghost use Rattle.hexadecimal.specs.Hex.{digit, is_space, first, second, next, is_control, is_text};
-ghost use Rattle.hexadecimal.specs.Hex.{bad_digit, odd_digit, most, decoded, unhexed, has_fault, is_faulty};
-ghost use Rattle.hexadecimal.specs.Reading.{high_half};
+ghost use Rattle.std.specs.Prelude.{◌≡◌, ◌<◌, length, is_err, IfOk, IfErr};
+ghost use Rattle.text.specs.Text.{Appended};
+ghost use Rattle.hexadecimal.specs.Hex.{is_space, first, second, next, is_control, is_text};
+ghost use Rattle.hexadecimal.specs.Hex.{unhexed, is_faulty, length_of};
+ghost use Rattle.hexadecimal.specs.Reading.{high_half, digit_value, fault_line};
 
 pub use printing::{hex_byte, hex_bytes};
-use text::{append, line};
+use text::Writer;
 
 // A longer text is not decoded.
 pub const MOST: usize = 262144;
@@ -48,52 +47,67 @@ enum Reading {
     Odd,
 }
 
-// What was written for a text: how many bytes, and whether they are the line of a fault.
+// What is wrong with a text.
 #[derive(Clone, Copy)]
-pub struct Unhexed {
-    pub length: usize,
-    pub is_faulty: bool,
+enum Fault {
+    TooLong,
+    // At this place stands a byte that may not stand there.
+    Bad(usize),
+    // At this place stands a digit that has no second digit.
+    Odd(usize),
 }
 
 // Writes what `text` is in bytes, or the line that says its first fault, to the start of `out`, as far as that has
-// room.
-pub fn unhex(text: &[u8], out: &mut [u8]) -> Unhexed
-    ensures written { Appended out.old 0 (unhexed text.now) out.new result.length }
-    ensures fault { result.is_faulty ≡ is_faulty text.now }
+// room. `Ok` and `Err` have the length of the one and of the other.
+pub fn unhex(text: &[u8], out: &mut [u8]) -> Result<usize, usize>
+    ensures written { Appended out.old 0 (unhexed text.now) out.new (length_of result) }
+    ensures fault { is_err result ≡ is_faulty text.now }
 {
-    if MOST < text.len() {
-        return Unhexed {
-            length: append(out, 0, b"too long\n"),
-            is_faulty: true,
-        };
+    match decode(text, out) {
+        Ok(length) => Ok(length),
+        Err(fault) => Err(fault_line(fault, out)),
     }
-    decode(text, out)
 }
 
-// The same for a text that is not too long.
-fn decode(text: &[u8], out: &mut [u8]) -> Unhexed
-    requires { length text.now ≤ most }
-    ensures appended { Appended out.old 0 (decoded text.now) out.new result.length }
-    ensures is_faulty_value { result.is_faulty ≡ has_fault Between text.now }
+// Writes what `text` is in bytes. Where it has a fault, something of it is written all the same.
+fn decode(text: &[u8], out: &mut [u8]) -> Result<usize, Fault>
+    ensures size { length out.new ≡ length out.old }
+    ensures ok { IfOk result (λ n. Appended out.old 0 (unhexed text.now) out.new n) }
+    ensures err { IfErr result (λ fault. unhexed text.now ≡ fault_line fault) }
+    ensures fault { is_err result ≡ is_faulty text.now }
 {
+    if MOST < text.len() {
+        return Err(Fault::TooLong);
+    }
+    let mut bytes = Writer::new(out);
     let mut reading = Reading::Between;
-    let mut n = 0;
-    for at in 0..text.len() {
-        reading = step(reading, text[at]);
+    for (at, &b) in text.iter().enumerate() {
+        reading = step(reading, b);
         match reading {
-            Reading::Bad => return bad(out, at),
-            Reading::Odd => return odd(out, at - 1),
-            Reading::Byte(b) => n = put(out, n, b),
+            Reading::Bad => return Err(Fault::Bad(at)),
+            Reading::Odd => return Err(Fault::Odd(at - 1)),
+            Reading::Byte(x) => bytes.append(&[x]),
             _ => {}
         }
     }
     if let Reading::High(_) = reading {
-        return odd(out, text.len() - 1);
+        return Err(Fault::Odd(text.len() - 1));
     }
-    Unhexed {
-        length: n,
-        is_faulty: false,
+    Ok(bytes.at)
+}
+
+// Writes the line of a fault.
+#[tactic(auto, using(text::proofs::WriterLaws::whole_text), unfolding(crate::specs::Reading::fault_line))]
+fn fault_line(fault: Fault, out: &mut [u8]) -> usize
+    ensures { Appended out.old 0 (fault_line fault) out.new result }
+{
+    let mut line = Writer::new(out);
+    match fault {
+        Fault::TooLong => line.append(b"too long\n"),
+        Fault::Bad(at) => line.line(b"bad digit at ", at as u64),
+        Fault::Odd(at) => line.line(b"odd digit at ", at as u64),
     }
+    line.at
 }
 
 // Is this a text? It has no control byte other than white space. A bench file has one: the high byte of its link count
@@ -101,12 +115,7 @@ fn decode(text: &[u8], out: &mut [u8]) -> Unhexed
 pub fn is_text(bytes: &[u8]) -> bool
     ensures answer { result ≡ is_text bytes.now }
 {
-    for at in 0..bytes.len() {
-        if is_control(bytes[at]) {
-            return false;
-        }
-    }
-    true
+    !bytes.iter().any(|&b| is_control(b))
 }
 
 // What the byte b is after a byte that was read as `before`.
@@ -116,116 +125,65 @@ fn step(before: Reading, b: u8) -> Reading
     ensures { result ≡ next before b }
 {
     match before {
-        Reading::Between => first(b),
-        Reading::Comment => if b == b'\n' {
-            Reading::Between
-        } else {
-            Reading::Comment
-        },
+        Reading::Between | Reading::Byte(_) => first(b),
+        Reading::Comment if b == b'\n' => Reading::Between,
+        Reading::Comment => Reading::Comment,
         Reading::High(h) => second(h, b),
-        Reading::Byte(_) => first(b),
-        Reading::Bad => Reading::Bad,
-        Reading::Odd => Reading::Odd,
+        Reading::Bad | Reading::Odd => before,
     }
 }
 
 // What the byte b is where a byte may start.
+#[tactic(auto, unfolding(crate::specs::Hex::first, crate::specs::Reading::digit_value))]
 fn first(b: u8) -> Reading
     ensures { result ≡ first b }
 {
-    let half = digit(b);
-    if half < 16 {
-        return Reading::High(half);
-    }
-    if is_space(b) {
-        return Reading::Between;
-    }
-    if b == b'#' {
-        Reading::Comment
-    } else {
-        Reading::Bad
+    match digit(b) {
+        Some(half) => Reading::High(half),
+        None if is_space(b) => Reading::Between,
+        None if b == b'#' => Reading::Comment,
+        None => Reading::Bad,
     }
 }
 
 // What the byte b is after the high half h.
+#[tactic(auto, unfolding(crate::specs::Hex::second, crate::specs::Reading::digit_value))]
 fn second(h: u8, b: u8) -> Reading
     requires { h < 16 }
     ensures { result ≡ second h b }
 {
-    let half = digit(b);
-    if half < 16 {
-        return Reading::Byte(16 * h + half);
-    }
-    if is_space(b) {
-        return Reading::Odd;
-    }
-    if b == b'#' {
-        Reading::Odd
-    } else {
-        Reading::Bad
+    match digit(b) {
+        Some(half) => Reading::Byte(16 * h + half),
+        None if is_space(b) || b == b'#' => Reading::Odd,
+        None => Reading::Bad,
     }
 }
 
-// The value of a hexadecimal digit, and 16 for every other byte.
-fn digit(b: u8) -> u8
-    ensures { result ≡ digit b }
+// The value of a hexadecimal digit.
+#[tactic(auto, unfolding(crate::specs::Hex::digit, crate::specs::Reading::digit_value))]
+fn digit(b: u8) -> Option<u8>
+    ensures { result ≡ digit_value b }
 {
     match b {
-        b'0'..=b'9' => b - 48,
-        b'A'..=b'F' => b - 55,
-        b'a'..=b'f' => b - 87,
-        _ => 16,
+        b'0'..=b'9' => Some(b - b'0'),
+        b'A'..=b'F' => Some(b - b'A' + 10),
+        b'a'..=b'f' => Some(b - b'a' + 10),
+        _ => None,
     }
 }
 
 // Is b white space?
+#[tactic(auto, unfolding(crate::specs::Hex::is_space))]
 fn is_space(b: u8) -> bool
     ensures { result ≡ is_space b }
 {
-    match b {
-        9..=13 | 32 => true,
-        _ => false,
-    }
+    matches!(b, 9..=13 | b' ')
 }
 
 // Is b a control byte other than white space?
+#[tactic(auto, unfolding(crate::specs::Hex::is_control))]
 fn is_control(b: u8) -> bool
     ensures { result ≡ is_control b }
 {
-    if is_space(b) {
-        return false;
-    }
-    b < 32
-}
-
-// Appends one byte.
-fn put(out: &mut [u8], at: usize, b: u8) -> usize
-    ensures { Appended out.old at (b ∷ []) out.new result }
-{
-    let one = [b];
-    append(out, at, &one)
-}
-
-// Makes `out` the line of a byte at place `at` that may not stand there.
-fn bad(out: &mut [u8], at: usize) -> Unhexed
-    requires { at < most }
-    ensures appended { Appended out.old 0 (line bad_digit at) out.new result.length }
-    ensures is_faulty_value { result.is_faulty ≡ true }
-{
-    Unhexed {
-        length: line(out, 0, b"bad digit at ", at as u64),
-        is_faulty: true,
-    }
-}
-
-// Makes `out` the line of a digit at place `at` that has no second digit.
-fn odd(out: &mut [u8], at: usize) -> Unhexed
-    requires { at < most }
-    ensures appended { Appended out.old 0 (line odd_digit at) out.new result.length }
-    ensures is_faulty_value { result.is_faulty ≡ true }
-{
-    Unhexed {
-        length: line(out, 0, b"odd digit at ", at as u64),
-        is_faulty: true,
-    }
+    b < 32 && !is_space(b)
 }

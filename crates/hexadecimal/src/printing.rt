@@ -1,30 +1,30 @@
-// Bytes as digits, two for each, appended to the text in a lent buffer.
+// Bytes as digits, two for each, appended to a text.
 ghost use Rattle.std.specs.Prelude.{◌≡◌, ◌<◌};
-ghost use Rattle.text.specs.Text.{Appended};
+ghost use Rattle.text.specs.Text.{Writes};
 ghost use Rattle.hexadecimal.specs.Digits.{hex_digit, hex_byte, hexed};
 
-use text::append;
+use text::Writer;
 
 // Appends the digits of all `bytes`.
-pub fn hex_bytes(bytes: &[u8], out: &mut [u8], at: usize) -> usize
-    ensures text { Appended out.old at (hexed bytes.now) out.new result }
+#[tactic(auto, using(crate::proofs::PrintingLaws::each_byte))]
+pub fn hex_bytes(out: &mut Writer<'_>, bytes: &[u8])
+    ensures text { Writes out.old (hexed bytes.now) out.new }
 {
-    let mut end = append(out, at, b"");
-    for k in 0..bytes.len() {
-        end = hex_byte(bytes[k], out, end);
+    for &x in bytes {
+        hex_byte(out, x);
     }
-    end
 }
 
 // Appends the two digits of a byte.
-pub fn hex_byte(x: u8, out: &mut [u8], at: usize) -> usize
-    ensures text { Appended out.old at (hex_byte x) out.new result }
+#[tactic(auto, unfolding(crate::specs::Digits::hex_byte))]
+pub fn hex_byte(out: &mut Writer<'_>, x: u8)
+    ensures text { Writes out.old (hex_byte x) out.new }
 {
-    let digits = [hex_digit(x / 16), hex_digit(x % 16)];
-    append(out, at, &digits)
+    out.append(&[hex_digit(x / 16), hex_digit(x % 16)]);
 }
 
 // A digit, in capitals.
+#[tactic(auto, unfolding(crate::specs::Digits::hex_digit))]
 fn hex_digit(d: u8) -> u8
     requires { d < 16 }
     ensures digit { result ≡ hex_digit d }

@@ -14,7 +14,8 @@ use machine::Answer;
 use plan::Record;
 use steps::{Machine, Stepped};
 
-// Takes a step of the lent record, leaves in it the record that the machine hands back, and gives the answer.
+// Takes a step of the lent record, leaves in it the record that the machine hands back, and gives the answer: a thin
+// call over the step by value, as 01 asks.
 pub fn apply(bench: &mut Record, kind: u8, a: u8, b: u8) -> Answer
     ensures outcome { gives bench.new (reply_of result) ≡ step_of bench.old kind a b }
 {

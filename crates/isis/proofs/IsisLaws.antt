@@ -1,45 +1,33 @@
 -- Laws of the answer and of the metric table: those by which the code is proved.
 --     lists_first, lists_trailing, lists_pass  the refusals of the lists, one for each way in which the code returns
---     turn_refused, turn_passed                one turn of the loop over the lists
 --     lists_none                               what is known of lists that are not refused
 --     area-.., isis-.., metrics-..             the same of the whole
---     count_end, count_more                    how many lists there are, place by place
-use Prim.Native.Nat.{ℕ, zero, suc, ◌+◌, ◌-◌, ◌*◌, ◌≤◌, ◌<◌}
-use Rattle.std.specs.Prelude.{◌≡◌, Bool, true, false, not, ◌≢◌, List, ltb, eqb, length, take, drop}
+--     count_none, count_cut, count_more        how many lists there are, by the first of them
+use Prim.Native.Nat.{ℕ, zero, suc, ◌+◌, ◌*◌, ◌≤◌, ◌<◌}
+use Rattle.std.specs.Prelude.{◌≡◌, true, false, ◌≢◌, List, ltb, length, get_or, drop, Result, Ok, Err, IfOk}
+use Rattle.std.specs.Result.{is_err}
 use Rattle.std.proofs.Math.Path.{refl, sym, ap}
 use Rattle.std.proofs.Common.{◌∙◌, arith}
 use Rattle.std.proofs.Math.Logic.{⊎_elim}
-use borrow.Author.Tests.{lt-ltb, le-ltb, eq-eqb, ne_eqb, eqb-true, eqb-false, not-true, not-false}
+use Rattle.std.proofs.Common.{length-drop, get_or-drop}
+use Rattle.std.proofs.Math.Decide.{dec_lt}
+use Rattle.std.proofs.lemmas.Bool.{false≢true}
+use borrow.Author.Tests.{lt-ltb, le-ltb, eq-eqb, ne_eqb}
 use Rattle.area.specs.Bytes.{two}
 use Rattle.area.specs.Limits.{width, unused}
-use Rattle.area.specs.Refusals.{verdict_number, trailing, router_count, table_size}
-use Rattle.area.specs.declared.refusal.Verdict.{Verdict}
+use Rattle.area.specs.Refusals.{refusal_number, verdict_number, trailing, router_count, table_size}
+use Rattle.area.specs.declared.refusal.Refusal.{Refusal}
+use Rattle.area.proofs.RefusalLaws.{refusal_positive}
 use Rattle.area.specs.Tests.{pick, or_then, first}
 use Rattle.area.proofs.TestLaws.{look, then_some, then_none, then_both, first_none, first_fault, none_first}
 use Rattle.area.specs.Sizes.{is_router_count}
 use Rattle.area.proofs.SizeLaws.{router_count_true, router_count_low, router_count_high}
 use Rattle.area.proofs.SizeLaws.{router_count_some, router_count_most, table_true, table_false}
 use Rattle.area.specs.Tables.{build, tabulate}
-use Rattle.tlv.specs.Items.{items}
 use Rattle.isis.specs.Identities.{rows_refusal}
-use Rattle.isis.specs.Lists.{items_refusal, length_at, list_refusal, count_from, list_count}
-use Rattle.isis.proofs.ListLaws.{list_whole}
+use Rattle.isis.proofs.IdentityLaws.{rows_in}
+use Rattle.isis.specs.Lists.{length_at, list_refusal, count_from, list_count}
 use Rattle.isis.specs.Isis.{lists_refusal, area_refusal, isis_refusal, listed, no_links, isis_metrics}
-
--- ---- a list, as it is lent: its length stands at p and says s
-module _
-    (t d : List ℕ) (i p s : ℕ)
-    (is : p ≡ length_at d i) (size : s ≡ two d p) (whole : 2 + s ≤ length d - p)
-  where
-    list_judged :
-        (v : ℕ)
-        → v ≡ items_refusal t i (items (take (p + 2 + s - (p + 2)) (drop (p + 2) d)))
-        → v ≡ list_refusal t d i
-    list_judged v e =
-        let k : p + 2 + s - (p + 2) ≡ two d p = omega arith in
-        e
-        ∙ ap (λ (x : ℕ). items_refusal t i (items (take x (drop (p + 2) d)))) k
-        ∙ sym (list_whole t d i p is (omega arith))
 
 -- ---- the n lists
 module _ (n : ℕ) (t d : List ℕ) where
@@ -69,29 +57,6 @@ module _ (n : ℕ) (t d : List ℕ) where
   unfolding lists_refusal
   lists_none z = none_first (list_refusal t d) n (then_both (first n (list_refusal t d)) _ z).0
 
--- ---- one turn of the loop: v is what was found of list i, and ok whether that is accepted
-module _
-    (t d : List ℕ) (i p s : ℕ)
-    (is : p ≡ length_at d i) (size : s ≡ two d p) (whole : 2 + s ≤ length d - p)
-    (v : Verdict) (told : verdict_number v ≡ items_refusal t i (items (take (p + 2 + s - (p + 2)) (drop (p + 2) d))))
-    (ok : Bool) (good : ok ≡ eqb (verdict_number v) 0)
-  where
-    here : verdict_number v ≡ list_refusal t d i
-    here = list_judged t d i p s is size whole (verdict_number v) told
-
-    pub turn_refused :
-        not ok ≡ true
-        → (n : ℕ)
-        → i < n
-        → ((k : ℕ) → k < i → list_refusal t d k ≡ 0)
-        → verdict_number v ≡ lists_refusal n t d
-    turn_refused f n h before =
-        let bad = eqb-false (verdict_number v) 0 (sym good ∙ not-true ok f) in
-        here ∙ lists_first n t d i h before (λ z. bad (here ∙ z))
-
-    pub turn_passed : not ok ≡ false → list_refusal t d i ≡ 0
-    turn_passed f = sym here ∙ eqb-true (verdict_number v) 0 (sym good ∙ not-false ok f)
-
 -- ---- how many lists there are
 module _ (d : List ℕ) where
   enough : (h k p : ℕ) → length d ≤ p + h → length d ≤ p + k → count_from d h p ≡ count_from d k p
@@ -103,23 +68,66 @@ module _ (d : List ℕ) where
       ap (λ (x : ℕ). pick (ltb p (length d)) (suc x) 0)
       (enough h k (p + 2 + two d p) (omega arith) (omega arith))
 
-  -- those from place p on
-  abbrev pub count_at : (p : ℕ) → ℕ
-  count_at p = count_from d (length d) p
-
-  opened : (p : ℕ) → count_at p ≡ pick (ltb p (length d)) (suc (count_at (p + 2 + two d p))) 0
+  past : (h p : ℕ) → length d ≤ p → count_from d h p ≡ 0
   unfolding count_from
-  opened p = enough (length d) (suc (length d)) p (omega arith) (omega arith)
+  past zero p a = refl
+  past (suc h) p a = rw (le-ltb p (length d) a) refl
 
-  pub count_start : count_at 0 ≡ list_count d
+  -- the lists behind the first q bytes
+  behind : (q : ℕ) → q ≤ length d → (h p : ℕ) → count_from (drop q d) h p ≡ count_from d h (q + p)
+  unfolding count_from
+  behind q a zero p = refl
+  behind q a (suc h) p = elim (dec_lt p (length (drop q d))) [
+    | yes l ↦
+        rw (
+          lt-ltb p (length (drop q d)) l,
+          lt-ltb (q + p) (length d) (omega (arith, l, length-drop q d)),
+        )
+        (ap suc (behind q a h (p + 2 + two (drop q d) p) ∙ ap (count_from d h) (omega (arith, same p))))
+    | no f ↦
+        rw (
+          le-ltb p (length (drop q d)) (omega (arith, f)),
+          le-ltb (q + p) (length d) (omega (arith, f, length-drop q d, a)),
+        )
+        refl
+  ]
+    where
+      same : (p : ℕ) → two (drop q d) p ≡ two d (q + p)
+      same p =
+          omega (
+            arith,
+            get_or-drop q d p 0,
+            get_or-drop q d (p + 1) 0,
+            ap (λ (k : ℕ). get_or d k 0) (let x : q + (p + 1) ≡ q + p + 1 = omega arith in x),
+          )
+
+  pub count_none : length d ≡ 0 → list_count d ≡ 0
   unfolding list_count
-  count_start = refl
+  count_none e = past (length d) 0 (omega arith)
 
-  pub count_end : (p : ℕ) → length d ≤ p → count_at p ≡ 0
-  count_end p h = opened p ∙ rw (le-ltb p (length d) h) refl
+  module _ (some : 0 < length d) where
+    opened : list_count d ≡ suc (count_from d (length d) (2 + two d 0))
+    unfolding list_count count_from
+    opened =
+        enough (length d) (suc (length d)) 0 (omega arith) (omega arith)
+        ∙ rw (lt-ltb 0 (length d) some) refl
 
-  pub count_more : (p : ℕ) → p < length d → count_at p ≡ suc (count_at (p + 2 + two d p))
-  count_more p h = opened p ∙ rw (lt-ltb p (length d) h) refl
+    pub count_cut : length d < 2 + two d 0 → list_count d ≡ 1
+    count_cut h = opened ∙ ap suc (past (length d) (2 + two d 0) (omega arith))
+
+    pub count_more : 2 + two d 0 ≤ length d → list_count d ≡ suc (list_count (drop (2 + two d 0) d))
+    unfolding list_count
+    count_more h =
+        opened
+        ∙ ap suc (
+        enough (length d) (length (drop (2 + two d 0) d)) (2 + two d 0) (omega arith)
+        (omega (arith, length-drop (2 + two d 0) d))
+        ∙ ap (count_from d (length (drop (2 + two d 0) d))) (let x : 2 + two d 0 ≡ 2 + two d 0 + 0 = omega arith in x)
+        ∙ sym (behind (2 + two d 0) h (length (drop (2 + two d 0) d)) 0)
+        )
+
+-- what `count` answers
+pub ruleset count_laws = (count_none, count_cut, count_more)
 
 -- ---- n, the rows, the lists
 module _ (n : ℕ) (t d : List ℕ) where
@@ -136,20 +144,16 @@ module _ (n : ℕ) (t d : List ℕ) where
     unfolding area_refusal
     judged = rw (router_count_true n a b) refl
 
-    -- v is what was found of the rows, and ok whether that is accepted
-    module _
-        (v : Verdict) (told : verdict_number v ≡ rows_refusal n t)
-        (ok : Bool) (good : ok ≡ eqb (verdict_number v) 0)
-      where
-        pub rows_refused : not ok ≡ true → verdict_number v ≡ area_refusal n t d
-        rows_refused f =
-            let bad = eqb-false (verdict_number v) 0 (sym good ∙ not-true ok f) in
-            told ∙ sym (judged ∙ then_some (rows_refusal n t) (lists_refusal n t d) (λ z. bad (told ∙ z)))
+    pub rows_refused :
+        (k : Refusal)
+        → refusal_number k ≡ rows_refusal n t
+        → refusal_number k ≡ area_refusal n t d
+    rows_refused k e =
+        e ∙ sym (judged ∙ then_some (rows_refusal n t) (lists_refusal n t d)
+        (λ z. let x : ⊥ = omega (arith, refusal_positive k, e, z) in x))
 
-        pub rows_accepted : not ok ≡ false → (w : ℕ) → w ≡ lists_refusal n t d → w ≡ area_refusal n t d
-        rows_accepted f w e =
-            let none = sym told ∙ eqb-true (verdict_number v) 0 (sym good ∙ not-false ok f) in
-            e ∙ sym (judged ∙ then_none (rows_refusal n t) (lists_refusal n t d) none)
+    pub rows_accepted : 0 ≡ rows_refusal n t → lists_refusal n t d ≡ area_refusal n t d
+    rows_accepted e = sym (judged ∙ then_none (rows_refusal n t) (lists_refusal n t d) (sym e))
 
   -- what is known where nothing is refused
   module _ (z : area_refusal n t d ≡ 0) where
@@ -193,25 +197,31 @@ module _ (n : ℕ) (t d m : List ℕ) where
     unfolding no_links tabulate
     read_clear out e = e ∙ ap (λ (k : ℕ). build k (λ _. unused)) a
 
-    -- v is what was found, and ok whether that is accepted
-    module _
-        (v : Verdict) (told : verdict_number v ≡ area_refusal n t d)
-        (ok : Bool) (good : ok ≡ eqb (verdict_number v) 0)
-      where
-        pub read_answer : verdict_number v ≡ isis_refusal n t d m
-        read_answer = told ∙ isis_area
+    -- v is what was found
+    pub read_filled :
+        (v : Result (Unit {0}) Refusal)
+        → verdict_number v ≡ area_refusal n t d
+        → is_err v ≡ false
+        → (out : List ℕ)
+        → IfOk v (λ _. out ≡ listed n t d)
+        → out ≡ isis_metrics n t d m
+    read_filled (Ok x) told e out f = f ∙ metrics_accepted (sym told)
+    read_filled (Err k) told e out f = absurd (false≢true (sym e))
 
-        pub read_none : ok ≡ true → area_refusal n t d ≡ 0
-        read_none e = sym told ∙ eqb-true (verdict_number v) 0 (sym good ∙ e)
+    pub read_refused :
+        (v : Result (Unit {0}) Refusal)
+        → verdict_number v ≡ area_refusal n t d
+        → is_err v ≡ true
+        → (old out : List ℕ)
+        → length old ≡ length m
+        → out ≡ build (length old) (λ _. unused)
+        → out ≡ isis_metrics n t d m
+    read_refused (Ok x) told e old out same f = absurd (false≢true e)
+    read_refused (Err k) told e old out same f =
+        read_clear out (f ∙ ap (λ (k : ℕ). build k (λ _. unused)) same)
+        ∙ metrics_refused (λ z. let x : ⊥ = omega (arith, refusal_positive k, told, z) in x)
 
-        pub read_filled : ok ≡ true → (out : List ℕ) → out ≡ listed n t d → out ≡ isis_metrics n t d m
-        read_filled e out f = f ∙ metrics_accepted (read_none e)
+-- what `fill` and `read` answer
+pub ruleset fill_laws = (area_few, area_many, rows_refused, rows_accepted, rows_in)
 
-        pub read_refused :
-            ok ≡ false
-            → (out : List ℕ)
-            → out ≡ build (length m) (λ _. unused)
-            → out ≡ isis_metrics n t d m
-        read_refused e out f =
-            let bad = eqb-false (verdict_number v) 0 (sym good ∙ e) in
-            read_clear out f ∙ metrics_refused (λ z. bad (told ∙ z))
+pub ruleset read_laws = (isis_size, metrics_kept, isis_area, read_clear, read_filled, read_refused)

@@ -1,7 +1,13 @@
-pub mod AreaLaws
-pub mod FillLaws
 pub mod IdentityLaws
-pub mod IsisLaws
 pub mod ListLaws
-pub mod LoopLaws
 pub mod LowerLaws
+pub mod IsisLaws
+pub mod FillLaws
+pub mod AreaLaws
+pub mod HalvesLaws
+pub mod FirstRowLaws
+pub mod CountLaws
+pub mod AnswerLaws
+pub mod LoopLaws
+pub mod PlaceLaws
+pub mod TurnLaws

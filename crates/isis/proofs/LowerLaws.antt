@@ -1,134 +1,105 @@
--- The loop that lowers a row by the metrics of a list: what is left of the list, with the row at hand, gives what the
--- whole list gives with the row at first. i is what stands at the place p, where the rest of the list begins.
---     Lowering                     this, cell by cell
---     lowering_start               it holds before the first entry
---     lowering_end, -fault         where nothing is left the row is what was asked for
---     lowering_less, -stays        an entry with a lower metric, and one with none
---     entry_known, entry_router    its identity has a row, whose router has a cell
---     all_known                    so it is for every entry of a list that is not refused
-use Rattle.std.specs.Prelude.{ℕ, ◌≤◌, ◌<◌, min, ◌≡◌, refl, true, ◌≢◌, List, [], ◌∷◌, length, get_or, set}
+-- The loop that lowers a row by the metrics of a list: what is left of the items, with the row at hand, gives what all
+-- of them give with the row at first.
+--     Lowering                     this, of the first refusal and cell by cell
+--     lowering_start               it holds before the first item
+--     lowering_end, lowered_all    where nothing is left there is no refusal, and the row is what was asked for
+--     lowering_fault, lowering_refused
+--                                  the first refusal is that of the next item
+--     lowering_next                an entry that is not refused lowers the cell of its router
+use Rattle.std.specs.Prelude.{ℕ, ◌<◌, min, ◌≡◌, refl, ◌≢◌, List, [], ◌∷◌, length, get_or, set, Ok, Err, Some}
 use Rattle.std.proofs.Math.Path.{sym}
-use Rattle.std.proofs.Common.{ap, ◌∙◌, subst, arith, length-set, get_or-set_same, get_or-set_other, ltb-true}
+use Rattle.std.proofs.Common.{ap, ◌∙◌, arith, length-set, get_or-set_same, get_or-set_other}
 use Rattle.std.proofs.Math.Decide.{ℕ_discrete}
 use Rattle.area.specs.Limits.{width}
+use Rattle.area.specs.Tests.{pick}
+use Rattle.area.specs.Refusals.{refusal_number}
 use Rattle.area.proofs.TableLaws.{is_build}
 use Rattle.area.specs.declared.refusal.Refusal.{Refusal}
 use Rattle.tlv.specs.declared.Neighbour.{Neighbour}
-use Rattle.tlv.specs.declared.Item.{Item}
-use Rattle.tlv.specs.declared.Item.TheVariants.{End, Refused, Entry}
-use Rattle.tlv.specs.Items.{item_at, items, items_at}
-use Rattle.tlv.proofs.ItemLaws.{items_end, items_refused, items_entry}
-use Rattle.isis.specs.Identities.{row_count, router, row_of, is_known}
-use Rattle.isis.specs.Identities.{RowsIn}
+use Rattle.tlv.specs.Items.{Read, items}
+use Rattle.isis.specs.Identities.{router_of, is_of}
 use Rattle.isis.proofs.IdentityLaws.{of_router, of_other}
-use Rattle.isis.specs.Lists.{items_refusal, lowest_to}
-use Rattle.isis.proofs.ListLaws.{passed_of, end_next, refusal_both, no_fault}
-use Rattle.isis.proofs.ListLaws.{lowest_none, lowest_fault, lowest_next}
-use Rattle.isis.specs.Rows.{AllKnown, lowered_row}
+use Rattle.isis.specs.Lists.{neighbour_refusal, items_refusal, lowest_to}
+use Rattle.isis.proofs.ListLaws.{refusal_none, refusal_fault, refusal_first, refusal_next, lowest_none, lowest_next}
+use Rattle.isis.specs.Rows.{lowered_row}
 
-pub record Lowering (t l before : List ℕ) (p : ℕ) (row : List ℕ) : Type 0 where
-  pub size : length row ≡ width
-  pub cells :
-      (j : ℕ)
-      → j < width
-      → lowest_to t j (get_or row j 0) (items_at l p) ≡ lowest_to t j (get_or before j 0) (items l)
-  pub known : AllKnown t (items_at l p)
+-- t is the table of identities, i the router of the list l, and `before` its row at first
+module _ (t : List ℕ) (i : ℕ) (l before : List ℕ) where
+  pub record Lowering (left : List Read) (row : List ℕ) : Type 0 where
+    pub size : length row ≡ width
+    pub refusal : items_refusal t i left ≡ items_refusal t i (items l)
+    pub cells :
+        (j : ℕ)
+        → j < width
+        → lowest_to t j (get_or row j 0) left ≡ lowest_to t j (get_or before j 0) (items l)
 
-pub lowering_start :
-    (t l row : List ℕ)
-    → length row ≡ width
-    → AllKnown t (items l)
-    → Lowering t l row 0 row
-lowering_start t l row e k = record { size = e; cells = λ j h. refl; known = k }
+  pub lowering_start : length before ≡ width → Lowering (items l) before
+  lowering_start e = record { size = e; refusal = refl; cells = λ j h. refl }
 
-module _
-    (t l before : List ℕ) (p : ℕ) (row : List ℕ) (now : Lowering t l before p row)
-    (i : Item) (r : i ≡ item_at l p)
-  where
-    done :
-        ((j : ℕ) → lowest_to t j (get_or row j 0) (items_at l p) ≡ get_or row j 0)
-        → row ≡ lowered_row t l before
+  module _ (left : List Read) (row : List ℕ) (now : Lowering left row) where
+    pub lowering_end : left ≡ [] → 0 ≡ items_refusal t i (items l)
+    lowering_end e = sym (refusal_none t i) ∙ ap (items_refusal t i) (sym e) ∙ now.refusal
+
+    pub lowered_all : left ≡ [] → row ≡ lowered_row t l before
     unfolding lowered_row
-    done none =
+    lowered_all e =
         is_build width (λ j. lowest_to t j (get_or before j 0) (items l)) row now.size
-        (λ j h. sym (none j) ∙ now.cells j h)
+        (λ j h.
+        sym (lowest_none t j (get_or row j 0))
+        ∙ ap (lowest_to t j (get_or row j 0)) (sym e)
+        ∙ now.cells j h)
 
-    pub lowering_end : i ≡ End → row ≡ lowered_row t l before
-    lowering_end q = done (λ j. lowest_none t j (get_or row j 0) (items_at l p) (items_end l p i r q))
+    module _ (rest : List Read) where
+      pub lowering_fault : (k : Refusal) → left ≡ Err k ∷ rest → refusal_number k ≡ items_refusal t i (items l)
+      lowering_fault k e = sym (refusal_fault t i k rest) ∙ ap (items_refusal t i) (sym e) ∙ now.refusal
 
-    pub lowering_fault : (k : Refusal) → i ≡ Refused k → row ≡ lowered_row t l before
-    lowering_fault k q = done (λ j. lowest_fault t j (get_or row j 0) (items_at l p) k (items_refused l p i r k q))
+      module _ (x : Neighbour) (e : left ≡ Ok x ∷ rest) where
+        pub lowering_refused :
+            (v : ℕ)
+            → v ≡ neighbour_refusal t i x
+            → v ≢ 0
+            → v ≡ items_refusal t i (items l)
+        lowering_refused v is f =
+            is
+            ∙ sym (refusal_first t i x rest (λ z. f (is ∙ z)))
+            ∙ ap (items_refusal t i) (sym e)
+            ∙ now.refusal
 
-    -- an entry: e is the first row with its identity, and m that row's router
-    module _ (x : Neighbour) (q : i ≡ Entry x) (e : ℕ) (is : e ≡ row_of t x.identity) where
-      both : (is_known t x.identity ≡ true) × AllKnown t (items_at l x.next)
-      both = subst (AllKnown t) (items_entry l p i r x q) now.known
-
-      pub entry_known : e < row_count t
-      entry_known = omega (arith, is, ltb-true (row_of t x.identity) (row_count t) both.0)
-
-      module _ (m : ℕ) (told : m ≡ router t e) (rows : RowsIn width t (row_count t)) where
-        pub entry_router : m < width
-        entry_router = omega (arith, told, rows e entry_known)
-
-        -- the cell of the entry's router, and every other
-        taken :
-            lowest_to t m (get_or row m 0) (items_at l p)
-            ≡ lowest_to t m (min (get_or row m 0) x.metric) (items_at l x.next)
-        taken =
-            lowest_next t m (get_or row m 0) (items_at l p) x (items_at l x.next) (items_entry l p i r x q)
-            ∙ rw (of_router t x.identity e is entry_known m (sym told)) refl
-
-        passed :
-            (j : ℕ)
-            → j ≢ m
-            → lowest_to t j (get_or row j 0) (items_at l p) ≡ lowest_to t j (get_or row j 0) (items_at l x.next)
-        passed j f =
-            lowest_next t j (get_or row j 0) (items_at l p) x (items_at l x.next) (items_entry l p i r x q)
-            ∙ rw (of_other t x.identity e is entry_known j (λ s. f (sym (told ∙ s)))) refl
-
-        -- a row whose cell of m is the lower, and that has every other cell as it was
-        next :
-            (after : List ℕ)
-            → length after ≡ width
-            → get_or after m 0 ≡ min (get_or row m 0) x.metric
-            → ((j : ℕ) → j ≢ m → get_or after j 0 ≡ get_or row j 0)
-            → Lowering t l before x.next after
-        next after size here others = record {
-          size = size;
-          cells = λ j h. by_cell j h (ℕ_discrete j m);
-          known = both.1;
-        }
+        -- m is the entry's router
+        module _
+            (m : ℕ) (found : router_of t x.identity ≡ Some m) (within : m < width)
+            (passed : 0 ≡ neighbour_refusal t i x)
           where
-            by_cell :
-                (j : ℕ)
-                → j < width
-                → Dec (j ≡ m)
-                → lowest_to t j (get_or after j 0) (items_at l x.next) ≡ lowest_to t j (get_or before j 0) (items l)
-            by_cell j h (yes s) =
-                rw s
-                (ap (λ (v : ℕ). lowest_to t m v (items_at l x.next)) here
-                ∙ sym taken
-                ∙ now.cells m entry_router)
-            by_cell j h (no f) =
-                ap (λ (v : ℕ). lowest_to t j v (items_at l x.next)) (others j f)
-                ∙ sym (passed j f)
-                ∙ now.cells j h
+            abbrev lower : List ℕ
+            lower = set row m (min (get_or row m 0) x.metric)
 
-        pub lowering_less : x.metric < get_or row m 0 → Lowering t l before x.next (set row m x.metric)
-        lowering_less h =
-            next (set row m x.metric) (simp length-set now.size)
-            (get_or-set_same row m x.metric 0 (omega (arith, entry_router, now.size)) ∙ omega arith)
-            (λ j f. get_or-set_other row m j x.metric 0 f)
+            one : (j : ℕ) → lowest_to t j (get_or row j 0) left ≡ lowest_to t j (get_or lower j 0) rest
+            one j =
+                ap (lowest_to t j (get_or row j 0)) e
+                ∙ lowest_next t j (get_or row j 0) x rest
+                ∙ by_cell (ℕ_discrete m j)
+              where
+                by_cell :
+                    Dec (m ≡ j)
+                    → lowest_to t j (pick (is_of t x.identity j) (min (get_or row j 0) x.metric) (get_or row j 0)) rest
+                    ≡ lowest_to t j (get_or lower j 0) rest
+                by_cell (yes s) =
+                    rw (of_router t x.identity m found j s)
+                    (ap (λ (v : ℕ). lowest_to t j v rest)
+                    (ap (λ (k : ℕ). min (get_or row k 0) x.metric) (sym s)
+                    ∙ sym (get_or-set_same row m (min (get_or row m 0) x.metric) 0 (omega (arith, within, now.size)))
+                    ∙ ap (λ (k : ℕ). get_or lower k 0) s))
+                by_cell (no f) =
+                    rw (of_other t x.identity m found j f)
+                    (ap (λ (v : ℕ). lowest_to t j v rest)
+                    (sym (get_or-set_other row m j (min (get_or row m 0) x.metric) 0 (λ z. f (sym z)))))
 
-        pub lowering_stays : get_or row m 0 ≤ x.metric → Lowering t l before x.next row
-        lowering_stays h = next row now.size (omega arith) (λ j f. refl)
+            pub lowering_next : Lowering rest lower
+            lowering_next = record {
+              size = simp length-set now.size;
+              refusal = sym (refusal_next t i x rest (sym passed)) ∙ ap (items_refusal t i) (sym e) ∙ now.refusal;
+              cells = λ j h. sym (one j) ∙ now.cells j h;
+            }
 
--- ---- a list without a refusal
-pub all_known : (t : List ℕ) (i : ℕ) (l : List Item) → items_refusal t i l ≡ 0 → AllKnown t l
-all_known t i [] z = tt
-all_known t i (End ∷ l) z = all_known t i l (sym (end_next t i l) ∙ z)
-all_known t i (Refused k ∷ l) z = absurd (no_fault t i k l z)
-all_known t i (Entry x ∷ l) z =
-    let both = refusal_both t i (Entry x ∷ l) x l refl z in
-    ((passed_of t i x both.0).known, all_known t i l both.1)
+-- what `fill_row` answers, and keeps
+pub ruleset row_laws = (lowering_start, lowering_end, lowered_all, lowering_fault, lowering_refused, lowering_next)

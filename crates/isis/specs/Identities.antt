@@ -1,6 +1,7 @@
 -- The table of identities (02, No. 6): rows of eight bytes, seven of identity and one with the number of a router. t is
 -- the table, a list of bytes.
 use Rattle.std.specs.Prelude.{ℕ, ◌+◌, ◌*◌, ◌/◌, ◌%◌, ◌<◌, Bool, ◌&&◌, List, ltb, eqb, length, get_or}
+use Rattle.std.specs.Prelude.{Option, Some, None}
 use Rattle.area.specs.Refusals.{incomplete, unknown_router}
 use Rattle.area.specs.Tests.{pick, or_then, first, lowest}
 use Rattle.tlv.specs.Items.{seven}
@@ -35,9 +36,9 @@ is_known t x = ltb (row_of t x) (row_count t)
 unfoldable pub is_of : (t : List ℕ) (x j : ℕ) → Bool
 is_of t x j = is_known t x && eqb (router t (row_of t x)) j
 
--- the number in the four bytes at place p, high byte first
-abbrev pub four : (l : List ℕ) (p : ℕ) → ℕ
-four l p = 16777216 * get_or l p 0 + 65536 * get_or l (p + 1) 0 + 256 * get_or l (p + 2) 0 + get_or l (p + 3) 0
+-- the router of the identity x, where it is in the table
+unfoldable pub router_of : (t : List ℕ) (x : ℕ) → Option ℕ
+router_of t x = pick (is_known t x) (Some (router t (row_of t x))) None
 
 -- the routers of the first e rows are below n
 abbrev pub RowsIn : (n : ℕ) (t : List ℕ) (e : ℕ) → Type 0

@@ -1,14 +1,12 @@
 -- Lists of entries, one for each router, router 0's first, each behind its length in two bytes (02, No. 6). d is all of
 -- the lists, as bytes; t is the table of identities.
-use Rattle.std.specs.Prelude.{ℕ, zero, suc, ◌+◌, min, not, List, [], ◌∷◌, ltb, eqb, length, take, drop}
+use Rattle.std.specs.Prelude.{ℕ, zero, suc, ◌+◌, min, not, List, [], ◌∷◌, ltb, eqb, length, take, drop, Ok, Err}
 use Rattle.area.specs.Bytes.{two}
 use Rattle.area.specs.Limits.{unused}
 use Rattle.area.specs.Refusals.{refusal_number, incomplete, self_link, bad_metric, unknown_identity}
 use Rattle.area.specs.Tests.{pick, or_then}
 use Rattle.tlv.specs.declared.Neighbour.{Neighbour}
-use Rattle.tlv.specs.declared.Item.{Item}
-use Rattle.tlv.specs.declared.Item.TheVariants.{End, Refused, Entry}
-use Rattle.tlv.specs.Items.{items}
+use Rattle.tlv.specs.Items.{Read, items}
 use Rattle.isis.specs.Identities.{is_known, is_of}
 
 -- ---- the entries of one list
@@ -22,24 +20,22 @@ neighbour_refusal t i x =
     0))
 
 -- that of what stands in the list; 31 and 32 are those of the item itself
-abbrev pub item_refusal : (t : List ℕ) (i : ℕ) (x : Item) → ℕ
-item_refusal t i End = 0
-item_refusal t i (Refused k) = refusal_number k
-item_refusal t i (Entry x) = neighbour_refusal t i x
+abbrev pub item_refusal : (t : List ℕ) (i : ℕ) (x : Read) → ℕ
+item_refusal t i (Ok x) = neighbour_refusal t i x
+item_refusal t i (Err k) = refusal_number k
 
 -- the first refusal of items
-unfoldable pub items_refusal : (t : List ℕ) (i : ℕ) (l : List Item) → ℕ
+unfoldable pub items_refusal : (t : List ℕ) (i : ℕ) (l : List Read) → ℕ
 items_refusal t i [] = 0
 items_refusal t i (x ∷ l) = or_then (item_refusal t i x) (items_refusal t i l)
 
 -- the lower of v and the metric that an item gives router j; v where it gives none
-abbrev pub lowered : (t : List ℕ) (j v : ℕ) (x : Item) → ℕ
-lowered t j v End = v
-lowered t j v (Refused k) = v
-lowered t j v (Entry x) = pick (is_of t x.identity j) (min v x.metric) v
+abbrev pub lowered : (t : List ℕ) (j v : ℕ) (x : Read) → ℕ
+lowered t j v (Ok x) = pick (is_of t x.identity j) (min v x.metric) v
+lowered t j v (Err k) = v
 
 -- the lowest of v and of all metrics that the items give router j, under whichever identity
-unfoldable pub lowest_to : (t : List ℕ) (j v : ℕ) (l : List Item) → ℕ
+unfoldable pub lowest_to : (t : List ℕ) (j v : ℕ) (l : List Read) → ℕ
 lowest_to t j v [] = v
 lowest_to t j v (x ∷ l) = lowest_to t j (lowered t j v x) l
 

@@ -2,6 +2,7 @@
 ghost use Rattle.std.specs.Prelude.{◌<◌};
 
 use crate::{bytes, capture, cut, items, show};
+use area::refusal::number_of;
 use cases::{LONG_TABLE, lines, print, read};
 
 // What a metric table holds before a call: a number that no call writes.
@@ -55,6 +56,6 @@ fn area(rt: &HostRuntime, head: &[u8], n: usize, identities: &[u8], lists: &[u8]
     let mut table = [OLD; LONG_TABLE];
     let cells = read::size(head, 0, LONG_TABLE);
     let answer = isis::read(n, identities, lists, &mut table[0..cells]);
-    print::form(rt, b": #", &[answer.number() as u64]);
+    print::form(rt, b": #", &[u64::from(number_of(&answer))]);
     show::table(rt, &table);
 }

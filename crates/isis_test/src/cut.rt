@@ -3,39 +3,43 @@
 use crate::call::OLD;
 use crate::show;
 use area::limits::CELLS;
+use area::refusal::number_of;
 use cases::{LONG_TABLE, print};
 
 // What came of a call.
-#[derive(Clone, Copy)]
+#[derive(Clone, Copy, PartialEq)]
 struct Outcome {
-    answer: u64,
+    answer: u8,
     links: u64,
 }
 
-// No answer of a call.
-const NONE: u64 = 256;
-
 // Prefixes of the lists. The last byte is one behind the lists of the case.
 pub fn lists(rt: &HostRuntime, n: usize, identities: &[u8], lists: &[u8]) {
-    let mut last = Outcome {
-        answer: NONE,
-        links: 0,
-    };
-    print::byte(rt, b'\n');
-    for size in 0..lists.len() + 1 {
-        last = show(rt, size, last, after_call(n, identities, &lists[0..size]));
-    }
+    prefixes(rt, lists, |part| after_call(n, identities, part));
 }
 
 // Prefixes of the table of identities.
 pub fn table(rt: &HostRuntime, n: usize, identities: &[u8], lists: &[u8]) {
-    let mut last = Outcome {
-        answer: NONE,
-        links: 0,
-    };
+    prefixes(rt, identities, |part| after_call(n, part, lists));
+}
+
+// Prints the outcome for each prefix where it is another than the last.
+fn prefixes<F: Fn(&[u8]) -> Outcome>(rt: &HostRuntime, bytes: &[u8], outcome: F)
+    requires { F.IsAlwaysCallable outcome }
+{
+    let mut last = None;
     print::byte(rt, b'\n');
-    for size in 0..identities.len() + 1 {
-        last = show(rt, size, last, after_call(n, &identities[0..size], lists));
+    // This counts bytes, from none to all: a prefix has a length, which is no place.
+    for size in 0..=bytes.len() {
+        let now = outcome(&bytes[..size]);
+        if last != Some(now) {
+            print::form(
+                rt,
+                b"# bytes: # with # links\n",
+                &[size as u64, u64::from(now.answer), now.links],
+            );
+        }
+        last = Some(now);
     }
 }
 
@@ -43,19 +47,7 @@ fn after_call(n: usize, identities: &[u8], lists: &[u8]) -> Outcome {
     let mut table = [OLD; LONG_TABLE];
     let answer = isis::read(n, identities, lists, &mut table[0..CELLS]);
     Outcome {
-        answer: answer.number() as u64,
+        answer: number_of(&answer),
         links: show::count(&table),
     }
-}
-
-// Prints the outcome where it is another than the last, and gives it back.
-fn show(rt: &HostRuntime, size: usize, last: Outcome, now: Outcome) -> Outcome {
-    if now.answer != last.answer || now.links != last.links {
-        print::form(
-            rt,
-            b"# bytes: # with # links\n",
-            &[size as u64, now.answer, now.links],
-        );
-    }
-    now
 }

@@ -1,39 +1,44 @@
 // The entries of one list.
+use area::refusal::Refusal;
 use cases::print;
-use tlv::{Item, Neighbour};
+use tlv::{Neighbour, Reader};
 
 // What stands at a place.
 pub fn at(rt: &HostRuntime, list: &[u8], at: usize) {
     print::byte(rt, b':');
-    show(rt, tlv::item_at(list, at));
+    match tlv::item_at(list, at) {
+        Ok(None) => print::text(rt, b" end"),
+        Ok(Some(x)) => entry(rt, x),
+        Err(why) => refused(rt, why),
+    }
     print::byte(rt, b'\n');
 }
 
 // The items from a place on, up to the end or a fault.
 pub fn from(rt: &HostRuntime, list: &[u8], start: usize) {
     print::byte(rt, b'\n');
-    let mut at = start;
-    loop {
-        let item = tlv::item_at(list, at);
-        show(rt, item);
+    for item in Reader::new(list, start) {
+        match item {
+            Ok(x) => entry(rt, x),
+            Err(why) => {
+                refused(rt, why);
+                print::byte(rt, b'\n');
+                return;
+            }
+        }
         print::byte(rt, b'\n');
-        let Item::Entry(x) = item else { return };
-        at = x.next;
     }
+    print::text(rt, b" end\n");
 }
 
-fn show(rt: &HostRuntime, item: Item) {
-    match item {
-        Item::End => print::text(rt, b" end"),
-        Item::Refused(k) => print::form(rt, b" refused #", &[k.number() as u64]),
-        Item::Entry(x) => entry(rt, x),
-    }
+fn refused(rt: &HostRuntime, why: Refusal) {
+    print::form(rt, b" refused #", &[u64::from(why.number())]);
 }
 
 fn entry(rt: &HostRuntime, x: Neighbour) {
     print::form(
         rt,
         b" identity # metric # next #",
-        &[x.identity, x.metric as u64, x.next as u64],
+        &[x.identity, u64::from(x.metric), x.next as u64],
     );
 }

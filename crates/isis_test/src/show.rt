@@ -29,8 +29,8 @@ pub fn count(table: &[u32; LONG_TABLE]) -> u64 {
 
 // The links in the order of the table, each in this form: the two routers, and the metric.
 pub fn links(rt: &HostRuntime, table: &[u32; LONG_TABLE], form: &[u8]) {
-    for k in 0..CELLS {
-        link(rt, k, table[k], form);
+    for (k, metric) in table.iter().take(CELLS).enumerate() {
+        link(rt, k, *metric, form);
     }
 }
 
@@ -38,6 +38,6 @@ fn link(rt: &HostRuntime, k: usize, metric: u32, form: &[u8]) {
     let i = k / WIDTH;
     let j = k % WIDTH;
     if metric != UNUSED {
-        print::form(rt, form, &[i as u64, j as u64, metric as u64]);
+        print::form(rt, form, &[i as u64, j as u64, u64::from(metric)]);
     }
 }

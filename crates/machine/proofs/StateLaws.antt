@@ -5,8 +5,8 @@
 --     state_after                      after ok, the next state is the state of a in the record that is handed back
 --     others_stay                      all other routers keep their states
 --     none_23                          there is no next state exactly where the reply is 23
-use Rattle.std.specs.Prelude.{ℕ, zero, suc, ◌≤◌, ◌<◌, ◌≡◌, refl, Bool, true, false, not, ◌||◌, ◌≢◌, ◌↔◌}
-use Rattle.std.specs.Prelude.{eqb, ltb, length}
+use Rattle.std.specs.Prelude.{ℕ, zero, suc, ◌≤◌, ◌<◌, ◌≡◌, refl, Bool, true, false, not, ◌||◌}
+use Rattle.std.specs.Prelude.{◌≢◌, ◌↔◌, Option, Some, None, eqb, ltb, length}
 use Rattle.std.proofs.Common.{sym, ap, ◌∙◌, eqb-true, eq-eqb, ne_eqb, get_or-set_same, get_or-set_other}
 use Rattle.std.proofs.lemmas.Bool.{false≢true}
 use native.Mathlib.Omega.{arith}
@@ -19,8 +19,6 @@ use Rattle.machine.specs.declared.states.State.{State}
 use Rattle.machine.specs.declared.states.State.TheVariants.{Idle, Holding, Ongoing, Done}
 use Rattle.machine.specs.declared.states.Event.{Event}
 use Rattle.machine.specs.declared.states.Event.TheVariants.{Learn, Release, Write, Finish}
-use Rattle.machine.specs.declared.states.NextState.{NextState}
-use Rattle.machine.specs.declared.states.NextState.TheVariants.{To, Nowhere}
 use Rattle.machine.specs.Answers.{Reply, ok, ignored, refused, Outcome, gives}
 use Rattle.machine.specs.Machine.{idle, holding, ongoing, done, state_of, due_of, written_of, held_until}
 use Rattle.machine.specs.Machine.{learn_kind, release_kind, write_kind, finish_kind, deliver_kind}
@@ -57,7 +55,7 @@ above x = (differs idle (omega arith), differs holding (omega arith), differs on
 next_is :
     (x : ℕ) (e : Event)
     → next_state (named x) e
-    ≡ pick (eqb x (state_number (leaves e))) (To (enters e)) Nowhere
+    ≡ pick (eqb x (state_number (leaves e))) (Some (enters e)) None
 next_is zero Learn = refl
 next_is zero Release = refl
 next_is zero Write = refl
@@ -76,25 +74,25 @@ next_is (suc (suc (suc x))) Write = let f = above x in rw (f.0, f.1, f.2) refl
 next_is (suc (suc (suc x))) Finish = let f = above x in rw (f.0, f.1, f.2) refl
 
 -- what tells a next state from none, and from another one
-abbrev place : NextState → ℕ
-place (To s) = suc (state_number s)
-place Nowhere = 0
+abbrev place : Option State → ℕ
+place (Some s) = suc (state_number s)
+place None = 0
 
-abbrev target : NextState → State
-target (To s) = s
-target Nowhere = Done
+abbrev target : Option State → State
+target (Some s) = s
+target None = Done
 
 module _ (x : ℕ) (e : Event) where
-  next_at : x ≡ state_number (leaves e) → next_state (named x) e ≡ To (enters e)
-  next_at q = next_is x e ∙ ap (λ (t : Bool). pick t (To (enters e)) Nowhere) (eq-eqb x (state_number (leaves e)) q)
+  next_at : x ≡ state_number (leaves e) → next_state (named x) e ≡ Some (enters e)
+  next_at q = next_is x e ∙ ap (λ (t : Bool). pick t (Some (enters e)) None) (eq-eqb x (state_number (leaves e)) q)
 
-  next_none : next_state (named x) e ≡ Nowhere → x ≢ state_number (leaves e)
+  next_none : next_state (named x) e ≡ None → x ≢ state_number (leaves e)
   next_none h q = omega (arith, ap place (sym h ∙ next_at q))
 
-  next_to : (s : State) → next_state (named x) e ≡ To s → (x ≡ state_number (leaves e)) × (s ≡ enters e)
+  next_to : (s : State) → next_state (named x) e ≡ Some s → (x ≡ state_number (leaves e)) × (s ≡ enters e)
   next_to s h = go (eqb x (state_number (leaves e))) refl (sym h ∙ next_is x e)
     where
-      go : (t : Bool) → eqb x (state_number (leaves e)) ≡ t → To s ≡ pick t (To (enters e)) Nowhere
+      go : (t : Bool) → eqb x (state_number (leaves e)) ≡ t → Some s ≡ pick t (Some (enters e)) None
           → (x ≡ state_number (leaves e)) × (s ≡ enters e)
       go true t q = (eqb-true x (state_number (leaves e)) t, ap target q)
       go false t q = absurd (omega (arith, ap place q))
@@ -104,56 +102,56 @@ module _ (r : Record) (a : ℕ) where
   -- v is the number of the next state, and `put v` the record that has it
   stored :
       (e : Event) (put : ℕ → Record) (s : State) (v : ℕ) {o : Outcome}
-      → next_of r a e ≡ To s
+      → next_of r a e ≡ Some s
       → v ≡ state_number s
       → o ≡ gives (put (state_number (enters e))) ok
       → o ≡ gives (put v) ok
   stored e put s v h is o =
       o ∙ ap (λ (v : ℕ). gives (put v) ok) (sym (is ∙ ap state_number (next_to (state_of r a) e s h).1))
 
-  pub learn_none : next_of r a Learn ≡ Nowhere → learn r a ≡ gives r (refused wrong_state)
+  pub learn_none : next_of r a Learn ≡ None → learn r a ≡ gives r (refused wrong_state)
   learn_none h = learn_state r a (next_none (state_of r a) Learn h)
 
   pub learn_to :
       (s : State) (v : ℕ)
-      → next_of r a Learn ≡ To s
+      → next_of r a Learn ≡ Some s
       → v ≡ state_number s
       → learn r a ≡ gives (with_learned r a v) ok
   learn_to s v h is = stored Learn (with_learned r a) s v h is (learn_ok r a (next_to (state_of r a) Learn s h).0)
 
-  pub release_none : next_of r a Release ≡ Nowhere → release r a ≡ gives r (refused wrong_state)
+  pub release_none : next_of r a Release ≡ None → release r a ≡ gives r (refused wrong_state)
   release_none h = release_state r a (next_none (state_of r a) Release h)
 
   pub release_soon :
       (s : State)
-      → next_of r a Release ≡ To s
+      → next_of r a Release ≡ Some s
       → r.clock < held_until r a
       → release r a ≡ gives r (refused too_early)
   release_soon s h = release_early r a (next_to (state_of r a) Release s h).0
 
   pub release_to :
       (s : State) (v : ℕ)
-      → next_of r a Release ≡ To s
+      → next_of r a Release ≡ Some s
       → v ≡ state_number s
       → held_until r a ≤ r.clock
       → release r a ≡ gives (with_state r a v) ok
   release_to s v h is held =
       stored Release (with_state r a) s v h is (release_ok r a (next_to (state_of r a) Release s h).0 held)
 
-  pub write_none : (b : ℕ) → next_of r a Write ≡ Nowhere → write r a b ≡ gives r (refused wrong_state)
+  pub write_none : (b : ℕ) → next_of r a Write ≡ None → write r a b ≡ gives r (refused wrong_state)
   write_none b h = write_state r a b (next_none (state_of r a) Write h)
 
-  pub finish_none : next_of r a Finish ≡ Nowhere → finish r a ≡ gives r (refused wrong_state)
+  pub finish_none : next_of r a Finish ≡ None → finish r a ≡ gives r (refused wrong_state)
   finish_none h = finish_state r a (next_none (state_of r a) Finish h)
 
 -- write and finish have tests behind that of the state; here it is x
-pub write_at : (x : ℕ) (s : State) → next_state (named x) Write ≡ To s → x ≡ ongoing
+pub write_at : (x : ℕ) (s : State) → next_state (named x) Write ≡ Some s → x ≡ ongoing
 write_at x s h = (next_to x Write s h).0
 
-pub finish_at : (x : ℕ) (s : State) → next_state (named x) Finish ≡ To s → x ≡ ongoing
+pub finish_at : (x : ℕ) (s : State) → next_state (named x) Finish ≡ Some s → x ≡ ongoing
 finish_at x s h = (next_to x Finish s h).0
 
-pub finish_to : (x : ℕ) (s : State) → next_state (named x) Finish ≡ To s → s ≡ Done
+pub finish_to : (x : ℕ) (s : State) → next_state (named x) Finish ≡ Some s → s ≡ Done
 finish_to x s h = (next_to x Finish s h).1
 
 -- ---- after ok
@@ -272,7 +270,7 @@ module _ (r : Record) (a b : ℕ) where
   leads_on Write q = rw (call_write r a b) (write_on q)
   leads_on Finish q = rw (call_finish r a b) (finish_on q)
 
-  leads_nowhere : (e : Event) → next_of r a e ≡ Nowhere → call_of r (kind_of e) a b ≡ gives r (refused wrong_state)
+  leads_nowhere : (e : Event) → next_of r a e ≡ None → call_of r (kind_of e) a b ≡ gives r (refused wrong_state)
   leads_nowhere Learn h = call_learn r a b ∙ learn_none r a h
   leads_nowhere Release h = call_release r a b ∙ release_none r a h
   leads_nowhere Write h = call_write r a b ∙ write_none r a b h
@@ -289,18 +287,18 @@ pub none_23 :
     (r : Record) (event : Event) (a b : ℕ)
     → is_record r ≡ true
     → are_routers r (kind_of event) a b ≡ true
-    → (next_of r a event ≡ Nowhere) ↔ ((step_of r (kind_of event) a b).reply ≡ refused wrong_state)
+    → (next_of r a event ≡ None) ↔ ((step_of r (kind_of event) a b).reply ≡ refused wrong_state)
 none_23 r e a b good inside = (λ h. ap (λ (o : Outcome). o.reply) (step ∙ leads_nowhere r a b e h), refused_none)
   where
     step : step_of r (kind_of e) a b ≡ call_of r (kind_of e) a b
     step = step_call r (kind_of e) a b good (is_known e) inside
 
-    refused_none : (step_of r (kind_of e) a b).reply ≡ refused wrong_state → next_of r a e ≡ Nowhere
+    refused_none : (step_of r (kind_of e) a b).reply ≡ refused wrong_state → next_of r a e ≡ None
     refused_none h = go (next_of r a e) refl
       where
-        go : (next : NextState) → next_of r a e ≡ next → next ≡ Nowhere
-        go Nowhere q = refl
-        go (To s) q =
+        go : (next : Option State) → next_of r a e ≡ next → next ≡ None
+        go None q = refl
+        go (Some s) q =
             absurd
             ((leads_on r a b e (next_to (state_of r a) e s q).0).not_23
             (ap (λ (o : Outcome). reply_number o.reply) (sym step) ∙ ap reply_number h))

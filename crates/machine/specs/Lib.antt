@@ -3,5 +3,6 @@
 pub mod Answers
 pub mod Machine
 pub mod States
+pub mod Kinds
 pub mod Run
 pub mod Timely

@@ -1,9 +1,10 @@
-// The machine of the steps. Here stand the words that code uses: answers, the numbers of states and of kinds of calls;
-// the module `states` has the states by name, and which state comes after an event. The machine itself is a definition.
+// The machine of the steps. Here stand the words that code uses: the answer of a call; in `kinds` the kinds of calls by
+// name; in `states` the states by name, and which state comes after an event. The machine itself is a definition.
 // Definitions stand in specs/ and laws in proofs/, in reading order:
 //     Answers      what a call gives: a record and a reply
 //     Machine      Step, for every record and all three bytes: `step_of`
 //     States       the next state, a line for each state and event: `next_state`
+//     Kinds        the kinds of calls by name
 //     Run          lists of calls, and what a router has written by them: `run`, `replies`, `has_written`
 //     Timely       what is supposed of a list of calls that holds ticks: `Timely`
 //     StepLaws     a law for each way that a call can end; the proofs of the crate steps cite some of them
@@ -18,36 +19,18 @@
 // The code of Step is in the crate steps.
 #![tactic(auto)]
 
+pub mod kinds;
 pub mod states;
 
 use area::refusal::Refusal;
 
-#[derive(Clone, Copy)]
-pub enum Answer {
-    Ok,
-    // A message that nobody listens for.
+// What a call that is not refused does to the record.
+#[derive(Clone, Copy, Debug, PartialEq, Eq)]
+pub enum Effect {
+    // It is answered "ok".
+    Applied,
+    // It is a message that nobody listens for.
     Ignored,
-    Refused(Refusal),
 }
 
-// A router's states, as the record has them.
-pub const IDLE: u8 = 0;
-
-pub const HOLDING: u8 = 1;
-
-pub const ONGOING: u8 = 2;
-
-pub const DONE: u8 = 3;
-
-// The kinds of calls.
-pub const LEARN: u8 = 1;
-
-pub const RELEASE: u8 = 2;
-
-pub const WRITE: u8 = 3;
-
-pub const FINISH: u8 = 4;
-
-pub const DELIVER: u8 = 5;
-
-pub const TICK: u8 = 6;
+pub type Answer = Result<Effect, Refusal>;

@@ -3,22 +3,20 @@
 ghost use Rattle.std.specs.Prelude.{◌≡◌};
 ghost use Rattle.machine.specs.States.{state_number, named, next_state};
 
-use crate::{DONE, HOLDING, IDLE, ONGOING};
-
-// With the name that each has in section 8. Its OFIB_ABANDONED is no state here.
-#[derive(Clone, Copy)]
+// With the name that each has in section 8, and its number in a record. The draft's OFIB_ABANDONED is no state here.
+#[derive(Clone, Copy, Debug, PartialEq, Eq)]
 pub enum State {
     // OFIB_STABLE, before the change is known.
-    Idle,
+    Idle = 0,
     // OFIB_HOLDING_DOWN in a rise, OFIB_HOLDING_UP in a fall.
-    Holding,
+    Holding = 1,
     // OFIB_ONGOING.
-    Ongoing,
+    Ongoing = 2,
     // OFIB_STABLE, after the change.
-    Done,
+    Done = 3,
 }
 
-#[derive(Clone, Copy)]
+#[derive(Clone, Copy, Debug, PartialEq, Eq)]
 pub enum Event {
     // A link-state packet describes the change.
     Learn,
@@ -30,62 +28,38 @@ pub enum Event {
     Finish,
 }
 
-// The state after an event, or none where the event has no place.
-#[derive(Clone, Copy)]
-pub enum NextState {
-    To(State),
-    Nowhere,
-}
-
 impl State {
     // The record's number for it.
     pub fn number(self) -> u8
         ensures number { result ≡ state_number self }
     {
-        match self {
-            State::Idle => IDLE,
-            State::Holding => HOLDING,
-            State::Ongoing => ONGOING,
-            State::Done => DONE,
-        }
+        self as u8
     }
 
-    // The state after an event.
-    pub fn after(self, event: Event) -> NextState
+    // The state after an event, or none where the event has no place.
+    pub fn after(self, event: Event) -> Option<State>
         ensures next { result ≡ next_state self event }
     {
-        match self {
-            State::Idle => match event {
-                Event::Learn => NextState::To(State::Holding),
-                Event::Release => NextState::Nowhere,
-                Event::Write => NextState::Nowhere,
-                Event::Finish => NextState::Nowhere,
-            },
-            State::Holding => match event {
-                Event::Learn => NextState::Nowhere,
-                Event::Release => NextState::To(State::Ongoing),
-                Event::Write => NextState::Nowhere,
-                Event::Finish => NextState::Nowhere,
-            },
-            State::Ongoing => match event {
-                Event::Learn => NextState::Nowhere,
-                Event::Release => NextState::Nowhere,
-                Event::Write => NextState::To(State::Ongoing),
-                Event::Finish => NextState::To(State::Done),
-            },
-            State::Done => NextState::Nowhere,
+        match (self, event) {
+            (State::Idle, Event::Learn) => Some(State::Holding),
+            (State::Holding, Event::Release) => Some(State::Ongoing),
+            (State::Ongoing, Event::Write) => Some(State::Ongoing),
+            (State::Ongoing, Event::Finish) => Some(State::Done),
+            _ => None,
         }
     }
 }
 
-// The state of a number. One that is none of the four is taken for done, from which no event leads on.
-pub fn named(number: u8) -> State
-    ensures state { result ≡ named number }
-{
-    match number {
-        IDLE => State::Idle,
-        HOLDING => State::Holding,
-        ONGOING => State::Ongoing,
-        _ => State::Done,
+impl From<u8> for State {
+    ghost from_gives = { λ number state. state ≡ named number };
+
+    // The state of a number. One that is none of the four is taken for done, from which no event leads on.
+    fn from(number: u8) -> State {
+        match number {
+            0 => State::Idle,
+            1 => State::Holding,
+            2 => State::Ongoing,
+            _ => State::Done,
+        }
     }
 }

@@ -18,18 +18,12 @@ use plan::Record;
 pub fn needs(fresh: Record) -> usize
     ensures count { result ≡ needs fresh }
 {
-    let waiting = fresh.waiting;
-    let due = fresh.due;
-    lent::needs(fresh.n, &waiting, &due)
+    lent::needs(fresh.n, &fresh.waiting, &fresh.due)
 }
 
 // How many of these are still to come.
 pub fn missing(now: Record) -> usize
     ensures count { result ≡ missing now }
 {
-    let waiting = now.waiting;
-    let due = now.due;
-    let states = now.states;
-    let written = now.written;
-    lent::missing(now.n, &waiting, &due, &states, &written)
+    lent::missing(now.n, &now.waiting, &now.due, &now.states, &now.written)
 }

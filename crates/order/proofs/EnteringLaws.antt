@@ -1,85 +1,75 @@
 -- The converse of a table of sets, made by entering router s at each member of its set, for one s after another.
 --     Entering, entering_start, entering_next, entering_skip, entering_end     the loop over the members
 --     Held, held_none, held_more, held_all     the loop over the routers; then the table is the converse
-use Rattle.std.specs.Prelude.{ℕ, ◌+◌, ◌^◌, ◌≤◌, ◌<◌, ◌≡◌, refl, Bool, true, false, ◌||◌, ◌≢◌, ◌⊎◌, List, eqb, length, get_or, set, replicate}
-use Rattle.std.proofs.Common.{sym, ap, ◌∙◌, inl, inr, ⊎_elim, arith, length-set, get_or-set_same, get_or-set_other}
+use Rattle.std.specs.Prelude.{ℕ, ◌+◌, ◌≤◌, ◌<◌, ◌≡◌, refl, Bool, true}
+use Rattle.std.specs.Prelude.{List, [], ◌∷◌, ◌++◌, length, get_or, set, replicate}
+use Rattle.std.proofs.Common.{sym, ap, ◌∙◌, inl, ⊎_elim, arith, length-set, get_or-set_same, get_or-set_other}
 use Rattle.std.proofs.lemmas.Bool.{false≢true}
-use Rattle.std.proofs.Math.Decide.{ℕ_discrete}
 use Rattle.std.proofs.lemmas.List.{length-replicate}
-use Rattle.area.specs.Tests.{lowest}
+use Rattle.area.specs.Lists.{◌∈◌}
+use Rattle.area.proofs.MemberLaws.{in_left, in_right}
 use Rattle.area.proofs.TestLaws.{look}
 use Rattle.area.specs.Tables.{per_router}
 use Rattle.area.proofs.PerRouterLaws.{is_per, zeros_at}
 use Rattle.sets.specs.Sets.{bit, set_of, added}
-use Rattle.sets.proofs.SetLaws.{set_of_same, set_of_start, set_of_skip, set_of_more, bit_added}
-use Rattle.sets.specs.Four.{beyond}
-use Rattle.sets.proofs.VisitLaws.{Visited, visit_start, visit_more, visit_next, visit_end, visit_member}
+use Rattle.sets.proofs.SetLaws.{set_of_start, set_of_skip, set_of_more}
+use Rattle.sets.proofs.MembersLaws.{loop_more}
 use Rattle.order.specs.Order.{telling_by}
 use Rattle.order.specs.Entered.{Entered}
 
 -- ---- one router
--- what `Entered` says, of the members that were visited; `left` are the others
-pub record Entering (w n x s left : ℕ) (was t : List ℕ) : Type 0 where
+-- what `Entered` says, of the members xs that have come
+pub record Entering (w n s : ℕ) (xs was t : List ℕ) : Type 0 where
   pub size : length t ≡ length was
-  pub held : Visited w x left (λ r. r < n → get_or t r 0 ≡ added w (get_or was r 0) s)
-  pub either :
-      (r : ℕ)
-      → (get_or t r 0 ≡ get_or was r 0)
-      ⊎ ((r < n) × (bit x r ≡ true) × (get_or t r 0 ≡ added w (get_or was r 0) s))
+  pub held : (r : ℕ) → r ∈ xs → r < n → get_or t r 0 ≡ added w (get_or was r 0) s
+  pub kept : (r : ℕ) → ((r < n) × (r ∈ xs) → ⊥) → get_or t r 0 ≡ get_or was r 0
 
--- what is added twice is there once
-added_twice : (w s k : ℕ) → added w (added w s k) k ≡ added w s k
-unfolding added
-added_twice w s k =
-    set_of_same w (λ i. bit (added w s k) i || eqb i k) (λ i. bit s i || eqb i k)
-    (λ i h. ap (λ (b : Bool). b || eqb i k) (bit_added w s k i h) ∙ twice (bit s i) (eqb i k))
-  where
-    twice : (a b : Bool) → ((a || b) || b) ≡ (a || b)
-    twice true b = refl
-    twice false true = refl
-    twice false false = refl
+module _ (w n s : ℕ) (was : List ℕ) where
+  pub entering_start : Entering w n s [] was was
+  entering_start = record { size = refl; held = λ r m. absurd m; kept = λ r f. refl }
 
-module _ (w n x s : ℕ) (was : List ℕ) where
-  pub entering_start : x < 2 ^ w → Entering w n x s x was was
-  entering_start h = record { size = refl; held = visit_start w x _ h; either = λ r. inl refl }
+  module _ (xs t : List ℕ) (q : ℕ) (i : Entering w n s xs was t) where
+    before : (r : ℕ) → ((r < n) × (r ∈ (xs ++ q ∷ [])) → ⊥) → get_or t r 0 ≡ get_or was r 0
+    before r f = i.kept r (λ p. f (p.0, in_left r xs (q ∷ []) p.1))
 
-  pub entering_end : {left : ℕ} {t : List ℕ} → Entering w n x s left was t → left ≡ 0 → Entered w n x s was t
-  entering_end i z = record {
-    size = i.size;
-    held = λ r l e. visit_end i.held z r e l;
-    kept = λ r f. ⊎_elim (λ e. e) (λ p. absurd (f (p.0, p.1))) (i.either r);
-  }
-
-  module _
-      {left : ℕ} {t : List ℕ} (q r : ℕ) (i : Entering w n x s left was t)
-      (some : left ≢ 0) (is : q ≡ lowest w (bit left)) (e : r ≡ beyond w 1 left) where
-    pub entering_skip : n ≤ q → Entering w n x s r was t
+    pub entering_skip : n ≤ q → Entering w n s (xs ++ q ∷ []) was t
     entering_skip h = record {
       size = i.size;
-      held = visit_next _ q r i.held some is e (λ k p. p) (λ l. absurd (omega arith));
-      either = i.either;
+      held = loop_more (λ r. r < n → get_or t r 0 ≡ added w (get_or was r 0) s) xs q i.held
+          (λ r o e. e) (λ l. absurd (omega arith));
+      kept = before;
     }
 
+    -- q comes once, and is the last
     pub entering_next :
-        (v : ℕ) → n ≤ length was → q < n → v ≡ added w (get_or t q 0) s → Entering w n x s r was (set t q v)
-    entering_next v room h a =
-        let inside = i.held.part q (visit_member w left q i.held.fits some is).1 in
-        let v-is : v ≡ added w (get_or was q 0) s =
-        a ∙ ⊎_elim
-        (λ p. ap (λ (y : ℕ). added w y s) p)
-        (λ p. ap (λ (y : ℕ). added w y s) p.2 ∙ added_twice w (get_or was q 0) s)
-        (i.either q) in
-        let here : get_or (set t q v) q 0 ≡ added w (get_or was q 0) s =
-        get_or-set_same t q v 0 (omega (arith, i.size)) ∙ v-is in
+        (v : ℕ)
+        → n ≤ length was
+        → q < n
+        → ((r : ℕ) → r ∈ xs → r < q)
+        → v ≡ added w (get_or t q 0) s
+        → Entering w n s (xs ++ q ∷ []) was (set t q v)
+    entering_next v room h last a =
+        let first = i.kept q (λ p. let x : ⊥ = omega (arith, last q p.1) in x) in
         record {
           size = simp length-set i.size;
-          held = visit_more _ q r i.held some is e
-              (λ k f p l. get_or-set_other t q k v 0 f ∙ p l) (λ l. here);
-          either = λ k. elim (ℕ_discrete k q) [
-            | yes p ↦ inr (rw p h, rw p inside, rw p here)
-            | no f ↦ rw (get_or-set_other t q k v 0 f) (i.either k)
-          ];
+          held = loop_more (λ r. r < n → get_or (set t q v) r 0 ≡ added w (get_or was r 0) s) xs q i.held
+              (λ r o e l. get_or-set_other t q r v 0 (λ p. omega (arith, last r o, p)) ∙ e l)
+              (λ l. get_or-set_same t q v 0 (omega (arith, i.size)) ∙ a ∙ ap (λ (y : ℕ). added w y s) first);
+          kept = λ r f.
+              get_or-set_other t q r v 0 (λ p. f (rw p h, in_right r xs (q ∷ []) (inl p))) ∙ before r f;
         }
+
+  pub entering_end :
+      {x : ℕ} {xs t : List ℕ}
+      → Entering w n s xs was t
+      → ((r : ℕ) → r ∈ xs → bit x r ≡ true)
+      → ((r : ℕ) → bit x r ≡ true → r ∈ xs)
+      → Entered w n x s was t
+  entering_end i come all = record {
+    size = i.size;
+    held = λ r l e. i.held r (all r e) l;
+    kept = λ r f. i.kept r (λ p. f (p.0, come r p.1));
+  }
 
 -- ---- one router after another
 -- f k is the set of router k. The entry of r in t has the routers before s whose set r is in; it is 0 from n on.

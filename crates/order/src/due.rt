@@ -7,17 +7,14 @@ ghost use Rattle.order.specs.Order.{due_by};
 
 use area::limits::{Set, WIDTH};
 use sets::add;
+use std::array;
 
 // The destinations that are due at each router.
 pub(crate) fn due(n: usize, old: &[Set], new: &[Set]) -> [Set; WIDTH]
     requires { (n ≤ width) × (length old.now ≡ width * width) × (length new.now ≡ width * width) }
     ensures { result ≡ per_router width n (due_by n (cell width old.now) (cell width new.now)) }
 {
-    let mut out: [Set; WIDTH] = [0; WIDTH];
-    for r in 0..n {
-        out[r] = changed(n, old, new, r);
-    }
-    out
+    array::from_fn(|r| if r < n { changed(n, old, new, r) } else { 0 })
 }
 
 // The destinations to which the set of router r changes.
@@ -26,10 +23,11 @@ fn changed(n: usize, old: &[Set], new: &[Set], r: usize) -> Set
     requires len { (length old.now ≡ width * width) × (length new.now ≡ width * width) }
     ensures { result ≡ due_by n (cell width old.now) (cell width new.now) r }
 {
+    let row = WIDTH * r;
+    let is = &new[row..row + n];
     let mut found: Set = 0;
-    for d in 0..n {
-        let k = WIDTH * r + d;
-        if old[k] != new[k] {
+    for (d, was) in old[row..row + n].iter().enumerate() {
+        if *was != is[d] {
             found = add(found, d);
         }
     }

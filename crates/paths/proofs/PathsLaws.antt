@@ -10,20 +10,23 @@
 --     SizedPaths, sized_paths_.., filled_sized                     the test of the sizes, table by table
 --     refused_count, refused_tables, refused_metrics, accepted     the answer, by the three tests
 --     tables_kept, tables_filled                                   the tables, by the answer
---     accepted_ready, ready_accepted                               what an accepted input is
+--     accepted_ready, accepted_sized, ready_accepted               what an accepted input is
 --     distance_cell_is, hop_cell_is, four_cell_is                  what its cells are
 --     distance_cell_beyond, hop_cell_beyond, four_cell_beyond      and those from n on
 --     distance_cell_bound, largest_reached                         the largest real distance
+--     judged                                                       what decides an answer
 use Rattle.std.specs.Prelude.{ℕ, ◌-◌, ◌≤◌, ◌<◌, ◌≡◌, false, ◌&&◌, ◌||◌, ◌≢◌, ◌↔◌, ◌⊎◌, List, leb, eqb}
 use Rattle.std.proofs.Math.Path.{refl}
 use Rattle.std.proofs.Common.{◌∙◌, inl, inr, arith}
 use Rattle.std.proofs.Math.Bool.{true}
+use Rattle.std.proofs.lemmas.Grind.{common_steps}
 use borrow.Author.Tests.{leb-true, le-leb, lt-leb, eq-eqb, ne_eqb}
 use Rattle.area.specs.Limits.{width, unused, unreached}
 use Rattle.area.specs.Refusals.{router_count, bad_metric, table_size}
 use Rattle.area.specs.Tables.{cell}
 use Rattle.area.specs.Sizes.{is_router_count, is_table}
-use Rattle.area.proofs.SizeLaws.{router_count_true, router_count_some, router_count_most, table_true, table_size_lem}
+use Rattle.area.proofs.SizeLaws.{router_count_true, router_count_low, router_count_high}
+use Rattle.area.proofs.SizeLaws.{router_count_some, router_count_most, table_true, table_false, table_size_lem}
 use Rattle.area.proofs.TestLaws.{look, both_true, and_true, and_false, or_right, all_at, all_true}
 use Rattle.sets.specs.Sets.{bit}
 use Rattle.sets.specs.Four.{four}
@@ -204,6 +207,9 @@ module _ (n : ℕ) (m : List ℕ) (t : PathTables) where
       let size = (both_true (is_table m) (are_paths t) p.1).0 in
       area_ready n m (area_metrics n m p.0 size ∙ p.2)
 
+  pub accepted_sized : paths_refusal n m t ≡ 0 → SizedPaths t
+  accepted_sized e = sized_paths_of t (both_true (is_table m) (are_paths t) (accepted_tests e).1).1
+
   pub ready_accepted : Ready n m → SizedPaths t → paths_refusal n m t ≡ 0
   ready_accepted r z =
       accepted (router_count_true n r.some r.most)
@@ -262,6 +268,24 @@ module _ (n : ℕ) (m : List ℕ) (t : PathTables) where
 
       pub four_cell_beyond : cell width (paths_of n m t).fours i j ≡ 0
       four_cell_beyond = rw (tables_filled e) (fours_beyond n m i j a b out)
+
+-- what decides an answer at each return of `judge` and of `is_area` (src/lib.rt)
+pub ruleset judged = (
+  refused_count,
+  refused_tables,
+  refused_metrics,
+  accepted,
+  area_uncounted,
+  area_unsized,
+  area_metrics,
+  router_count_true,
+  router_count_low,
+  router_count_high,
+  table_true,
+  table_false,
+  and_true,
+  common_steps,
+)
 
 -- The largest real distance is that of an area: as many routers as there can be, each linked with the next
 -- at the largest metric.

@@ -1,17 +1,22 @@
 -- Paths (01, "The area and its paths"): its answer, and what its tables hold when it returns, on every input.
 -- n is the number of routers, m the metric table, t are the tables that it is lent.
 -- What a distance and a next-hop set are, and the cells that hold them, is in crate topology (specs/Cells.antt).
-use Rattle.std.specs.Prelude.{ℕ, Bool, not, ◌&&◌, ◌||◌, List, leb, eqb}
+use Rattle.std.specs.Prelude.{ℕ, ◌≡◌, Bool, not, ◌&&◌, ◌||◌, List, leb, eqb}
 use Rattle.area.specs.Limits.{width, unused}
 use Rattle.area.specs.Refusals.{router_count, bad_metric, table_size}
 use Rattle.area.specs.Tests.{pick, all}
 use Rattle.area.specs.Sizes.{is_router_count, is_table}
 use Rattle.area.specs.Tables.{cell, tabulate}
 use Rattle.topology.specs.Cells.{distance_cell, hop_cell, four_cell}
+use Rattle.paths.specs.declared.Topology.{Topology}
 
--- The metric of (i, j) is 1 to `unused`.
+-- a metric is 1 to `unused`
+abbrev pub in_range : (metric : ℕ) → Bool
+in_range k = leb 1 k && leb k unused
+
+-- that of (i, j) is
 unfoldable pub is_metric : (m : List ℕ) (i j : ℕ) → Bool
-is_metric m i j = leb 1 (cell width m i j) && leb (cell width m i j) unused
+is_metric m i j = in_range (cell width m i j)
 
 -- Every link from router i has such a metric. The diagonal, and what lies beyond n, is not looked at.
 abbrev pub are_metrics_from : (n : ℕ) (m : List ℕ) (i : ℕ) → Bool
@@ -30,6 +35,17 @@ pub record PathTables : Type 0 where
 -- what three lent slices hold
 abbrev pub paths_in : (distances hops fours : List ℕ) → PathTables
 paths_in d h f = record { distances = d; hops = h; fours = f }
+
+-- what the tables hold that Paths is lent (`Topology` is the struct of src/lib.rt)
+abbrev pub held : (t : Topology) → PathTables
+held t = paths_in t.dist.now t.hops.now t.fours.now
+
+-- They are the same tables still, whatever they hold: none was put in the place of another.
+abbrev pub AreSame : (t u : Topology) → Type 0
+AreSame t u =
+    (u.dist.ghost_name ≡ t.dist.ghost_name)
+    × (u.hops.ghost_name ≡ t.hops.ghost_name)
+    × (u.fours.ghost_name ≡ t.fours.ghost_name)
 
 -- each of the three has the size of a table
 unfoldable pub are_paths : (t : PathTables) → Bool

@@ -2,9 +2,11 @@
 --     cell_after        the cell (i, j) of the new table when the first k changes are made
 --     Applied          t is the new table when the first k changes are made
 --     applied_none, applied_more, applied_all
+--     given_ends        the ends of a change that the loop is given are routers
 -- It holds of the copied table and no change, of one change more when that one is put in, and where it holds of all
 -- changes t is the new table.
-use Rattle.std.proofs.Common.{ℕ, ◌+◌, ◌*◌, ◌≤◌, ◌<◌, ◌≡◌, refl, sym, ap, subst, ◌∙◌, true, false, not, ◌&&◌, ◌≢◌, ⊎_elim, List, [], add-one, arith, ltb, eqb, length, set, length-set}
+use Rattle.std.proofs.Common.{ℕ, ◌+◌, ◌*◌, ◌≤◌, ◌<◌, ◌≡◌, refl, sym, ap, subst, ◌∙◌, true, false, not, ◌&&◌, ◌≢◌}
+use Rattle.std.proofs.Common.{⊎_elim, List, [], add-one, arith, ltb, eqb, length, set, length-set}
 use borrow.Author.Tests.{lt-ltb, ne_eqb}
 use Rattle.area.specs.Limits.{width, unused}
 use Rattle.area.specs.Tests.{pick}
@@ -14,7 +16,10 @@ use Rattle.area.proofs.TableLaws.{length_tabulate, cell_tabulate, is_tabulate}
 use Rattle.entries.specs.declared.Entry.{Entry}
 use Rattle.entries.specs.Entries.{entry_count, entry_of, from, to, metric, is_for_pair, listed_metric}
 use Rattle.entries.proofs.EntryLaws.{entry_count_is, of_pair, given_start, given_more, given_kept, cell_entered}
-use Rattle.changes.specs.Sound.{Change}
+use Rattle.entries.specs.declared.Entries.{Entries}
+use Rattle.entries.specs.Each.{Gives}
+use Rattle.entries.proofs.EachLaws.{Visits, visits_listed, visits_entry}
+use Rattle.changes.specs.Sound.{Change, Sound}
 use Rattle.plan.specs.NewMetrics.{new_cell, new_metrics}
 
 abbrev pub cell_after : (n : ℕ) (m l : List ℕ) (k i j : ℕ) → ℕ
@@ -77,3 +82,12 @@ module _ (n : ℕ) (m l : List ℕ) where
   pub applied_all : (t : List ℕ) → Applied n m l (entry_count l) t → t ≡ new_metrics n m l
   unfolding new_metrics new_cell
   applied_all t done = is_tabulate width (new_cell n m l) t (omega arith) done.size done.cells
+
+-- ---- a change that the loop is given is one of the list, and has no fault
+pub given_ends :
+    (n : ℕ) (l : List ℕ) {s t : Entries} {x : Entry}
+    → Sound n l → Visits l s → Gives s x t → (x.from < n) × (x.to < n)
+given_ends n l {s} {t} {x} sound visits g =
+    let change = sound s.next (visits_listed visits g) in
+    let is = visits_entry visits g in
+    (rw is change.from_in, rw is change.to_in)

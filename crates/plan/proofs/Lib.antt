@@ -1,5 +1,4 @@
 -- The laws of a plan, and what several functions' proofs share.
-pub mod Judgements
 pub mod Copying
 pub mod Applying
 pub mod Recording

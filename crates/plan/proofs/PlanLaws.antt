@@ -7,22 +7,30 @@
 --     planned_is           an input is planned exactly where none of 01's conditions for a refusal holds
 --     record_planned, record_refused, refused_count, tables_planned, tables_refused    what is handed back and left
 --     filled_size      the tables that are filled have the right size
+--     plan_parts       the ladder in the parts by which src/judging.rt goes through it
+--     at_area, at_length, at_change, at_direction, at_root, at_end     the answer, by where that ends
+--     part_count, part_untimed, part_tables, part_metrics, part_passed, part_ready, judged_area    its first part
 -- The tests of the ladder are taken one after another: a refusal is given where its test is the first to fail, and so
 -- an input that is given none has passed all of them.
-use Rattle.std.specs.Prelude.{ℕ, suc, ◌%◌, ◌≤◌, ◌<◌, ◌≡◌, Bool, true, not, ◌||◌, ◌≢◌, ◌↔◌, ◌⊎◌, List, length}
+use Rattle.std.specs.Prelude.{ℕ, suc, ◌*◌, ◌%◌, ◌≤◌, ◌<◌, ◌≡◌, Bool, true, not, ◌&&◌, ◌||◌, ◌≢◌, ◌↔◌, ◌⊎◌, List}
+use Rattle.std.specs.Prelude.{length, ltb, eqb}
 use Rattle.std.proofs.Math.Path.{refl}
 use Rattle.std.proofs.Common.{sym, ap, ◌∙◌, inl, inr, ⊎_elim, arith}
 use Rattle.std.proofs.Math.Bool.{false}
+use Rattle.std.proofs.lemmas.Grind.{common_steps}
 use Rattle.std.proofs.Math.Decide.{dec_lt, ℕ_discrete}
 use borrow.Author.Tests.{eqb-true, lt-ltb, le-ltb, eq-eqb, ne_eqb}
 use Rattle.area.specs.Limits.{width, most_changes}
+use Rattle.area.specs.declared.refusal.Refusal.{Refusal}
+use Rattle.area.specs.Refusals.{refusal_number}
 use Rattle.area.specs.Refusals.{router_count, table_size, bad_metric, incomplete, too_many}
 use Rattle.area.specs.Refusals.{no_change, same_metric, mixed, no_common_router, no_step_time}
 use Rattle.area.specs.Tests.{pick, or_then, first}
+use Rattle.area.proofs.RefusalLaws.{refusal_positive}
 use Rattle.area.proofs.TableLaws.{length_tabulate}
 use Rattle.area.proofs.TestLaws.{look, both_true, and_false, or_cases, or_left, or_right, then_some, then_none}
 use Rattle.area.specs.Sizes.{is_router_count, is_table}
-use Rattle.area.proofs.SizeLaws.{router_count_true, table_true, table_size_lem}
+use Rattle.area.proofs.SizeLaws.{router_count_true, router_count_low, router_count_high, table_true, table_size_lem}
 use Rattle.entries.specs.Entries.{entry_count, listed_refusal}
 use Rattle.paths.specs.Paths.{are_paths, are_metrics}
 use Rattle.paths.specs.Ready.{Ready}
@@ -34,6 +42,7 @@ use Rattle.plan.specs.Direction.{is_same, is_rise, is_fall}
 use Rattle.plan.specs.Plan.{Tables, are_tables, change_refusal, plan_refusal, is_planned}
 use Rattle.plan.specs.Plan.{fresh, blank, filled, record_of, tables_of}
 use Rattle.plan.specs.Planned.{Listed, Sized, Plan}
+use Rattle.plan.specs.Parts.{area_refusal, length_refusal, direction_refusal}
 
 -- ---- the refusals of the input
 module _ (n : ℕ) (m l : List ℕ) (sized : Bool) where
@@ -290,3 +299,165 @@ filled_size n m l = record {
   old = filled_sized n m;
   new = filled_sized n (new_metrics n m l);
 }
+
+-- ---- the ladder in parts, as src/judging.rt goes through it
+ladder :
+    (count untimed sized metrics whole many none same way common : Bool) (listed : ℕ)
+    → pick (count && untimed) no_step_time
+    (pick (not count) router_count
+    (pick (not sized) table_size
+    (pick (not metrics) bad_metric
+    (pick (not whole) incomplete
+    (pick many too_many
+    (pick none no_change
+    (or_then listed
+    (pick same same_metric
+    (pick (not way) mixed
+    (pick (not common) no_common_router
+    0))))))))))
+    ≡ or_then
+    (pick (not count) router_count
+    (pick untimed no_step_time
+    (pick (not sized) table_size
+    (pick (not metrics) bad_metric
+    0))))
+    (or_then (pick (not whole) incomplete (pick many too_many (pick none no_change 0)))
+    (or_then listed (or_then (pick same same_metric (pick (not way) mixed 0)) (pick (not common) no_common_router 0))))
+ladder false untimed sized metrics whole many none same way common listed = refl
+ladder true true sized metrics whole many none same way common listed = refl
+ladder true false false metrics whole many none same way common listed = refl
+ladder true false true false whole many none same way common listed = refl
+ladder true false true true false many none same way common listed = refl
+ladder true false true true true true none same way common listed = refl
+ladder true false true true true false true same way common listed = refl
+ladder true false true true true false false true way common listed = refl
+ladder true false true true true false false false false common listed = refl
+ladder true false true true true false false false true common listed = refl
+
+module _ (n s : ℕ) (m l : List ℕ) (sized : Bool) where
+  pub plan_parts :
+      plan_refusal n s m l sized
+      ≡ or_then (area_refusal n s m sized)
+      (or_then (length_refusal l)
+      (or_then (first (entry_count l) (listed_refusal n l))
+      (or_then (direction_refusal n m l) (pick (not (is_common l (root l))) no_common_router 0))))
+  unfolding plan_refusal change_refusal area_refusal length_refusal direction_refusal
+  plan_parts =
+      ladder (is_router_count n) (eqb s 0) sized (are_metrics n m) (eqb (length l % 5) 0)
+      (ltb most_changes (entry_count l)) (eqb (entry_count l) 0) (is_same n m l) (is_rise n m l || is_fall n m l)
+      (is_common l (root l)) (first (entry_count l) (listed_refusal n l))
+
+  -- one law for each place where `judge` ends
+  some : (k : Refusal) {a : ℕ} → refusal_number k ≡ a → a ≢ 0
+  some k e z = omega (arith, refusal_positive k, e, z)
+
+  pub at_area :
+      (k : Refusal)
+      → refusal_number k ≡ area_refusal n s m sized
+      → refusal_number k ≡ plan_refusal n s m l sized
+  at_area k e = e ∙ sym (plan_parts ∙ then_some (area_refusal n s m sized) _ (some k e))
+
+  module _ (a : 0 ≡ area_refusal n s m sized) where
+    past_area :
+        plan_refusal n s m l sized
+        ≡ or_then (length_refusal l)
+        (or_then (first (entry_count l) (listed_refusal n l))
+        (or_then (direction_refusal n m l) (pick (not (is_common l (root l))) no_common_router 0)))
+    past_area = plan_parts ∙ then_none (area_refusal n s m sized) _ (sym a)
+
+    pub at_length : (k : Refusal) → refusal_number k ≡ length_refusal l → refusal_number k ≡ plan_refusal n s m l sized
+    at_length k e = e ∙ sym (past_area ∙ then_some (length_refusal l) _ (some k e))
+
+    module _ (b : 0 ≡ length_refusal l) where
+      past_length :
+          plan_refusal n s m l sized
+          ≡ or_then (first (entry_count l) (listed_refusal n l))
+          (or_then (direction_refusal n m l) (pick (not (is_common l (root l))) no_common_router 0))
+      past_length = past_area ∙ then_none (length_refusal l) _ (sym b)
+
+      pub at_change :
+          (k : Refusal)
+          → refusal_number k ≡ first (entry_count l) (listed_refusal n l)
+          → refusal_number k ≡ plan_refusal n s m l sized
+      at_change k e = e ∙ sym (past_length ∙ then_some (first (entry_count l) (listed_refusal n l)) _ (some k e))
+
+      module _ (c : 0 ≡ first (entry_count l) (listed_refusal n l)) where
+        past_changes :
+            plan_refusal n s m l sized
+            ≡ or_then (direction_refusal n m l) (pick (not (is_common l (root l))) no_common_router 0)
+        past_changes = past_length ∙ then_none (first (entry_count l) (listed_refusal n l)) _ (sym c)
+
+        pub at_direction :
+            (k : Refusal)
+            → refusal_number k ≡ direction_refusal n m l
+            → refusal_number k ≡ plan_refusal n s m l sized
+        at_direction k e = e ∙ sym (past_changes ∙ then_some (direction_refusal n m l) _ (some k e))
+
+        module _ (d : 0 ≡ direction_refusal n m l) where
+          past_direction : plan_refusal n s m l sized ≡ pick (not (is_common l (root l))) no_common_router 0
+          past_direction = past_changes ∙ then_none (direction_refusal n m l) _ (sym d)
+
+          pub at_root : false ≡ is_common l (root l) → no_common_router ≡ plan_refusal n s m l sized
+          at_root e = sym (past_direction ∙ rw (sym e) refl)
+
+          pub at_end : true ≡ is_common l (root l) → 0 ≡ plan_refusal n s m l sized
+          at_end e = sym (past_direction ∙ rw (sym e) refl)
+
+-- the first part, by its tests
+module _ (n s : ℕ) (m : List ℕ) (sized : Bool) where
+  pub part_count : is_router_count n ≡ false → area_refusal n s m sized ≡ router_count
+  unfolding area_refusal
+  part_count a = rw a refl
+
+  pub part_untimed : is_router_count n ≡ true → s ≡ 0 → area_refusal n s m sized ≡ no_step_time
+  unfolding area_refusal
+  part_untimed a b = rw (a, eq-eqb s 0 b) refl
+
+  pub part_tables : is_router_count n ≡ true → s ≢ 0 → sized ≡ false → area_refusal n s m sized ≡ table_size
+  unfolding area_refusal
+  part_tables a b c = rw (a, ne_eqb s 0 b, c) refl
+
+  pub part_metrics :
+      is_router_count n ≡ true → s ≢ 0 → sized ≡ true → are_metrics n m ≡ false
+      → area_refusal n s m sized ≡ bad_metric
+  unfolding area_refusal
+  part_metrics a b c d = rw (a, ne_eqb s 0 b, c, d) refl
+
+  pub part_passed :
+      is_router_count n ≡ true → s ≢ 0 → sized ≡ true → are_metrics n m ≡ true
+      → area_refusal n s m sized ≡ 0
+  unfolding area_refusal
+  part_passed a b c d = rw (a, ne_eqb s 0 b, c, d) refl
+
+  -- the area is one that Paths accepts
+  pub part_ready : 0 ≡ area_refusal n s m sized → (sized ≡ true → length m ≡ width * width) → Ready n m
+  part_ready z size = by_tests (look (is_router_count n)) (ℕ_discrete s 0) (look sized) (look (are_metrics n m))
+    where
+      never : {A : Type 0} (k : ℕ) → area_refusal n s m sized ≡ suc k → A
+      never k q = absurd (let x : ⊥ = omega arith in x)
+
+      by_tests :
+          (is_router_count n ≡ true) ⊎ (is_router_count n ≡ false)
+          → Dec (s ≡ 0)
+          → (sized ≡ true) ⊎ (sized ≡ false)
+          → (are_metrics n m ≡ true) ⊎ (are_metrics n m ≡ false)
+          → Ready n m
+      by_tests (inr a) b c d = never 2 (part_count a)
+      by_tests (inl a) (yes b) c d = never 35 (part_untimed a b)
+      by_tests (inl a) (no b) (inr c) d = never 7 (part_tables a b c)
+      by_tests (inl a) (no b) (inl c) (inr d) = never 5 (part_metrics a b c d)
+      by_tests (inl a) (no b) (inl c) (inl d) = area_ready n m (area_metrics n m a (table_true m (size c)) ∙ d)
+
+pub ruleset judged_area = (
+  part_count,
+  part_untimed,
+  part_tables,
+  part_metrics,
+  part_passed,
+  area_metrics,
+  router_count_true,
+  router_count_low,
+  router_count_high,
+  table_true,
+  common_steps,
+)

@@ -1,11 +1,15 @@
 -- What the parts of Plan promise to each other; no other crate reads it.
---     Judges, JudgesPlan   what is found of an input before it is planned (src/judging.rt)
+--     is_rising, Finds        what is found of an input before it is planned (src/judging.rt)
+--     area_refusal, length_refusal, direction_refusal      and the parts of the answer
 --     are_listed_at_most      what is found of which way the metrics go (src/direction.rt)
 --     RowCopied            a row of the old metrics, copied into the new table (src/metrics.rt)
 --     started              the record of a plan, by the order of its change and what is due (`fresh` of src/lib.rt)
-use Rattle.std.specs.Prelude.{ℕ, ◌≤◌, ◌<◌, ◌≡◌, Bool, ◌≢◌, List, leb, length}
-use Rattle.area.specs.Limits.{width, unused}
-use Rattle.area.specs.Refusals.{verdict_number}
+use Rattle.std.specs.Prelude.{ℕ, ◌%◌, ◌≤◌, ◌<◌, ◌≡◌, Bool, true, false, not, ◌||◌, ◌≢◌, List, leb, ltb, eqb, length}
+use Rattle.area.specs.Limits.{width, unused, most_changes}
+use Rattle.area.specs.Refusals.{router_count, table_size, bad_metric, incomplete, too_many}
+use Rattle.area.specs.Refusals.{no_change, same_metric, mixed, no_step_time}
+use Rattle.area.specs.Sizes.{is_router_count}
+use Rattle.paths.specs.Paths.{are_metrics}
 use Rattle.area.specs.Tests.{pick, all}
 use Rattle.area.specs.Tables.{cell}
 use Rattle.entries.specs.Entries.{entry_count, from, to}
@@ -14,21 +18,42 @@ use Rattle.order.specs.declared.Order.{Order}
 use Rattle.changes.specs.Root.{root}
 use Rattle.plan.specs.declared.Record.{Record}
 use Rattle.plan.specs.declared.judging.Judged.{Judged}
-use Rattle.plan.specs.Direction.{is_rise}
-use Rattle.plan.specs.Plan.{change_refusal, plan_refusal, zeros}
+use Rattle.plan.specs.declared.direction.Direction.{Direction}
+use Rattle.plan.specs.declared.direction.Direction.TheVariants.{Rise, Fall}
+use Rattle.plan.specs.Direction.{is_same, is_rise, is_fall}
+use Rattle.plan.specs.Plan.{zeros}
 
--- r has `refusal` as its number, and where that is 0 the root of the change list l and whether the metrics rise
-abbrev pub Found : (n : ℕ) (m l : List ℕ) (refusal : ℕ) (r : Judged) → Type 0
-Found n m l refusal r =
-    (verdict_number r.answer ≡ refusal)
-    × (refusal ≡ 0 → (r.root ≡ root l) × (r.rising ≡ is_rise n m l))
+-- the direction is a rise
+abbrev pub is_rising : (d : Direction) → Bool
+is_rising Rise = true
+is_rising Fall = false
 
--- what is found of a change, and of all that Plan takes
-abbrev pub Judges : (n : ℕ) (m l : List ℕ) (sized : Bool) (r : Judged) → Type 0
-Judges n m l sized r = Found n m l (change_refusal n m l sized) r
+-- the root of the change list l, and whether the metrics rise
+abbrev pub Finds : (n : ℕ) (m l : List ℕ) (j : Judged) → Type 0
+Finds n m l j = (j.root ≡ root l) × (is_rising j.direction ≡ is_rise n m l)
 
-abbrev pub JudgesPlan : (n s : ℕ) (m l : List ℕ) (sized : Bool) (r : Judged) → Type 0
-JudgesPlan n s m l sized r = Found n m l (plan_refusal n s m l sized) r
+-- The parts of Plan's answer: the first refusal of the area, with its step time and the sizes of the tables; that of
+-- the length of the change list; and that of which way the metrics go. 0 where there is none.
+unfoldable pub area_refusal : (n s : ℕ) (m : List ℕ) (sized : Bool) → ℕ
+area_refusal n s m sized =
+    pick (not (is_router_count n)) router_count
+    (pick (eqb s 0) no_step_time
+    (pick (not sized) table_size
+    (pick (not (are_metrics n m)) bad_metric
+    0)))
+
+unfoldable pub length_refusal : (l : List ℕ) → ℕ
+length_refusal l =
+    pick (not (eqb (length l % 5) 0)) incomplete
+    (pick (ltb most_changes (entry_count l)) too_many
+    (pick (eqb (entry_count l) 0) no_change
+    0))
+
+unfoldable pub direction_refusal : (n : ℕ) (m l : List ℕ) → ℕ
+direction_refusal n m l =
+    pick (is_same n m l) same_metric
+    (pick (not (is_rise n m l || is_fall n m l)) mixed
+    0)
 
 -- n routers with the times h and s, the root c, the direction and order of the change and what is due: every router
 -- idle, with nothing written and nothing learned

@@ -8,11 +8,13 @@ use Rattle.area.specs.Refusals.{no_change, same_metric, mixed, no_common_router,
 use Rattle.area.specs.Tests.{pick, or_then, first}
 use Rattle.area.specs.Tables.{per_router}
 use Rattle.area.specs.Sizes.{is_router_count, is_table}
-use Rattle.paths.specs.Paths.{PathTables, paths_in, are_paths, are_metrics, filled_paths}
+use Rattle.paths.specs.declared.Topology.{Topology}
+use Rattle.paths.specs.Paths.{PathTables, paths_in, held, are_paths, are_metrics, filled_paths}
 use Rattle.ranks.specs.Rank.{rank}
 use Rattle.entries.specs.Entries.{entry_count, listed_refusal}
 use Rattle.changes.specs.Root.{is_common, root}
 use Rattle.plan.specs.declared.Record.{Record}
+use Rattle.plan.specs.declared.Change.{Change}
 use Rattle.plan.specs.NewMetrics.{new_metrics}
 use Rattle.plan.specs.Direction.{is_same, is_rise, is_fall}
 use Rattle.plan.specs.Waiting.{waiting, telling, due}
@@ -27,6 +29,10 @@ pub record Tables : Type 0 where
 abbrev pub tables_in :
     (metrics old_distances old_hops old_fours new_distances new_hops new_fours : List ℕ) → Tables
 tables_in m od oh of nd nh nf = record { metrics = m; old = paths_in od oh of; new = paths_in nd nh nf }
+
+-- what they hold, where the tables of each topology are lent together
+abbrev pub tables_held : (metrics : List ℕ) (old new : Topology) → Tables
+tables_held m o n = record { metrics = m; old = held o; new = held n }
 
 -- the old metric table and each of those have the right size
 unfoldable pub are_tables : (m : List ℕ) (t : Tables) → Bool
@@ -117,3 +123,13 @@ record_of n h s m l t = pick (is_planned n s m l t) (fresh n h s m l) blank
 
 unfoldable pub tables_of : (n s : ℕ) (m l : List ℕ) (t : Tables) → Tables
 tables_of n s m l t = pick (is_planned n s m l t) (filled n m l) t
+
+-- the same by the struct that Plan takes
+abbrev pub refusal_of : (c : Change) (t : Tables) → ℕ
+refusal_of c t = plan_refusal c.n c.step_time c.metrics.now c.list.now (are_tables c.metrics.now t)
+
+abbrev pub record_by : (c : Change) (t : Tables) → Record
+record_by c t = record_of c.n c.hold_time c.step_time c.metrics.now c.list.now t
+
+abbrev pub tables_by : (c : Change) (t : Tables) → Tables
+tables_by c t = tables_of c.n c.step_time c.metrics.now c.list.now t

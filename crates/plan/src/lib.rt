@@ -15,23 +15,24 @@ mod direction;
 mod judging;
 mod metrics;
 
-ghost use Rattle.std.specs.Prelude.{◌≡◌, ◌≤◌, ◌<◌};
+ghost use Rattle.std.specs.Prelude.{◌≡◌, ◌≤◌, ◌<◌, IfOk};
 ghost use Rattle.area.specs.Limits.{width};
 ghost use Rattle.area.specs.Refusals.{verdict_number};
 ghost use Rattle.order.specs.Order.{order_of, due_table};
-ghost use Rattle.changes.specs.Root.{root};
-ghost use Rattle.plan.specs.Direction.{is_rise};
-ghost use Rattle.plan.specs.Plan.{tables_in, are_tables, plan_refusal, fresh, blank, filled, record_of, tables_of};
+ghost use Rattle.paths.specs.Paths.{AreSame};
+ghost use Rattle.plan.specs.Plan.{tables_held, are_tables, fresh, blank, filled, refusal_of, record_by, tables_by};
 ghost use Rattle.plan.specs.Planned.{Plan, Sized};
-ghost use Rattle.plan.specs.Parts.{started};
+ghost use Rattle.plan.specs.Parts.{Finds, is_rising, started};
 
 use area::limits::{CELLS, Set, WIDTH};
-use area::refusal::Verdict;
-use judging::judge;
-use order::{due_table, order_of};
-use paths::{are_paths, paths};
+use area::refusal::Refusal;
+use direction::Direction;
+use judging::{Judged, judge};
+use order::{Order, due_table, order_of};
+use paths::{Topology, paths};
 
-// A plan's record. Entry r of a table per router belongs to router r, and is 0 from n on.
+// A plan's record. Entry r of a table per router belongs to router r, and is 0 from n on. Direction and states are
+// numbers, as 01 and C have them.
 #[derive(Clone, Copy)]
 pub struct Record {
     pub n: u8,
@@ -53,161 +54,92 @@ pub struct Record {
     pub learn_times: [u32; WIDTH],
 }
 
-// What Plan hands back: the answer, with the record.
+// A change to an area: n routers, the hold time and the step time of the rank timers, the metrics before the change,
+// and the change list.
 #[derive(Clone, Copy)]
-pub struct Planned {
-    pub answer: Verdict,
-    pub record: Record,
+pub struct Change<'a> {
+    pub n: usize,
+    pub hold_time: u16,
+    pub step_time: u16,
+    pub metrics: &'a [u32],
+    pub list: &'a [u8],
 }
 
 // Plan: the record of a change, with the new metrics and both topologies' distances, next hops and sets of four, or a
 // refusal that writes no cell.
 pub fn plan(
-    n: usize,
-    hold_time: u16,
-    step_time: u16,
-    old: &[u32],
-    list: &[u8],
-    new: &mut [u32],
-    old_dist: &mut [u32],
-    old_hops: &mut [Set],
-    old_fours: &mut [Set],
-    new_dist: &mut [u32],
-    new_hops: &mut [Set],
-    new_fours: &mut [Set],
-) -> Planned
-    ensures answer { let lent = tables_in new.old
-        old_dist.old old_hops.old old_fours.old
-        new_dist.old new_hops.old new_fours.old in
-        verdict_number result.answer
-        ≡ plan_refusal n step_time old.now list.now (are_tables old.now lent) }
-    ensures record { let lent = tables_in new.old
-        old_dist.old old_hops.old old_fours.old
-        new_dist.old new_hops.old new_fours.old in
-        result.record ≡ record_of n hold_time step_time old.now list.now lent }
-    ensures tables { let lent = tables_in new.old
-        old_dist.old old_hops.old old_fours.old
-        new_dist.old new_hops.old new_fours.old in
-        let left = tables_in new.new
-        old_dist.new old_hops.new old_fours.new
-        new_dist.new new_hops.new new_fours.new in
-        left ≡ tables_of n step_time old.now list.now lent }
+    change: Change<'_>,
+    metrics: &mut [u32],
+    old: &mut Topology<'_>,
+    new: &mut Topology<'_>,
+) -> Result<Record, Refusal>
+    ensures answer { let lent = tables_held metrics.old old.old new.old in
+        verdict_number result ≡ refusal_of change.entry lent }
+    ensures plan { let lent = tables_held metrics.old old.old new.old in
+        IfOk result (λ x. x ≡ record_by change.entry lent) }
+    ensures tables { let lent = tables_held metrics.old old.old new.old in
+        let left = tables_held metrics.new old.new new.new in
+        left ≡ tables_by change.entry lent }
+    ensures same { AreSame old.old old.new × AreSame new.old new.new }
 {
-    let sized = are_tables(
-        old, new, old_dist, old_hops, old_fours, new_dist, new_hops, new_fours,
-    );
-    let judged = judge(n, step_time, old, list, sized);
-    let answer = judged.answer;
-    if !answer.is_accepted() {
-        return Planned {
-            answer,
-            record: blank(),
-        };
-    }
-    let root = judged.root;
-    let rising = judged.rising;
-    let record = fill(
-        n, hold_time, step_time, old, list, root, rising, new, old_dist, old_hops, old_fours,
-        new_dist, new_hops, new_fours,
-    );
-    Planned { answer, record }
+    let sized = are_tables(change.metrics, metrics, old, new);
+    let judged = judge(change, sized)?;
+    Ok(fill(change, judged, metrics, old, new))
 }
 
-// The tables and the record of an input that is planned, with the root c.
+// The tables and the record of an input that is planned.
 fn fill(
-    n: usize,
-    hold_time: u16,
-    step_time: u16,
-    old: &[u32],
-    list: &[u8],
-    c: usize,
-    rising: bool,
-    new: &mut [u32],
-    old_dist: &mut [u32],
-    old_hops: &mut [Set],
-    old_fours: &mut [Set],
-    new_dist: &mut [u32],
-    new_hops: &mut [Set],
-    new_fours: &mut [Set],
+    change: Change<'_>,
+    judged: Judged,
+    metrics: &mut [u32],
+    old: &mut Topology<'_>,
+    new: &mut Topology<'_>,
 ) -> Record
-    requires plan { Plan n old.now list.now }
-    requires c_value { (c ≡ root list.now) × (rising ≡ is_rise n old.now list.now) }
-    requires sized { let lent = tables_in new.old
-        old_dist.old old_hops.old old_fours.old
-        new_dist.old new_hops.old new_fours.old in
-        Sized old.now lent }
-    ensures value { result ≡ fresh n hold_time step_time old.now list.now }
-    ensures left_value { let left = tables_in new.new
-        old_dist.new old_hops.new old_fours.new
-        new_dist.new new_hops.new new_fours.new in
-        left ≡ filled n old.now list.now }
+    requires plan { Plan change.n change.metrics.now change.list.now }
+    requires judged { Finds change.n change.metrics.now change.list.now judged }
+    requires sized { let lent = tables_held metrics.old old.old new.old in
+        Sized change.metrics.now lent }
+    ensures value { result ≡ fresh change.entry.n change.entry.hold_time change.entry.step_time
+        change.entry.metrics.now change.entry.list.now }
+    ensures left_value { let left = tables_held metrics.new old.new new.new in
+        left ≡ filled change.entry.n change.entry.metrics.now change.entry.list.now }
+    ensures same { AreSame old.old old.new × AreSame new.old new.new }
 {
-    topologies(
-        n, old, list, new, old_dist, old_hops, old_fours, new_dist, new_hops, new_fours,
-    );
-    fresh(
-        n, hold_time, step_time, c, rising, old_hops, old_fours, new_hops, new_fours,
-    )
+    topologies(change, metrics, old, new);
+    fresh(change, judged, old, new)
 }
 
 // The new metrics, and the tables of both topologies.
 fn topologies(
-    n: usize,
-    old: &[u32],
-    list: &[u8],
-    new: &mut [u32],
-    old_dist: &mut [u32],
-    old_hops: &mut [Set],
-    old_fours: &mut [Set],
-    new_dist: &mut [u32],
-    new_hops: &mut [Set],
-    new_fours: &mut [Set],
+    change: Change<'_>,
+    metrics: &mut [u32],
+    old: &mut Topology<'_>,
+    new: &mut Topology<'_>,
 )
-    requires plan { Plan n old.now list.now }
-    requires sized { let lent = tables_in new.old
-        old_dist.old old_hops.old old_fours.old
-        new_dist.old new_hops.old new_fours.old in
-        Sized old.now lent }
-    ensures { let left = tables_in new.new
-        old_dist.new old_hops.new old_fours.new
-        new_dist.new new_hops.new new_fours.new in
-        left ≡ filled n old.now list.now }
+    requires plan { Plan change.n change.metrics.now change.list.now }
+    requires sized { let lent = tables_held metrics.old old.old new.old in
+        Sized change.metrics.now lent }
+    ensures left_value { let left = tables_held metrics.new old.new new.new in
+        left ≡ filled change.entry.n change.entry.metrics.now change.entry.list.now }
+    ensures same { AreSame old.old old.new × AreSame new.old new.new }
 {
-    metrics::apply(n, old, list, new);
+    metrics::apply(change.n, change.metrics, change.list, metrics);
     // What was judged is what Paths asks for, so it refuses neither topology.
-    paths(n, old, old_dist, old_hops, old_fours);
-    paths(n, new, new_dist, new_hops, new_fours);
+    let _ = paths(change.n, change.metrics, old);
+    let _ = paths(change.n, metrics, new);
 }
 
 // Has every table the right size?
-fn are_tables(
-    old: &[u32],
-    new: &[u32],
-    old_dist: &[u32],
-    old_hops: &[Set],
-    old_fours: &[Set],
-    new_dist: &[u32],
-    new_hops: &[Set],
-    new_fours: &[Set],
-) -> bool
-    ensures { let lent = tables_in new.now
-        old_dist.now old_hops.now old_fours.now
-        new_dist.now new_hops.now new_fours.now in
-        result ≡ are_tables old.now lent }
+#[tactic(auto, using(area::proofs::SizeLaws::table_is), unfolding(crate::specs::Plan::are_tables))]
+fn are_tables(before: &[u32], after: &[u32], old: &Topology<'_>, new: &Topology<'_>) -> bool
+    ensures { let lent = tables_held after.now old.now new.now in
+        result ≡ are_tables before.now lent }
 {
-    if old.len() != CELLS {
-        return false;
-    }
-    if new.len() != CELLS {
-        return false;
-    }
-    if !are_paths(old_dist, old_hops, old_fours) {
-        return false;
-    }
-    are_paths(new_dist, new_hops, new_fours)
+    before.len() == CELLS && after.len() == CELLS && old.are_sized() && new.are_sized()
 }
 
 // The record of a plan that was refused: all zeros.
+#[tactic(auto, unfolding(crate::specs::Plan::blank))]
 pub fn blank() -> Record
     ensures zeros { result ≡ blank }
 {
@@ -230,35 +162,32 @@ pub fn blank() -> Record
 
 // The record of a plan that was accepted, before the first step: full sets decide who waits for whom, and sets of four
 // what is due.
-fn fresh(
-    n: usize,
-    hold_time: u16,
-    step_time: u16,
-    root: usize,
-    rising: bool,
-    old_hops: &[Set],
-    old_fours: &[Set],
-    new_hops: &[Set],
-    new_fours: &[Set],
-) -> Record
-    requires { (n ≤ width) × (root < width) }
-    ensures { result ≡ started n hold_time step_time root rising
-        (order_of n root rising old_hops.now new_hops.now)
-        (due_table n old_fours.now new_fours.now) }
+fn fresh(change: Change<'_>, judged: Judged, old: &Topology<'_>, new: &Topology<'_>) -> Record
+    requires { (change.n ≤ width) × (judged.root < width) }
+    ensures { let rising = is_rising judged.direction in
+        result ≡ started change.entry.n change.entry.hold_time change.entry.step_time judged.root rising
+        (order_of change.entry.n judged.root rising old.now.hops.now new.now.hops.now)
+        (due_table change.entry.n old.now.fours.now new.now.fours.now) }
 {
-    let order = order_of(n, root, rising, old_hops, new_hops);
+    let rising = judged.direction == Direction::Rise;
+    let Order {
+        ranks,
+        waiting,
+        telling,
+    } = order_of(change.n, judged.root, rising, old.hops, new.hops);
+    let due = due_table(change.n, old.fours, new.fours);
     Record {
-        n: n as u8,
-        root: root as u8,
-        direction: if rising { 1 } else { 2 },
-        ranks: order.ranks,
-        waiting: order.waiting,
-        telling: order.telling,
-        due: due_table(n, old_fours, new_fours),
+        n: change.n as u8,
+        root: judged.root as u8,
+        direction: judged.direction as u8,
+        ranks,
+        waiting,
+        telling,
+        due,
         states: [0; WIDTH],
         written: [0; WIDTH],
-        hold_time,
-        step_time,
+        hold_time: change.hold_time,
+        step_time: change.step_time,
         clock: 0,
         learn_times: [0; WIDTH],
     }

@@ -1,5 +1,5 @@
 // The metric table after the change.
-ghost use Rattle.std.specs.Prelude.{◌≡◌, [], ◌≤◌, ◌<◌, ◌*◌, length};
+ghost use Rattle.std.specs.Prelude.{◌≡◌, ℕ, [], ◌≤◌, ◌<◌, ◌*◌, length, get_or};
 ghost use Rattle.area.specs.Limits.{width};
 ghost use Rattle.area.specs.Tables.{tabulate};
 ghost use Rattle.changes.specs.Sound.{Sound};
@@ -8,20 +8,19 @@ ghost use Rattle.plan.specs.Parts.{RowCopied};
 
 use area::limits::{UNUSED, WIDTH};
 use area::metrics::clear;
-use entries::{count, decode};
+use entries::Entries;
 
-// The new metrics: the old ones, with every change put in.
+// The new metrics: the old ones, with every change put in. The list is of bytes, of which a metric has three: so the
+// new ones are such as Paths takes.
 pub(crate) fn apply(n: usize, old: &[u32], list: &[u8], new: &mut [u32])
     requires n_le_width { (n ≤ width) × (length old.now ≡ width * width) × (length new.old ≡ width * width) }
     requires sound { Sound n list.now }
-    ensures { new.new ≡ new_metrics n old.now list.now }
+    ensures cells { new.new ≡ new_metrics n old.now list.now }
+    ensures bytes { (k : ℕ) → get_or list.now k 0 < 256 }
 {
     copy(n, old, new);
-    for e in 0..count(list) {
-        let change = decode(list, e);
-        let from = change.from;
-        let to = change.to;
-        new[WIDTH * from + to] = change.metric;
+    for change in Entries::of(list) {
+        new[WIDTH * change.from + change.to] = change.metric;
     }
 }
 
@@ -31,6 +30,7 @@ fn copy(n: usize, old: &[u32], new: &mut [u32])
     ensures { new.new ≡ tabulate width (new_cell n old.now []) }
 {
     clear(new);
+    // Rows by their numbers: of rows that an iterator has lent, a proof knows no cell afterwards.
     for i in 0..n {
         copy_row(n, old, i, new);
     }
@@ -43,8 +43,7 @@ fn copy_row(n: usize, old: &[u32], i: usize, new: &mut [u32])
     ensures { RowCopied n old.now i new.old new.new }
 {
     let start = WIDTH * i;
-    for k in start..start + n {
-        new[k] = old[k];
-    }
+    let end = start + n;
+    new[start..end].copy_from_slice(&old[start..end]);
     new[start + i] = UNUSED;
 }

@@ -3,111 +3,53 @@ ghost use Rattle.std.specs.Prelude.{◌*◌, ◌+◌, ◌≤◌};
 ghost use Rattle.area.specs.Limits.{most_changes};
 
 use crate::show;
-use area::limits::Set;
+use cases::tables::ChangeTables;
 use cases::{LONG_LIST, LONG_TABLE, lists, metrics, read};
-use plan::Planned;
-
-// What the tables hold before a call: numbers that no call writes.
-pub const NEW: u32 = 777777771;
-
-pub const OLD_DISTANCE: u32 = 777777772;
-
-pub const OLD_SET: Set = 8888888888888888884;
-
-pub const OLD_FOUR: Set = 8888888888888888885;
-
-pub const NEW_DISTANCE: u32 = 777777773;
-
-pub const NEW_SET: Set = 8888888888888888886;
-
-pub const NEW_FOUR: Set = 8888888888888888887;
+use plan::Change;
 
 // The old table and the change list of a case. Every byte that is not of a change is 255, so that an entry there has a
 // router that is unknown.
 pub fn run(rt: &HostRuntime, case: &[u8]) {
-    let mut old = [0; LONG_TABLE];
+    let mut table = [0; LONG_TABLE];
     let mut list = [255; LONG_LIST];
-    metrics::fill(&mut old, case);
+    metrics::fill(&mut table, case);
     let bytes = lists::fill(&mut list, case);
-    plan(rt, case, &old, &list, bytes);
+    parts(rt, case, &table, &list, bytes);
 }
 
-fn plan(
+fn parts(
     rt: &HostRuntime,
     case: &[u8],
-    old: &[u32; LONG_TABLE],
+    table: &[u32; LONG_TABLE],
     list: &[u8; LONG_LIST],
     bytes: usize,
 )
     requires { bytes ≤ 5 * (most_changes + 2) }
 {
-    let table = &old[..];
+    let all = &table[..];
     let changes = &list[..];
-    let cells = read::size(case, 0, table.len());
-    lend(rt, case, &table[0..cells], &changes[0..bytes]);
-}
-
-// A call with tables of which some cells are lent.
-fn lend(rt: &HostRuntime, case: &[u8], old: &[u32], list: &[u8]) {
-    let mut new = [NEW; LONG_TABLE];
-    let mut old_dist = [OLD_DISTANCE; LONG_TABLE];
-    let mut old_hops = [OLD_SET; LONG_TABLE];
-    let mut old_fours = [OLD_FOUR; LONG_TABLE];
-    let mut new_dist = [NEW_DISTANCE; LONG_TABLE];
-    let mut new_hops = [NEW_SET; LONG_TABLE];
-    let mut new_fours = [NEW_FOUR; LONG_TABLE];
-    let n = read::value(case, b'n', 0) as usize;
-    let p = first_cells(
-        case,
-        n,
-        old,
-        list,
-        &mut new,
-        &mut old_dist,
-        &mut old_hops,
-        &mut old_fours,
-        &mut new_dist,
-        &mut new_hops,
-        &mut new_fours,
-    );
-    show::planned(
-        rt, n, p, &new, &old_dist, &old_hops, &old_fours, &new_dist, &new_hops, &new_fours,
-    );
+    let cells = read::size(case, 0, all.len());
+    let change = Change {
+        n: read::value(case, b'n', 0) as usize,
+        hold_time: read::time(case, b'h', 0),
+        step_time: read::time(case, b'm', 1),
+        metrics: &all[..cells],
+        list: &changes[..bytes],
+    };
+    call(rt, case, change);
 }
 
 // Lends the first cells of longer tables, so that a table can be one cell too short or too long.
-fn first_cells(
-    case: &[u8],
-    n: usize,
-    old: &[u32],
-    list: &[u8],
-    new: &mut [u32],
-    old_dist: &mut [u32],
-    old_hops: &mut [Set],
-    old_fours: &mut [Set],
-    new_dist: &mut [u32],
-    new_hops: &mut [Set],
-    new_fours: &mut [Set],
-) -> Planned {
-    let a = read::size(case, 1, new.len());
-    let b = read::size(case, 2, old_dist.len());
-    let c = read::size(case, 3, old_hops.len());
-    let d = read::size(case, 4, old_fours.len());
-    let e = read::size(case, 5, new_dist.len());
-    let f = read::size(case, 6, new_hops.len());
-    let g = read::size(case, 7, new_fours.len());
-    plan::plan(
-        n,
-        read::time(case, b'h', 0),
-        read::time(case, b'm', 1),
-        old,
-        list,
-        &mut new[0..a],
-        &mut old_dist[0..b],
-        &mut old_hops[0..c],
-        &mut old_fours[0..d],
-        &mut new_dist[0..e],
-        &mut new_hops[0..f],
-        &mut new_fours[0..g],
-    )
+fn call(rt: &HostRuntime, case: &[u8], change: Change<'_>) {
+    let mut tables = ChangeTables::untouched();
+    let cells = read::size(case, 1, LONG_TABLE);
+    let mut before = tables.before.lend(case, [2, 3, 4]);
+    let mut after = tables.after.lend(case, [5, 6, 7]);
+    let planned = plan::plan(
+        change,
+        &mut tables.metrics[..cells],
+        &mut before,
+        &mut after,
+    );
+    show::planned(rt, change.n, planned, &tables);
 }

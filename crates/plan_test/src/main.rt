@@ -1,7 +1,7 @@
 // Runs Plan on the cases of standard input, and prints what it answers. The first lines of stdin say what a case is.
-//     run      the lines of the input: of a case its name is printed, and then it is called
+//     main     the cases of the input: the name of each is printed, and then it is called
 //     call     the call that the words of a case say
-//     show     what is shown of it: the verdict and the record, and what became of the tables
+//     show     what is shown of it: the answer and the record, and what became of the tables
 //     fresh    the routers of the record
 #![tactic(auto)]
 
@@ -9,23 +9,12 @@ mod call;
 mod fresh;
 mod show;
 
-use cases::{input, lines, print};
+use cases::{lines, print};
 
 fn main(rt: HostRuntime) {
     let mut text = [0u8; 32768];
-    let length = input::standard(&rt, &mut text);
-    run(&rt, &text[..length]);
-}
-
-fn run(rt: &HostRuntime, text: &[u8]) {
-    for at in 0..text.len() {
-        case(rt, lines::line(text, at));
-    }
-}
-
-fn case(rt: &HostRuntime, line: &[u8]) {
-    if lines::is_case(line) {
-        print::text(rt, lines::name(line));
-        call::run(rt, lines::words(line));
-    }
+    lines::each_case(&rt, &mut text, |name, words| {
+        print::text(&rt, name);
+        call::run(&rt, words);
+    });
 }

@@ -1,37 +1,34 @@
 -- Laws of what a bench file gives before its first step.
 --     read_passed, file_of_lem, plan_passed                Read, the file and its plan, where nothing is refused
 --     record_passed, tables_passed                     what is handed back and left then
---     changes_within                                   the changes lie in the file, also where Read refuses
---     refusal_given, record_given, tables_given        Read, and then Plan on what Read gives
+--     changes_within                                   the changes lie in the file
+--     refusal_read, tables_read                        where Read refuses, and nothing is planned
+--     refusal_given, record_given, tables_given        Plan on what Read gives
 --     first_all, refusal_first                         the first bytes, one more than the largest file has, decide
--- Plan gets what Read hands back, whether that refused or not. Where it did not, these are the file's own n, metrics
--- and changes, and so Plan's answer is the definition's. Where it did, n is 0: Plan refuses too (then_refused), so that
--- its record is blank and its tables are as they were, as the definition says.
-use Rattle.std.specs.Prelude.{ℕ, ◌+◌, ◌*◌, ◌≤◌, ◌<◌, ◌≡◌, true, ◌≢◌, List, length, take}
+-- Plan gets what Read hands back: the file's own n, times, metrics and changes. So Plan's answer is the definition's.
+use Rattle.std.specs.Prelude.{ℕ, ◌+◌, ◌*◌, ◌≤◌, ◌<◌, ◌≡◌, ◌≢◌, List, length, take}
 use Rattle.std.proofs.Math.Path.{refl, sym, ap}
-use Rattle.std.proofs.Common.{ap₂, ◌∙◌, arith, eq-eqb, ne_eqb, take_all}
+use Rattle.std.proofs.Common.{◌∙◌, arith, eq-eqb, ne_eqb, take_all}
 use Rattle.std.proofs.Math.Decide.{ℕ_discrete}
-use Rattle.area.specs.Tests.{or_then}
+use Rattle.area.proofs.RefusalLaws.{refusal_positive}
 use Rattle.area.proofs.TestLaws.{then_some, then_none, then_both}
-use Rattle.area.proofs.SizeLaws.{router_count_low}
-use Rattle.plan.specs.declared.Record.{Record}
-use Rattle.plan.specs.Plan.{Tables, are_tables, plan_refusal, is_planned, blank, record_of, tables_of as fills}
+use Rattle.plan.specs.Plan.{Tables, are_tables, plan_refusal, blank, record_of, tables_of as fills}
 use Rattle.plan.specs.Planned.{Plan}
-use Rattle.plan.proofs.PlanLaws.{plan_of, plan_count, planned_true, planned_false}
+use Rattle.plan.proofs.PlanLaws.{plan_of, planned_true, planned_false}
 use Rattle.plan.proofs.PlanLaws.{record_planned, record_refused, tables_planned, tables_refused}
 use Rattle.bench_file.specs.Sections.{routers, change_count, changes_at, changes, hold_time, step_time, largest}
 use Rattle.bench_file.specs.declared.Format.TheVariants.{New}
 use Rattle.bench_file.proofs.FaultLaws.{Accepted}
 use Rattle.bench_file.specs.declared.Contents.{Contents}
 use Rattle.bench_file.specs.Read.{read_refusal, contents, contents_of, metrics_of}
-use Rattle.bench_file.proofs.ReadLaws.{contents_accepted, contents_refused, metrics_accepted}
+use Rattle.bench_file.proofs.ReadLaws.{contents_accepted, metrics_accepted}
 use Rattle.bench_file.proofs.FileLaws.{table_sized, file_passed, file_accepted}
-use Rattle.bench_file.proofs.FileLaws.{contents_n, contents_changes, contents_times, no_contents_n, no_contents_changes}
+use Rattle.bench_file.proofs.FileLaws.{contents_n, contents_changes, contents_times}
 use Rattle.bench_file.proofs.FileLaws.{file_largest, first_bytes}
 use Rattle.prepare.specs.Bench.{metrics, refusal, planned, filled_tables, record_at, tables_at, listed}
 
 module _ (f m : List ℕ) where
-  -- ---- where Read refuses nothing, and where it refuses
+  -- ---- where Read refuses nothing
   module _ (z : read_refusal f m ≡ 0) where
     of_file : contents_of f m ≡ contents New f
     of_file = contents_accepted f m z
@@ -57,21 +54,8 @@ module _ (f m : List ℕ) where
     old_is : metrics_of f m ≡ metrics f
     old_is = metrics_accepted New f m (table_sized f m z) (file_passed f m z)
 
-  refused_n : read_refusal f m ≢ 0 → (contents_of f m).n ≡ 0
-  refused_n g = ap (λ (x : Contents). x.n) (contents_refused f m g) ∙ no_contents_n
-
-  abbrev Within : (c : Contents) → Type 0
-  Within c = c.changes.at + 5 * c.changes.count ≤ length f
-
-  pub changes_within : (c : Contents) → c ≡ contents_of f m → Within c
-  changes_within c is = rw is (go (ℕ_discrete (read_refusal f m) 0))
-    where
-      go : Dec (read_refusal f m ≡ 0) → Within (contents_of f m)
-      go (yes z) = omega (arith, starts z, counted z, (file_accepted f m z).size)
-      go (no g) =
-          let at = ap (λ (x : Contents). x.changes.at) (contents_refused f m g) in
-          let count = ap (λ (x : Contents). x.changes.count) (contents_refused f m g) in
-          omega (arith, at, count, no_contents_changes.0, no_contents_changes.1)
+    pub changes_within : (c : Contents) → c ≡ contents_of f m → c.changes.at + 5 * c.changes.count ≤ length f
+    changes_within c is = rw is (omega (arith, starts, counted, (file_accepted f m z).size))
 
   module _ (t : Tables) where
     -- ---- where nothing is refused
@@ -105,107 +89,82 @@ module _ (f m : List ℕ) where
       unfolding record_at
       record_blank = rw (ne_eqb (refusal f m t) 0 g) refl
 
-      tables_kept : tables_at f m t ≡ t
+      pub tables_kept : tables_at f m t ≡ t
       unfolding tables_at
       tables_kept = rw (ne_eqb (refusal f m t) 0 g) refl
 
-    -- ---- Read, and then Plan on what Read gives
-    -- its n, its times, its list, and Plan's refusal
-    abbrev n : ℕ
-    n = (contents_of f m).n
+    -- Read's refusal is the refusal, and its tables are as they were
+    module _ (g : read_refusal f m ≢ 0) where
+      pub refusal_read : refusal f m t ≡ read_refusal f m
+      unfolding refusal
+      refusal_read = then_some (read_refusal f m) _ g
 
-    abbrev hold : ℕ
-    hold = (contents_of f m).hold_time
+      pub tables_read : tables_at f m t ≡ t
+      tables_read = tables_kept (λ z. g (sym refusal_read ∙ z))
 
-    abbrev step : ℕ
-    step = (contents_of f m).step_time
-
-    abbrev list : List ℕ
-    list = listed f (contents_of f m)
-
-    abbrev then : ℕ
-    then = plan_refusal n step (metrics_of f m) list (are_tables (metrics_of f m) t)
-
-    then_is :
-        read_refusal f m ≡ 0
-        → then ≡ plan_refusal (routers f) (step_time New f) (metrics f) (changes f) (are_tables (metrics f) t)
-    then_is z = rw (n_is z, step_is z, old_is z, list_is z) refl
-
-    then_refused : read_refusal f m ≢ 0 → then ≢ 0
-    then_refused g e =
-        let none = router_count_low n (omega (arith, refused_n g)) in
-        let three = plan_count n step (metrics_of f m) list (are_tables (metrics_of f m) t) none in
-        omega (arith, three, e)
-
-    refusal_both : or_then (read_refusal f m) then ≡ refusal f m t
-    unfolding refusal
-    refusal_both = go (ℕ_discrete (read_refusal f m) 0)
-      where
-        go : Dec (read_refusal f m ≡ 0) → or_then (read_refusal f m) then ≡ refusal f m t
-        go (yes z) = ap (or_then (read_refusal f m)) (then_is z)
-        go (no g) = then_some (read_refusal f m) then g ∙ sym (then_some (read_refusal f m) _ g)
-
-    -- where the file is refused, Plan refuses what it is given
-    plan_refused : refusal f m t ≢ 0 → then ≢ 0
-    plan_refused g e = go (ℕ_discrete (read_refusal f m) 0)
-      where
-        go : Dec (read_refusal f m ≡ 0) → ⊥
-        go (yes z) = g (sym refusal_both ∙ then_none (read_refusal f m) then z ∙ e)
-        go (no h) = then_refused h e
-
-    planned_is : refusal f m t ≡ 0 → is_planned (routers f) (step_time New f) (metrics f) (changes f) t ≡ true
-    planned_is z = planned_true (routers f) (step_time New f) (metrics f) (changes f) t (both z).1
-
-    record_both : record_of n hold step (metrics_of f m) list t ≡ record_at f m t
-    record_both = go (ℕ_discrete (refusal f m t) 0)
-      where
-        go : Dec (refusal f m t ≡ 0) → record_of n hold step (metrics_of f m) list t ≡ record_at f m t
-        go (yes z) =
-            let read = read_passed z in
-            let fresh =
-            record_planned (routers f) (hold_time New f) (step_time New f) (metrics f) (changes f) t (planned_is z) in
-            rw (n_is read, hold_is read, step_is read, old_is read, list_is read) (fresh ∙ sym (record_passed z))
-        go (no g) = record_refused _ _ _ _ _ t (planned_false _ _ _ _ t (plan_refused g)) ∙ sym (record_blank g)
-
-    tables_both : fills n step (metrics_of f m) list t ≡ tables_at f m t
-    tables_both = go (ℕ_discrete (refusal f m t) 0)
-      where
-        go : Dec (refusal f m t ≡ 0) → fills n step (metrics_of f m) list t ≡ tables_at f m t
-        go (yes z) =
-            let read = read_passed z in
-            let new = tables_planned (routers f) (step_time New f) (metrics f) (changes f) t (planned_is z) in
-            rw (n_is read, step_is read, old_is read, list_is read) (new ∙ sym (tables_passed z))
-        go (no g) = tables_refused _ _ _ _ t (planned_false _ _ _ _ t (plan_refused g)) ∙ sym (tables_kept g)
-
-    -- c is what Read says of the file, old the table that it leaves, and l the list that Plan gets
+    -- ---- Read, and then Plan on what Read gives: c is what it says of the file, old the table that it leaves, and l
+    -- the list that Plan gets
     module _
+        (z : read_refusal f m ≡ 0)
         (c : Contents) (is : c ≡ contents_of f m)
         (old : List ℕ) (filled : old ≡ metrics_of f m)
         (l : List ℕ) (part : l ≡ listed f c)
       where
-        pub refusal_given :
-            {a b k : ℕ}
-            → a ≡ read_refusal f m
-            → b ≡ plan_refusal c.n c.step_time old l (are_tables old t)
-            → k ≡ or_then a b
-            → k ≡ refusal f m t
-        refusal_given u v w = w ∙ ap₂ or_then u (rw (part, filled, is) at v) ∙ refusal_both
+        list_of : l ≡ changes f
+        list_of = part ∙ ap (listed f) is ∙ list_is z
 
-        pub record_given :
-            {r : Record}
-            → r ≡ record_of c.n c.hold_time c.step_time old l t
-            → r ≡ record_at f m t
-        record_given u = (rw (part, filled, is) at u) ∙ record_both
+        old_of : old ≡ metrics f
+        old_of = filled ∙ old_is z
 
-        pub tables_given : {u : Tables} → u ≡ fills c.n c.step_time old l t → u ≡ tables_at f m t
-        tables_given u = (rw (part, filled, is) at u) ∙ tables_both
+        n_of : c.n ≡ routers f
+        n_of = ap (λ (x : Contents). x.n) is ∙ n_is z
+
+        hold_of : c.hold_time ≡ hold_time New f
+        hold_of = ap (λ (x : Contents). x.hold_time) is ∙ hold_is z
+
+        step_of : c.step_time ≡ step_time New f
+        step_of = ap (λ (x : Contents). x.step_time) is ∙ step_is z
+
+        pub refusal_given : plan_refusal c.n c.step_time old l (are_tables old t) ≡ refusal f m t
+        unfolding refusal
+        refusal_given = rw (n_of, step_of, old_of, list_of) (sym (then_none (read_refusal f m) _ z))
+
+        pub record_given : record_of c.n c.hold_time c.step_time old l t ≡ record_at f m t
+        record_given = go (ℕ_discrete (refusal f m t) 0)
+          where
+            go : Dec (refusal f m t ≡ 0) → record_of c.n c.hold_time c.step_time old l t ≡ record_at f m t
+            go (yes e) =
+                record_planned c.n c.hold_time c.step_time old l t
+                (planned_true c.n c.step_time old l t (refusal_given ∙ e))
+                ∙ rw (n_of, hold_of, step_of, old_of, list_of) (sym (record_passed e))
+            go (no g) =
+                record_refused _ _ _ _ _ t (planned_false _ _ _ _ t (λ e. g (sym refusal_given ∙ e)))
+                ∙ sym (record_blank g)
+
+        pub tables_given : fills c.n c.step_time old l t ≡ tables_at f m t
+        tables_given = go (ℕ_discrete (refusal f m t) 0)
+          where
+            go : Dec (refusal f m t ≡ 0) → fills c.n c.step_time old l t ≡ tables_at f m t
+            go (yes e) =
+                tables_planned c.n c.step_time old l t
+                (planned_true c.n c.step_time old l t (refusal_given ∙ e))
+                ∙ rw (n_of, old_of, list_of) (sym (tables_passed e))
+            go (no g) =
+                tables_refused _ _ _ _ t (planned_false _ _ _ _ t (λ e. g (sym refusal_given ∙ e)))
+                ∙ sym (tables_kept g)
+
+-- those by which `prepare` is proved
+pub ruleset planning = (
+  refusal_positive,
+  changes_within,
+  refusal_read,
+  tables_read,
+  refusal_given,
+  record_given,
+  tables_given,
+)
 
 -- ---- the first bytes of an input, more than the largest file has
--- where Read refuses, its number is the refusal
-refusal_read : (f m : List ℕ) (t : Tables) → read_refusal f m ≢ 0 → refusal f m t ≡ read_refusal f m
-unfolding refusal
-refusal_read f m t g = then_some (read_refusal f m) _ g
-
 module _ (f m : List ℕ) (t : Tables) where
   whole : read_refusal f m ≡ 0 → (k : ℕ) → largest < k → take k f ≡ f
   whole z k more = take_all k f (omega (arith, file_largest f m z))

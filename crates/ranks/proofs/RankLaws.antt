@@ -15,9 +15,11 @@
 -- `longest` has the links of some chain, and of chains with at most h links none has more: both by induction on h.
 -- Where waiting comes down in a measure, the routers of a chain are different, so they are at most n (pigeonhole), and
 -- h = n - 1 leaves no chain out.
-use Rattle.std.specs.Prelude.{ℕ, zero, suc, ◌+◌, ◌-◌, ◌≤◌, ◌<◌, max, ◌≡◌, Bool, true, false, ◌⊎◌, List, length, get_or, replicate}
+use Rattle.std.specs.Prelude.{ℕ, zero, suc, ◌+◌, ◌-◌, ◌≤◌, ◌<◌, max, ◌≡◌, Bool, true}
+use Rattle.std.specs.Prelude.{false, ◌⊎◌, List, length, get_or, replicate}
 use Rattle.std.proofs.Math.Path.{refl}
-use Rattle.std.proofs.Common.{sym, ap, ap₂, ◌∙◌, inl, inr, ⊎_elim, eq-or-lt_of_le, le_of_suc-le-suc, not-suc-le-zero, arith, add-one, le-leb}
+use Rattle.std.proofs.Common.{sym, ap, ap₂, ◌∙◌, inl, inr, ⊎_elim, eq-or-lt_of_le}
+use Rattle.std.proofs.Common.{le_of_suc-le-suc, not-suc-le-zero, arith, add-one, le-leb}
 use Rattle.std.proofs.Math.Decide.{dec_le}
 use Rattle.std.proofs.lemmas.Bool.{lt-leb}
 use Rattle.area.specs.Limits.{width}

@@ -1,86 +1,18 @@
 // Reads a bench file from standard input, and prints its rehearsal: a line for each router, a line for each step and an
 // end, or the refusal alone. What is printed is `rehearsal` of crates/report/specs/Report.antt, the whole of it, of the
-// whole input; this program lends the tables, and buffers that have room for both.
+// whole input: `Page` of crates/printing asks for buffers that have room for both.
 #![tactic(auto)]
 
-ghost use Rattle.std.specs.Prelude.{◌≡◌, List, ℕ, ◌<◌, length, take};
-ghost use Rattle.streams.specs.Streams.{IsPrefixLen};
-ghost use Rattle.plan.specs.Plan.{tables_in};
-ghost use Rattle.bench_file.specs.Sections.{largest};
-ghost use Rattle.report.specs.Report.{rehearsal};
-ghost use Rattle.streams.specs.Streams.{ReadOf};
-
-use area::limits::{CELLS, LARGEST, Set, UNUSED};
+use area::limits::LARGEST;
+use printing::Page;
 use report::{REHEARSAL_ROOM, Text};
 
 fn main(rt: HostRuntime) {
-    // One byte more than the largest file has, so that a longer one is seen to be too long.
-    let mut file = [0u8; LARGEST + 1];
-    let input = streams::read(&rt, b"rehearse", &mut file);
-    if input.is_failed {
-        return;
-    }
-    let mut old = [UNUSED; CELLS];
-    let mut new = [UNUSED; CELLS];
-    let mut old_dist = [0u32; CELLS];
-    let mut old_hops: [Set; CELLS] = [0; CELLS];
-    let mut old_fours: [Set; CELLS] = [0; CELLS];
-    let mut new_dist = [0u32; CELLS];
-    let mut new_hops: [Set; CELLS] = [0; CELLS];
-    let mut new_fours: [Set; CELLS] = [0; CELLS];
-    let mut out = [0u8; REHEARSAL_ROOM];
-    let printed = whole(
-        &file,
-        input.length,
-        &mut old,
-        &mut new,
-        &mut old_dist,
-        &mut old_hops,
-        &mut old_fours,
-        &mut new_dist,
-        &mut new_hops,
-        &mut new_fours,
-        &mut out,
-    );
-    streams::write(&rt, b"rehearse", &out[..printed]);
-}
-
-// Puts the rehearsal of the input at the start of `out`, and gives its length. The first `count` bytes of `file`
-// are the input, as much of it as has room there: more of it would change nothing, and nothing of the text is left off.
-fn whole(
-    file: &[u8],
-    count: usize,
-    old: &mut [u32],
-    new: &mut [u32],
-    old_dist: &mut [u32],
-    old_hops: &mut [Set],
-    old_fours: &mut [Set],
-    new_dist: &mut [u32],
-    new_hops: &mut [Set],
-    new_fours: &mut [Set],
-    out: &mut [u8; REHEARSAL_ROOM],
-) -> usize
-    requires largest_in_bounds { largest < length file.now }
-    requires prefix_len { IsPrefixLen count file.now }
-    ensures counted { IsPrefixLen result out.new }
-    ensures text { let lent = tables_in new.old
-        old_dist.old old_hops.old old_fours.old
-        new_dist.old new_hops.old new_fours.old in
-        ((input : List ℕ)
-        → ReadOf input file.now count
-        → take result out.new ≡ rehearsal input old.old lent) }
-{
-    report::print(
-        Text::Rehearsal,
-        &file[..count],
-        old,
-        new,
-        old_dist,
-        old_hops,
-        old_fours,
-        new_dist,
-        new_hops,
-        new_fours,
-        out,
-    )
+    let mut page = Page {
+        text: Text::Rehearsal,
+        // One byte more than the largest file has, so that a longer one is seen to be too long.
+        file: [0; LARGEST + 1],
+        out: [0; REHEARSAL_ROOM],
+    };
+    page.print(&rt, b"rehearse");
 }

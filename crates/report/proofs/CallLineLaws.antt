@@ -1,14 +1,13 @@
--- Laws of the lines of a step section: what was appended part by part is the line, and what was appended call by call
--- is the text of the whole list, as in LineLaws.antt.
---     count_appended, call_appended                the line of the count, and of a call
+-- Laws of the lines of a step section: what was written call by call is the text of the whole list.
 --     lines_joined                                 one list of calls after another
---     one_appended, member_called, member_uncalled  one call; a call for a member of a set, and none for another router
+--     calls_then, one_written                      the same as they are written, and one call
+--     member_called, member_uncalled               a call for a member of a set, and none for another router
 --     each_start, each_next                        no list of calls, and one more
 --     ticks_start, ticks_next                      no tick, and one more
 --     opening_called, turn_called, sheet_called    the calls before the turns, of a turn, and of a whole sheet
 --     section_whole, section_long                  the section, and one with too many steps
 --     places_called                                the calls of a sheet, by its places
-use Rattle.std.specs.Prelude.{ℕ, zero, suc, ◌+◌, ◌/◌, ◌%◌, ◌≤◌, ◌<◌, ◌≡◌, refl, Bool, true, false, List}
+use Rattle.std.specs.Prelude.{ℕ, zero, suc, ◌+◌, ◌≤◌, ◌<◌, ◌≡◌, refl, Bool, true, false, List}
 use Rattle.std.specs.Prelude.{[], ◌∷◌, ◌++◌, length, get_or}
 use Rattle.std.proofs.Common.{sym, ap, subst, ◌∙◌, append-nil, append_assoc, add-one}
 use borrow.Author.Tests.{le-leb, lt-leb}
@@ -22,29 +21,11 @@ use Rattle.machine.specs.Run.{Call, call, ticks}
 use Rattle.sheet.specs.Sheet.{sheet_of}
 use Rattle.sheet.specs.Follow.{each, call_each, call_members, turn, hold_ticks, following, sheet_calls}
 use Rattle.sheet.proofs.EachLaws.{each_none, each_more}
-use Rattle.text.specs.Text.{Appended, word, line}
-use Rattle.text.proofs.TextLaws.{appended_none, appended_then}
-use Rattle.hexadecimal.specs.Digits.{hex_byte}
+use Rattle.text.specs.Text.{Writes, word, line}
+use Rattle.text.specs.declared.writer.Writer.{Writer}
+use Rattle.text.proofs.WriterLaws.{writes_none, writes_then}
 use Rattle.report.specs.Lines.{count_line, call_line, call_lines, step_section}
 use Rattle.report.specs.Parts.{opening}
-
--- ---- lines
-pub count_appended :
-    (count : ℕ) {o p q : List ℕ} {a b c : ℕ}
-    → Appended o a (hex_byte (count / 256)) p b
-    → Appended p b (hex_byte (count % 256) ++ word "\n") q c
-    → Appended o a (count_line count) q c
-unfolding count_line
-count_appended count u v = appended_then u v
-
-pub call_appended :
-    (kind x y : ℕ) {o p q s : List ℕ} {a b c d : ℕ}
-    → Appended o a (hex_byte kind ++ word " ") p b
-    → Appended p b (hex_byte x ++ word " ") q c
-    → Appended q c (hex_byte y ++ word "\n") s d
-    → Appended o a (call_line (call kind x y)) s d
-unfolding call_line
-call_appended kind x y u v w = simp append_assoc at (appended_then u (appended_then v w))
 
 -- ---- lists of calls
 pub lines_joined : (calls more : List Call) → call_lines (calls ++ more) ≡ call_lines calls ++ call_lines more
@@ -53,54 +34,53 @@ lines_joined [] more = refl
 lines_joined (c ∷ cs) more =
     ap (λ (l : List ℕ). call_line c ++ l) (lines_joined cs more) ∙ sym (append_assoc (call_line c) _ _)
 
-pub calls_appended :
-    (calls more : List Call) {o p q : List ℕ} {a b c : ℕ}
-    → Appended o a (call_lines calls) p b
-    → Appended p b (call_lines more) q c
-    → Appended o a (call_lines (calls ++ more)) q c
-calls_appended calls more u v = rw (lines_joined calls more) (appended_then u v)
+pub calls_then :
+    (calls more : List Call) {u v w : Writer}
+    → Writes u (call_lines calls) v
+    → Writes v (call_lines more) w
+    → Writes u (call_lines (calls ++ more)) w
+calls_then calls more x y = rw (lines_joined calls more) (writes_then x y)
 
-no_calls : (o : List ℕ) (a : ℕ) → a ≤ length o → Appended o a (call_lines []) o a
+no_calls : (u : Writer) → Writes u (call_lines []) u
 unfolding call_lines
-no_calls o a h = appended_none o a h
+no_calls u = writes_none u
 
-pub one_appended :
-    (c : Call) {o p : List ℕ} {a b : ℕ}
-    → Appended o a (call_line c) p b
-    → Appended o a (call_lines (c ∷ [])) p b
+pub one_written : (c : Call) {u v : Writer} → Writes u (call_line c) v → Writes u (call_lines (c ∷ [])) v
 unfolding call_lines
-one_appended c u = rw (append-nil (call_line c)) u
-
--- t says whether x is a member of the set
-module _ (set x : ℕ) (c : Call) (t : Bool) (is : t ≡ bit set x) where
-  pub member_called :
-      {o p : List ℕ} {a b : ℕ}
-      → t ≡ true
-      → Appended o a (call_line c) p b
-      → Appended o a (call_lines (pick (bit set x) (c ∷ []) [])) p b
-  member_called e u = rw (sym is ∙ e) (one_appended c u)
-
-  pub member_uncalled :
-      t ≡ false
-      → (o : List ℕ) (a : ℕ)
-      → a ≤ length o
-      → Appended o a (call_lines (pick (bit set x) (c ∷ []) [])) o a
-  member_uncalled e o a h = rw (sym is ∙ e) (no_calls o a h)
+one_written c x = rw (append-nil (call_line c)) x
 
 module _ (f : ℕ → List Call) where
-  pub each_start : (o : List ℕ) (a : ℕ) → a ≤ length o → Appended o a (call_lines (each 0 f)) o a
-  each_start o a h = rw (each_none f) (no_calls o a h)
+  pub each_start : (u : Writer) → Writes u (call_lines (each 0 f)) u
+  each_start u = rw (each_none f) (no_calls u)
 
   pub each_next :
-      (k : ℕ) {o p q : List ℕ} {a b c : ℕ}
-      → Appended o a (call_lines (each k f)) p b
-      → Appended p b (call_lines (f k)) q c
-      → Appended o a (call_lines (each (k + 1) f)) q c
-  each_next k u v = rw (each_more f k) (calls_appended (each k f) (f k) u v)
+      (k : ℕ) {u v w : Writer}
+      → Writes u (call_lines (each k f)) v
+      → Writes v (call_lines (f k)) w
+      → Writes u (call_lines (each (k + 1) f)) w
+  each_next k x y = rw (each_more f k) (calls_then (each k f) (f k) x y)
+
+-- for the members of a set: t says whether k is one
+module _ (set k : ℕ) (c : ℕ → Call) (t : Bool) (is : t ≡ bit set k) where
+  pub member_called :
+      {u v w : Writer}
+      → t ≡ true
+      → Writes u (call_lines (call_members k set c)) v
+      → Writes v (call_line (c k)) w
+      → Writes u (call_lines (call_members (k + 1) set c)) w
+  member_called e x y =
+      each_next (λ j. pick (bit set j) (c j ∷ []) []) k x (rw (sym is ∙ e) (one_written (c k) y))
+
+  pub member_uncalled :
+      {u v : Writer}
+      → t ≡ false
+      → Writes u (call_lines (call_members k set c)) v
+      → Writes u (call_lines (call_members (k + 1) set c)) v
+  member_uncalled {u} {v} e x = each_next (λ j. pick (bit set j) (c j ∷ []) []) k x (rw (sym is ∙ e) (no_calls v))
 
 -- ---- ticks
-pub ticks_start : (o : List ℕ) (a : ℕ) → a ≤ length o → Appended o a (call_lines (ticks 0)) o a
-ticks_start o a h = no_calls o a h
+pub ticks_start : (u : Writer) → Writes u (call_lines (ticks 0)) u
+ticks_start u = no_calls u
 
 ticks_more : (k : ℕ) → ticks (k + 1) ≡ ticks k ++ (call tick_kind 0 0 ∷ [])
 ticks_more k = rw add-one (last k)
@@ -110,42 +90,42 @@ ticks_more k = rw add-one (last k)
     last (suc k) = ap (λ (l : List Call). call tick_kind 0 0 ∷ l) (last k)
 
 pub ticks_next :
-    (k : ℕ) {o p q : List ℕ} {a b c : ℕ}
-    → Appended o a (call_lines (ticks k)) p b
-    → Appended p b (call_line (call tick_kind 0 0)) q c
-    → Appended o a (call_lines (ticks (k + 1))) q c
-ticks_next k u v = rw (ticks_more k) (calls_appended (ticks k) _ u (one_appended _ v))
+    (k : ℕ) {u v w : Writer}
+    → Writes u (call_lines (ticks k)) v
+    → Writes v (call_line (call tick_kind 0 0)) w
+    → Writes u (call_lines (ticks (k + 1))) w
+ticks_next k x y = rw (ticks_more k) (calls_then (ticks k) _ x (one_written _ y))
 
 -- ---- what comes before the turns
 pub opening_called :
-    (n hold : ℕ) {o p q s : List ℕ} {a b c d : ℕ}
-    → Appended o a (call_lines (call_each n (λ x. call learn_kind x 0))) p b
-    → Appended p b (call_lines (ticks hold)) q c
-    → Appended q c (call_lines (call_each n (λ x. call release_kind x 0))) s d
-    → Appended o a (call_lines (opening n hold)) s d
-opening_called n hold u v w = calls_appended _ _ u (calls_appended _ _ v w)
+    (n hold : ℕ) {u v w z : Writer}
+    → Writes u (call_lines (call_each n (λ x. call learn_kind x 0))) v
+    → Writes v (call_lines (ticks hold)) w
+    → Writes w (call_lines (call_each n (λ x. call release_kind x 0))) z
+    → Writes u (call_lines (opening n hold)) z
+opening_called n hold x y t = calls_then _ _ x (calls_then _ _ y t)
 
 -- ---- a turn, and a sheet
 module _ (r : Record) where
   pub turn_called :
-      (i writes tells : ℕ) {o p q s : List ℕ} {a b c d : ℕ}
+      (i writes tells : ℕ) {u v w z : Writer}
       → writes ≡ due_of r i
       → tells ≡ telling_of r i
-      → Appended o a (call_lines (call_members r.n writes (λ x. call write_kind i x))) p b
-      → Appended p b (call_line (call finish_kind i 0)) q c
-      → Appended q c (call_lines (call_members r.n tells (λ x. call deliver_kind i x))) s d
-      → Appended o a (call_lines (turn r i)) s d
-  turn_called i writes tells due told u v w =
-      calls_appended _ _ (rw due at u) (calls_appended _ _ (one_appended _ v) (rw told at w))
+      → Writes u (call_lines (call_members r.n writes (λ x. call write_kind i x))) v
+      → Writes v (call_line (call finish_kind i 0)) w
+      → Writes w (call_lines (call_members r.n tells (λ x. call deliver_kind i x))) z
+      → Writes u (call_lines (turn r i)) z
+  turn_called i writes tells due told x y t =
+      calls_then _ _ (rw due at x) (calls_then _ _ (one_written _ y) (rw told at t))
 
   pub sheet_called :
-      (place : ℕ → ℕ) {o p q : List ℕ} {a b c : ℕ}
-      → Appended o a (call_lines (opening r.n r.hold_time)) p b
-      → Appended p b (call_lines (each r.n (λ k. turn r (place k)))) q c
-      → Appended o a (call_lines (following r place)) q c
-  sheet_called place {o} {q = q} {a} {c = c} u v =
-      subst (λ (calls : List Call). Appended o a (call_lines calls) q c) parts
-      (calls_appended (opening r.n r.hold_time) turns u v)
+      (place : ℕ → ℕ) {u v w : Writer}
+      → Writes u (call_lines (opening r.n r.hold_time)) v
+      → Writes v (call_lines (each r.n (λ k. turn r (place k)))) w
+      → Writes u (call_lines (following r place)) w
+  sheet_called place {u} {w = w} x y =
+      subst (λ (calls : List Call). Writes u (call_lines calls) w) parts
+      (calls_then (opening r.n r.hold_time) turns x y)
     where
       learning : List Call
       learning = call_each r.n (λ x. call learn_kind x 0)
@@ -164,27 +144,27 @@ module _ (r : Record) where
 -- ---- the section of a list of calls
 module _ (calls : List Call) (count : ℕ) (counted : count ≡ length calls) where
   pub section_whole :
-      {o p q : List ℕ} {a b c : ℕ}
+      {u v w : Writer}
       → count ≤ most_steps
-      → Appended o a (count_line count) p b
-      → Appended p b (call_lines calls) q c
-      → Appended o a (step_section calls) q c
+      → Writes u (count_line count) v
+      → Writes v (call_lines calls) w
+      → Writes u (step_section calls) w
   unfolding step_section
-  section_whole h u v = rw (← counted, le-leb count most_steps h) (appended_then u v)
+  section_whole h x y = rw (← counted, le-leb count most_steps h) (writes_then x y)
 
   pub section_long :
-      {o p : List ℕ} {a b : ℕ}
+      {u v : Writer}
       → most_steps < count
-      → Appended o a (line (word "too many steps: ") count) p b
-      → Appended o a (step_section calls) p b
+      → Writes u (line (word "too many steps: ") count) v
+      → Writes u (step_section calls) v
   unfolding step_section
-  section_long h u = rw (← counted, lt-leb count most_steps h) u
+  section_long h x = rw (← counted, lt-leb count most_steps h) x
 
 -- the calls of a record's sheet, by the routers at its places
 pub places_called :
-    (r : Record) (places : List ℕ) {o p : List ℕ} {a b : ℕ}
+    (r : Record) (places : List ℕ) {u v : Writer}
     → places ≡ sheet_of r
-    → Appended o a (call_lines (following r (λ k. get_or places k 0))) p b
-    → Appended o a (call_lines (sheet_calls r)) p b
-places_called r places {o} {p} {a} {b} is u =
-    subst (λ (l : List ℕ). Appended o a (call_lines (following r (λ k. get_or l k 0))) p b) is u
+    → Writes u (call_lines (following r (λ k. get_or places k 0))) v
+    → Writes u (call_lines (sheet_calls r)) v
+places_called r places {u} {v} is x =
+    subst (λ (l : List ℕ). Writes u (call_lines (following r (λ k. get_or l k 0))) v) is x

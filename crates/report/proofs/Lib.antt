@@ -1,9 +1,13 @@
 pub mod CallLineLaws
+pub mod CallPartLaws
 pub mod FirstBytesLaws
 pub mod LengthLaws
 pub mod LineLaws
+pub mod PartLaws
 pub mod ReportLaws
 pub mod RoomLaws
 pub mod SheetLineLaws
+pub mod StepLineLaws
 pub mod StepsReadLaws
+pub mod TextPartLaws
 pub mod UnfinishedLaws

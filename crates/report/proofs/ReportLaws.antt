@@ -1,26 +1,24 @@
--- Laws of all that is printed: from what `prepare` gives to the whole text. `prepare` gives a refusal, a record, where
--- the steps are, and filled tables, each by an equation on the file. Where it refuses, that one line is the text. Where
--- it does not, the record is Plan's, the steps are those of the file and the tables are filled by Plan, so their lines
--- are the lines of the definition; and what the file was accepted for gives the bounds that the loops ask for.
---     lines_of                                   the lines of each text, by its name
---     rehearsal_appended, unfinished_appended    those of the rehearsal, and of what is left after it
---     refused_printed, lines_printed             the refusal, or all lines
+-- Laws of all that is printed: from what `prepare` gives to the whole text. `prepare` answers with a refusal or with a
+-- record and where the steps are, and leaves tables, each by an equation on the file. Where it refuses, that one line
+-- is the text. Where it does not, the record is Plan's, the steps are those of the file and the tables are filled by
+-- Plan, so their lines are the lines of the definition; and what the file was accepted for gives the bounds that the
+-- loops ask for.
 --     text_refused                               the text where Read or Plan refuses
 --     rehearsal_whole, routes_whole, sheet_turns_whole, sheet_steps_whole, unfinished_whole
 --                                                the text where neither refuses
 --     ready                                      `prepare` gives what the lines ask for (specs/Parts.antt)
---     text_printed                               the text by what `prepare` gives
-use Rattle.std.specs.Prelude.{ℕ, ◌*◌, ◌≡◌, ◌≢◌, List, ◌++◌, drop}
+--     text_by_answer                             the text by what `prepare` answers
+use Rattle.std.specs.Prelude.{ℕ, ◌*◌, ◌≡◌, ◌≢◌, List, drop, Result, Ok, Err, IfOk}
 use Rattle.std.proofs.Math.Path.{refl}
 use Rattle.std.proofs.Common.{sym, ap, subst, ◌∙◌, arith, eq-eqb, ne_eqb, length-take}
-use Rattle.std.proofs.Math.Decide.{ℕ_discrete}
+use Rattle.area.specs.declared.refusal.Refusal.{Refusal}
+use Rattle.area.specs.Refusals.{verdict_number}
+use Rattle.area.proofs.RefusalLaws.{refusal_positive}
 use Rattle.area.proofs.SizeLaws.{router_count_most}
 use Rattle.plan.specs.declared.Record.{Record}
 use Rattle.plan.specs.Plan.{Tables}
 use Rattle.plan.proofs.PlanLaws.{filled_size}
 use Rattle.plan.proofs.FreshLaws.{fresh_count, fresh_hold}
-use Rattle.machine.specs.Run.{run, replies, calls_of}
-use Rattle.needs.specs.Needs.{needs, missing}
 use Rattle.sheet.specs.Follow.{sheet_calls}
 use Rattle.sheet.proofs.LengthLaws.{fresh_length}
 use Rattle.bench_file.specs.declared.Format.TheVariants.{New}
@@ -30,60 +28,19 @@ use Rattle.bench_file.specs.declared.Section.{Section}
 use Rattle.bench_file.specs.Read.{contents, contents_of}
 use Rattle.bench_file.proofs.ReadLaws.{contents_accepted}
 use Rattle.bench_file.proofs.FileLaws.{contents_steps}
-use Rattle.text.specs.Text.{Appended, word, line, refused_line}
-use Rattle.text.proofs.TextLaws.{appended_then, refused_is}
+use Rattle.text.specs.Text.{word, line, refused_line}
+use Rattle.text.proofs.TextLaws.{refused_is}
+use Rattle.prepare.specs.declared.Start.{Start}
 use Rattle.prepare.specs.Bench.{metrics, refusal, planned, filled_tables, record_at, tables_at}
 use Rattle.prepare.proofs.BenchLaws.{read_passed, file_of_lem, plan_passed, record_passed, tables_passed}
-use Rattle.report.specs.Lines.{router_lines, step_lines, rehearsal_lines, routes_lines, sheet_lines, step_section}
-use Rattle.report.specs.Lines.{unfinished_lines, unfinished_after}
+use Rattle.report.specs.Lines.{rehearsal_lines, routes_lines, sheet_lines, step_section, unfinished_after}
 use Rattle.report.specs.Report.{unless_refused, rehearsal, routes, sheet_turns, sheet_steps, unfinished, text_of}
 use Rattle.report.specs.declared.Text.{Text}
 use Rattle.report.specs.declared.Text.TheVariants.{Rehearsal, Routes, SheetTurns, SheetSteps, Unfinished}
-use Rattle.report.specs.Parts.{step_bytes, Within, Full, Counted, Ready, lines_by}
-
--- the tables that are printed have all cells
-abbrev FullTables : (u : Tables) → Type 0
-FullTables u = Full u.old.distances u.old.hops u.new.distances u.new.hops
+use Rattle.report.specs.Parts.{step_bytes, Within, Full, Counted, Ready, lines_by, text_by}
 
 abbrev lines_in : (text : Text) (r : Record) (bytes : List ℕ) (u : Tables) → List ℕ
-lines_in text r bytes u = lines_by text r bytes u.old.distances u.old.hops u.new.distances u.new.hops
-
-pub lines_of :
-    {text name : Text} (r : Record) (bytes d h e g : List ℕ) {o p : List ℕ} {a : ℕ}
-    → text ≡ name
-    → Appended o 0 (lines_by name r bytes d h e g) p a
-    → Appended o 0 (lines_by text r bytes d h e g) p a
-lines_of r bytes d h e g {o} {p} {a} is =
-    subst (λ (x : Text). Appended o 0 (lines_by x r bytes d h e g) p a) (sym is)
-
-pub rehearsal_appended :
-    (r : Record) (bytes : List ℕ) (count : ℕ) {o p q s l : List ℕ} {a b c d : ℕ}
-    → count ≡ needs r
-    → Appended o 0 (router_lines r r.n) p a
-    → Appended p a (line (word "needs ") count) q b
-    → Appended q b (step_lines 1 (replies r (calls_of bytes))) s c
-    → Appended s c (word "end\n") l d
-    → Appended o 0 (rehearsal_lines r bytes) l d
-rehearsal_appended r bytes count is u v w x = appended_then u (appended_then (rw is at v) (appended_then w x))
-
-pub unfinished_appended :
-    (r : Record) (bytes : List ℕ) (last : Record) (count : ℕ) {o p q : List ℕ} {a b : ℕ}
-    → last ≡ run r (calls_of bytes)
-    → count ≡ missing last
-    → Appended o 0 (unfinished_lines last r.n) p a
-    → Appended p a (line (word "missing ") count) q b
-    → Appended o 0 (unfinished_after r bytes) q b
-unfinished_appended r bytes last count {o} {p} {q} {a} {b} ran is u v =
-    subst (λ (x : Record). Appended o 0 (unfinished_lines x r.n ++ line (word "missing ") (missing x)) q b) ran
-    (appended_then u (rw is at v))
-
--- ---- the refusal, or all lines
-module _ (k : ℕ) (l : List ℕ) {o p : List ℕ} {a b : ℕ} where
-  pub refused_printed : k ≢ 0 → Appended o a (refused_line k) p b → Appended o a (unless_refused k l) p b
-  refused_printed g x = rw (ne_eqb k 0 g) x
-
-  pub lines_printed : k ≡ 0 → Appended o a l p b → Appended o a (unless_refused k l) p b
-  lines_printed z x = rw (eq-eqb k 0 z) x
+lines_in text r bytes u = lines_by text r bytes u.old u.new
 
 -- ---- the whole
 module _ (f m : List ℕ) (t : Tables) where
@@ -128,47 +85,45 @@ module _ (f m : List ℕ) (t : Tables) where
     unfolding sheet_steps
     sheet_steps_whole = rw (eq-eqb (refusal f m t) 0 z) refl
 
-  -- ---- by what `prepare` gives: k is the refusal, r the record, s says where the steps are, and u are the tables
+  -- ---- by what `prepare` answers, where u are the tables that it leaves
   module _
-      (k : ℕ) (told : k ≡ refusal f m t)
-      (r : Record) (is : r ≡ record_at f m t)
-      (s : Section) (placed : s ≡ (contents_of f m).steps)
       (u : Tables) (filled : u ≡ tables_at f m t)
+      (x : Start) (is : x.record ≡ record_at f m t) (placed : x.steps ≡ (contents_of f m).steps)
+      (z : refusal f m t ≡ 0)
     where
-      module _ (z : refusal f m t ≡ 0) where
-        fresh : r ≡ planned f
-        fresh = is ∙ record_passed f m t z
+      fresh : x.record ≡ planned f
+      fresh = is ∙ record_passed f m t z
 
-        of_file : s ≡ (contents New f).steps
-        of_file = placed ∙ ap (λ (x : Contents). x.steps) (contents_accepted f m (read_passed f m t z))
+      of_file : x.steps ≡ (contents New f).steps
+      of_file = placed ∙ ap (λ (c : Contents). c.steps) (contents_accepted f m (read_passed f m t z))
 
-        starts : s.at ≡ steps_at New f
-        starts = ap (λ (x : Section). x.at) of_file ∙ (contents_steps New f).0
+      starts : x.steps.at ≡ steps_at New f
+      starts = ap (λ (s : Section). s.at) of_file ∙ (contents_steps New f).0
 
-        counted_steps : s.count ≡ step_count New f
-        counted_steps = ap (λ (x : Section). x.count) of_file ∙ (contents_steps New f).1
+      counted_steps : x.steps.count ≡ step_count New f
+      counted_steps = ap (λ (s : Section). s.count) of_file ∙ (contents_steps New f).1
 
-        bytes_are : step_bytes f s ≡ steps New f
-        bytes_are = rw (starts, counted_steps) refl
+      bytes_are : step_bytes f x.steps ≡ steps New f
+      bytes_are = rw (starts, counted_steps) refl
 
-        by_plan : u ≡ filled_tables f
-        by_plan = filled ∙ tables_passed f m t z
+      by_plan : u ≡ filled_tables f
+      by_plan = filled ∙ tables_passed f m t z
 
-        full_tables : FullTables u
-        full_tables =
-            let size = filled_size (routers f) (metrics f) (changes f) in
-            let full : FullTables (filled_tables f) =
-            record {
-              old_distances = size.old.distances;
-              old_hops = size.old.hops;
-              new_distances = size.new.distances;
-              new_hops = size.new.hops;
-            } in
-            subst FullTables (sym by_plan) full
+      full_tables : Full u.old u.new
+      full_tables =
+          let size = filled_size (routers f) (metrics f) (changes f) in
+          let full : Full (filled_tables f).old (filled_tables f).new =
+          record {
+            old_distances = size.old.distances;
+            old_hops = size.old.hops;
+            new_distances = size.new.distances;
+            new_hops = size.new.hops;
+          } in
+          subst (λ (v : Tables). Full v.old v.new) (sym by_plan) full
 
       -- how many calls follow the sheet
-      counted : refusal f m t ≡ 0 → Counted r
-      counted z = rw (fresh z) of_plan
+      counted : Counted x.record
+      counted = rw fresh of_plan
         where
           of_plan : Counted (planned f)
           of_plan short =
@@ -179,37 +134,43 @@ module _ (f m : List ℕ) (t : Tables) where
               omega
               (arith, is, fresh_length (routers f) hold step (metrics f) (changes f) plan (omega (arith, is)))
 
-      pub ready :
-          k ≡ 0
-          → Within f s
-          × Ready r (step_bytes f s) u.old.distances u.old.hops u.new.distances u.new.hops
-      ready e =
-          let z = sym told ∙ e in
+      ready_of : Within f x.steps × Ready x.record (step_bytes f x.steps) u.old u.new
+      ready_of =
           let file = file_of_lem f m t z in
-          let of-record = ap (λ (x : Record). x.n) (fresh z) in
+          let of-record = ap (λ (r : Record). r.n) fresh in
           let many = fresh_count (routers f) (hold_time New f) (step_time New f) (metrics f) (changes f) in
-          let bytes = length-take (3 * s.count) (drop s.at f) in
-          let is-ready : Ready r (step_bytes f s) u.old.distances u.old.hops u.new.distances u.new.hops =
+          let bytes = length-take (3 * x.steps.count) (drop x.steps.at f) in
+          let is-ready : Ready x.record (step_bytes f x.steps) u.old u.new =
           record {
             few = omega (arith, of-record, many, router_count_most (routers f) file.routers_in);
-            most = omega (arith, bytes, counted_steps z, file.most_steps_lem);
-            counted = counted z;
-            full = full_tables z;
+            most = omega (arith, bytes, counted_steps, file.most_steps_lem);
+            counted = counted;
+            full = full_tables;
           } in
-          (omega (arith, starts z, counted_steps z, file.size), is-ready)
+          (omega (arith, starts, counted_steps, file.size), is-ready)
 
-      same_text : (text : Text) → unless_refused k (lines_in text r (step_bytes f s) u) ≡ text_of text f m t
-      same_text text = go (ℕ_discrete (refusal f m t) 0) ∙ sym (text_is text)
-        where
-          go :
-              Dec (refusal f m t ≡ 0)
-              → unless_refused k (lines_in text r (step_bytes f s) u)
-              ≡ unless_refused (refusal f m t) (lines_in text (planned f) (steps New f) (filled_tables f))
-          go (yes z) = rw (told, bytes_are z, fresh z, by_plan z) refl
-          go (no g) = rw (told, ne_eqb (refusal f m t) 0 g) refl
+      same_lines : (text : Text) → lines_in text x.record (step_bytes f x.steps) u ≡ text_of text f m t
+      same_lines text =
+          rw (bytes_are, fresh, by_plan) (sym (text_is text ∙ rw (eq-eqb (refusal f m t) 0 z) refl))
 
-      pub text_printed :
-          (text : Text) {o p : List ℕ} {a : ℕ}
-          → Appended o 0 (unless_refused k (lines_in text r (step_bytes f s) u)) p a
-          → Appended o 0 (text_of text f m t) p a
-      text_printed text {o} {p} {a} = subst (λ (l : List ℕ). Appended o 0 l p a) (same_text text)
+  module _ (u : Tables) (filled : u ≡ tables_at f m t) where
+    pub ready :
+        (start : Result Start Refusal)
+        → verdict_number start ≡ refusal f m t
+        → IfOk start (λ x. x.record ≡ record_at f m t)
+        → IfOk start (λ x. x.steps ≡ (contents_of f m).steps)
+        → IfOk start (λ x. Within f x.steps × Ready x.record (step_bytes f x.steps) u.old u.new)
+    ready (Ok x) told is placed = ready_of u filled x is placed (sym told)
+    ready (Err why) told is placed = tt
+
+    pub text_by_answer :
+        (text : Text) (start : Result Start Refusal)
+        → verdict_number start ≡ refusal f m t
+        → IfOk start (λ x. x.record ≡ record_at f m t)
+        → IfOk start (λ x. x.steps ≡ (contents_of f m).steps)
+        → text_by text f start u.old u.new ≡ text_of text f m t
+    text_by_answer text (Ok x) told is placed = same_lines u filled x is placed (sym told) text
+    text_by_answer text (Err why) told is placed =
+        let some = refusal_positive why in
+        let refused = text_is text ∙ rw (ne_eqb (refusal f m t) 0 (λ z. omega (arith, told, z))) refl in
+        sym (refused ∙ ap refused_line (sym told))

@@ -1,5 +1,5 @@
 -- Laws of the lines of a running sheet: what was appended part by part is the line, and what was appended line by line
--- is all the lines, as in LineLaws.antt.
+-- is all the lines, as in PartLaws.antt.
 --     member_printed, member_passed        a router that is a member of a set, and one that is none
 --     members_none, members_more           no member, and one router more
 --     set_none, set_some                   a set without members, and one that has some

@@ -1,5 +1,5 @@
 -- Laws of the lines of what is left after the last step: what was appended part by part is the line, and what was
--- appended line by line is all the lines, as in LineLaws.antt.
+-- appended line by line is all the lines, as in PartLaws.antt.
 --     idle_appended, .. done_appended              the name of a state
 --     holds_idle, .. wait_some, times_appended     its times
 --     unfinished_appended                          the line of a router
@@ -19,7 +19,10 @@ use Rattle.text.specs.Text.{Appended, word, field}
 use Rattle.text.proofs.TextLaws.{appended_none, appended_then}
 use Rattle.report.specs.Lines.{set_text, state_word, hold_text, last_wait, wait_text}
 use Rattle.report.specs.Lines.{unfinished_line, unfinished_text, unfinished_lines}
-use Rattle.report.specs.Parts.{times_end}
+
+-- until when a router holds, when its timer lets it go, and the end of its line
+abbrev pub times_end : (s : State) (waits until due : ℕ) → List ℕ
+times_end s waits until due = hold_text s until ++ (wait_text s waits due ++ word "\n")
 
 -- ---- the name of a state, by its case
 module _ (s : State) {o p : List ℕ} {a b : ℕ} where

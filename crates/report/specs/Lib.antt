@@ -2,3 +2,4 @@
 pub mod Lines
 pub mod Report
 pub mod Parts
+pub mod Rooms

@@ -1,34 +1,33 @@
-// The lines of a step section in hexadecimal, each appended to the text in a lent buffer as those of src/lines.rt are.
+// The lines of a step section in hexadecimal, each appended to a text as those of src/lines.rt are.
 ghost use Rattle.std.specs.Prelude.{◌++◌};
+ghost use Rattle.machine.specs.Kinds.{kind_number};
 ghost use Rattle.machine.specs.Run.{call};
-ghost use Rattle.text.specs.Text.{Appended};
+ghost use Rattle.text.specs.Text.{Writes};
 ghost use Rattle.hexadecimal.specs.Digits.{hex_byte};
 ghost use Rattle.report.specs.Lines.{count_line, call_line};
 
 use hexadecimal::hex_byte;
-use text::append;
+use machine::kinds::Kind;
+use text::Writer;
 
 // The count of steps.
-pub(crate) fn count_line(count: u16, out: &mut [u8], at: usize) -> usize
-    ensures line { Appended out.old at (count_line count) out.new result }
+#[tactic(auto, using(crate::proofs::LineLaws::written), unfolding(crate::specs::Lines::count_line))]
+pub(crate) fn count_line(count: u16, text: &mut Writer<'_>)
+    ensures line { Writes text.old (count_line count) text.new }
 {
-    let at = hex_byte((count / 256) as u8, out, at);
-    byte_then((count % 256) as u8, b"\n", out, at)
+    hex_byte(text, (count / 256) as u8);
+    hex_byte(text, (count % 256) as u8);
+    text.append(b"\n");
 }
 
 // A call of this kind.
-pub(crate) fn call_line(kind: u8, a: u8, b: u8, out: &mut [u8], at: usize) -> usize
-    ensures line { Appended out.old at (call_line (call kind a b)) out.new result }
+pub(crate) fn call_line(kind: Kind, a: u8, b: u8, text: &mut Writer<'_>)
+    ensures line { Writes text.old (call_line (call (kind_number kind) a b)) text.new }
 {
-    let at = byte_then(kind, b" ", out, at);
-    let at = byte_then(a, b" ", out, at);
-    byte_then(b, b"\n", out, at)
-}
-
-// The digits of a byte, and what stands after them.
-fn byte_then(x: u8, after: &[u8], out: &mut [u8], at: usize) -> usize
-    ensures text { Appended out.old at (hex_byte x ++ after.now) out.new result }
-{
-    let at = hex_byte(x, out, at);
-    append(out, at, after)
+    hex_byte(text, kind.number());
+    text.append(b" ");
+    hex_byte(text, a);
+    text.append(b" ");
+    hex_byte(text, b);
+    text.append(b"\n");
 }

@@ -1,19 +1,18 @@
-// The lines that the programs print, each appended to the text in a lent buffer. `at` is where the text ends, and what
-// is returned is where it ends then.
-ghost use Rattle.std.specs.Prelude.{◌++◌, ◌≤◌, ◌<◌, length};
+// The lines that the programs print, each appended to a text.
+ghost use Rattle.std.specs.Prelude.{◌++◌, ◌<◌};
 ghost use Rattle.area.specs.Limits.{width};
 ghost use Rattle.machine.specs.Answers.{reply_of};
-ghost use Rattle.text.specs.Text.{Appended, word, field};
-ghost use Rattle.report.specs.Lines.{router_line, answer_text, step_line, path_text, route_line};
-ghost use Rattle.report.specs.Lines.{member_word, member_text, set_text, turn_line};
-ghost use Rattle.report.specs.Lines.{state_word, hold_text, last_wait, wait_text, unfinished_line};
-ghost use Rattle.report.specs.Parts.{times_end};
+ghost use Rattle.text.specs.Text.{Writes};
+ghost use Rattle.report.specs.Lines.{router_line_of, answer_text, step_line, path_text, route_line};
+ghost use Rattle.report.specs.Lines.{member_text, set_text, turn_line};
+ghost use Rattle.report.specs.Lines.{state_word, hold_text, wait_text, unfinished_line};
 
 use area::limits::{Set, UNREACHED, WIDTH};
-use machine::Answer;
 use machine::states::State;
+use machine::{Answer, Effect};
+use plan::Record;
 use sets::member;
-use text::{append, field, line};
+use text::Writer;
 
 // The distance between two routers, and the next-hop set by which it is reached.
 #[derive(Clone, Copy)]
@@ -22,104 +21,86 @@ pub struct Path {
     pub hops: Set,
 }
 
-// The line of router i.
-pub(crate) fn router_line(
-    i: u64,
-    rank: u8,
-    waits: Set,
-    tells: Set,
-    due: Set,
-    out: &mut [u8],
-    at: usize,
-) -> usize
-    ensures line { Appended out.old at (router_line i rank waits tells due) out.new result }
+// When a router holds until, and when its timer lets it go.
+#[derive(Clone, Copy)]
+pub(crate) struct Times {
+    pub(crate) until: u64,
+    pub(crate) due: u64,
+}
+
+// The line of router i of a record.
+pub(crate) fn router_line(i: usize, record: &Record, text: &mut Writer<'_>)
+    requires { i < width }
+    ensures line { Writes text.old (router_line_of record.now i) text.new }
 {
-    let at = field(out, at, b"router ", i);
-    let at = field(out, at, b" rank ", rank as u64);
-    let at = field(out, at, b" waits ", waits);
-    let at = field(out, at, b" tells ", tells);
-    line(out, at, b" due ", due)
+    text.field(b"router ", i as u64);
+    text.field(b" rank ", record.ranks[i] as u64);
+    text.field(b" waits ", record.waiting[i]);
+    text.field(b" tells ", record.telling[i]);
+    text.line(b" due ", record.due[i]);
 }
 
 // The line of step k.
-pub(crate) fn step_line(k: u64, answer: Answer, out: &mut [u8], at: usize) -> usize
-    ensures line { Appended out.old at (step_line k (reply_of answer)) out.new result }
+#[tactic(auto, using(crate::proofs::LineLaws::written), unfolding(crate::specs::Lines::step_line))]
+pub(crate) fn step_line(k: u64, answer: Answer, text: &mut Writer<'_>)
+    ensures line { Writes text.old (step_line k (reply_of answer)) text.new }
 {
-    let at = field(out, at, b"step ", k);
-    answer_text(answer, out, at)
+    text.field(b"step ", k);
+    answer_text(answer, text);
 }
 
 // An answer, up to the end of its line.
-fn answer_text(answer: Answer, out: &mut [u8], at: usize) -> usize
-    ensures text { Appended out.old at (answer_text (reply_of answer)) out.new result }
+#[tactic(auto, using(crate::proofs::LineLaws::written), unfolding(crate::specs::Lines::answer_text))]
+fn answer_text(answer: Answer, text: &mut Writer<'_>)
+    ensures text { Writes text.old (answer_text (reply_of answer)) text.new }
 {
     match answer {
-        Answer::Ok => append(out, at, b" ok\n"),
-        Answer::Ignored => append(out, at, b" ignored\n"),
-        Answer::Refused(why) => line(out, at, b" refused ", why.number() as u64),
+        Ok(Effect::Applied) => text.append(b" ok\n"),
+        Ok(Effect::Ignored) => text.append(b" ignored\n"),
+        Err(why) => {
+            text.append(b" ");
+            text.refused_line(why.number());
+        }
     }
 }
 
 // The line of the pair (i, j): its path before the change, and after it.
-pub(crate) fn route_line(
-    i: u64,
-    j: u64,
-    before: Path,
-    after: Path,
-    out: &mut [u8],
-    at: usize,
-) -> usize
-    ensures line { Appended out.old at (route_line i j before after) out.new result }
+pub(crate) fn route_line(i: u64, j: u64, before: Path, after: Path, text: &mut Writer<'_>)
+    ensures line { Writes text.old (route_line i j before after) text.new }
 {
-    let at = ends(i, j, out, at);
-    let at = side(b" old", before, out, at);
-    let at = side(b" new", after, out, at);
-    append(out, at, b"\n")
-}
-
-// The two routers of a pair.
-fn ends(i: u64, j: u64, out: &mut [u8], at: usize) -> usize
-    ensures text { Appended out.old at (field (word "route ") i ++ field (word " ") j) out.new result }
-{
-    let at = field(out, at, b"route ", i);
-    field(out, at, b" ", j)
-}
-
-// A topology's name, and the path in it.
-fn side(name: &[u8], p: Path, out: &mut [u8], at: usize) -> usize
-    ensures text { Appended out.old at (name.now ++ path_text p) out.new result }
-{
-    let at = append(out, at, name);
-    path_text(p, out, at)
+    text.field(b"route ", i);
+    text.field(b" ", j);
+    text.append(b" old");
+    path_text(before, text);
+    text.append(b" new");
+    path_text(after, text);
+    text.append(b"\n");
 }
 
 // A distance and the next hops, or that there is no walk.
-fn path_text(p: Path, out: &mut [u8], at: usize) -> usize
-    ensures text { Appended out.old at (path_text p) out.new result }
+#[tactic(auto, using(crate::proofs::LineLaws::written), unfolding(crate::specs::Lines::path_text))]
+fn path_text(path: Path, text: &mut Writer<'_>)
+    ensures text { Writes text.old (path_text path) text.new }
 {
-    if p.distance == UNREACHED {
-        return append(out, at, b" none");
+    if path.distance == UNREACHED {
+        text.append(b" none");
+    } else {
+        text.field(b" ", path.distance as u64);
+        text.field(b" via ", path.hops);
     }
-    let at = field(out, at, b" ", p.distance as u64);
-    field(out, at, b" via ", p.hops)
 }
 
 // The line of turn k: the router, the destinations that it writes, and the routers that it tells.
-pub(crate) fn turn_line(
-    k: u64,
-    router: u8,
-    writes: Set,
-    tells: Set,
-    out: &mut [u8],
-    at: usize,
-) -> usize
-    ensures line { Appended out.old at (turn_line k router writes tells) out.new result }
+pub(crate) fn turn_line(k: u64, router: u8, writes: Set, tells: Set, text: &mut Writer<'_>)
+    ensures line { Writes text.old (turn_line k router writes tells) text.new }
 {
-    let at = field(out, at, b"turn ", k);
-    let at = field(out, at, b" router ", router as u64);
-    let at = named_set(b" writes", writes, out, at);
-    let at = named_set(b" tells", tells, out, at);
-    append(out, at, b"\n")
+    text.field(b"turn ", k);
+    text.field(b" router ", router as u64);
+    text.append(b" writes");
+    set_text(writes, text);
+    text.append(b" tells");
+    set_text(tells, text);
+    text.append(b"\n");
 }
 
 // The line of router i, in a state: whom it still waits for, what is due there and unwritten, and its times.
@@ -128,115 +109,81 @@ pub(crate) fn unfinished_line(
     state: State,
     waits: Set,
     unwritten: Set,
-    until: u64,
-    due: u64,
-    out: &mut [u8],
-    at: usize,
-) -> usize
-    ensures line { Appended out.old at
-        (unfinished_line i state waits unwritten until due) out.new result }
+    times: Times,
+    text: &mut Writer<'_>,
+)
+    ensures line { Writes text.old
+        (unfinished_line i state waits unwritten times.until times.due) text.new }
 {
-    let at = field(out, at, b"router ", i);
-    let at = state_word(state, out, at);
-    let at = named_set(b" waits", waits, out, at);
-    let at = named_set(b" unwritten", unwritten, out, at);
-    times_end(state, waits, until, due, out, at)
-}
-
-// The times of a router, and the end of its line.
-fn times_end(state: State, waits: Set, until: u64, due: u64, out: &mut [u8], at: usize) -> usize
-    ensures text { Appended out.old at (times_end state waits until due) out.new result }
-{
-    let at = hold_text(state, until, out, at);
-    let at = wait_text(state, waits, due, out, at);
-    append(out, at, b"\n")
+    text.field(b"router ", i);
+    state_word(state, text);
+    text.append(b" waits");
+    set_text(waits, text);
+    text.append(b" unwritten");
+    set_text(unwritten, text);
+    hold_text(state, times.until, text);
+    wait_text(state, waits, times.due, text);
+    text.append(b"\n");
 }
 
 // Until when a router holds, where it does.
-fn hold_text(state: State, until: u64, out: &mut [u8], at: usize) -> usize
-    ensures text { Appended out.old at (hold_text state until) out.new result }
+#[tactic(auto, using(crate::proofs::LineLaws::written), unfolding(crate::specs::Lines::hold_text))]
+fn hold_text(state: State, until: u64, text: &mut Writer<'_>)
+    ensures text { Writes text.old (hold_text state until) text.new }
 {
     match state {
-        State::Idle => append(out, at, b""),
-        State::Holding => field(out, at, b" holds until ", until),
-        State::Ongoing => append(out, at, b""),
-        State::Done => append(out, at, b""),
+        State::Holding => text.field(b" holds until ", until),
+        State::Idle | State::Ongoing | State::Done => {}
     }
 }
 
-// When the timer lets a router go, where it waits for others.
-fn wait_text(state: State, waits: Set, due: u64, out: &mut [u8], at: usize) -> usize
-    ensures text { Appended out.old at (wait_text state waits due) out.new result }
+// When the timer lets a router go, where it has learned and waits for others.
+#[tactic(auto, using(crate::proofs::LineLaws::written), unfolding(crate::specs::Lines::wait_text, crate::specs::Lines::last_wait))]
+fn wait_text(state: State, waits: Set, due: u64, text: &mut Writer<'_>)
+    ensures text { Writes text.old (wait_text state waits due) text.new }
 {
-    if waits == 0 {
-        return append(out, at, b"");
-    }
-    last_wait(state, due, out, at)
-}
-
-// The same of a router that waits for others.
-fn last_wait(state: State, due: u64, out: &mut [u8], at: usize) -> usize
-    ensures text { Appended out.old at (last_wait state due) out.new result }
-{
-    match state {
-        State::Idle => append(out, at, b""),
-        State::Holding => field(out, at, b" waits until ", due),
-        State::Ongoing => field(out, at, b" waits until ", due),
-        State::Done => append(out, at, b""),
+    if waits != 0 {
+        match state {
+            State::Holding | State::Ongoing => text.field(b" waits until ", due),
+            State::Idle | State::Done => {}
+        }
     }
 }
 
 // The name of a state.
-fn state_word(state: State, out: &mut [u8], at: usize) -> usize
-    ensures text { Appended out.old at (state_word state) out.new result }
+#[tactic(auto, unfolding(crate::specs::Lines::state_word))]
+fn state_word(state: State, text: &mut Writer<'_>)
+    ensures text { Writes text.old (state_word state) text.new }
 {
     match state {
-        State::Idle => append(out, at, b" idle"),
-        State::Holding => append(out, at, b" holding"),
-        State::Ongoing => append(out, at, b" ongoing"),
-        State::Done => append(out, at, b" done"),
+        State::Idle => text.append(b" idle"),
+        State::Holding => text.append(b" holding"),
+        State::Ongoing => text.append(b" ongoing"),
+        State::Done => text.append(b" done"),
     }
-}
-
-// A set after its name.
-fn named_set(name: &[u8], set: Set, out: &mut [u8], at: usize) -> usize
-    ensures text { Appended out.old at (name.now ++ set_text set) out.new result }
-{
-    let at = append(out, at, name);
-    set_text(set, out, at)
 }
 
 // The members of a set, or that it has none.
-#[tactic(auto, using(crate::proofs::SheetLineLaws::set_none, crate::proofs::SheetLineLaws::set_some))]
-fn set_text(set: Set, out: &mut [u8], at: usize) -> usize
-    requires { at ≤ length out.old }
-    ensures text { Appended out.old at (set_text set) out.new result }
+#[tactic(auto, unfolding(crate::specs::Lines::set_text))]
+fn set_text(set: Set, text: &mut Writer<'_>)
+    ensures text { Writes text.old (set_text set) text.new }
 {
     if set == 0 {
-        return append(out, at, b" none");
+        text.append(b" none");
+    } else {
+        member_text(set, text);
     }
-    member_text(set, out, at)
 }
 
 // The members of a set, each after a space.
-fn member_text(set: Set, out: &mut [u8], start: usize) -> usize
-    requires { start ≤ length out.old }
-    ensures text { Appended out.old start (member_text set width) out.new result }
+#[tactic(auto, using(crate::proofs::LineLaws::written), unfolding(crate::specs::Lines::member_text, crate::specs::Lines::member_word))]
+fn member_text(set: Set, text: &mut Writer<'_>)
+    ensures text { Writes text.old (member_text set width) text.new }
 {
-    let mut at = start;
+    // Number by number, as `member_text` of specs/Lines.antt goes: that is as short as a loop over `members`.
     for k in 0..WIDTH {
-        at = one_member(set, k, out, at);
+        if member(set, k) {
+            text.field(b" ", k as u64);
+        }
     }
-    at
-}
-
-// Router k after a space, where it is a member.
-fn one_member(set: Set, k: usize, out: &mut [u8], at: usize) -> usize
-    requires { (k < width) × (at ≤ length out.old) }
-    ensures text { Appended out.old at (member_word set k) out.new result }
-{
-    if member(set, k) {
-        return field(out, at, b" ", k as u64);
-    }
-    at
 }

@@ -26,8 +26,8 @@ fn links(file: &mut [u8; LARGEST + 1], n: usize, table: &[u32; LONG_TABLE]) -> u
     ensures { result ≤ width * width }
 {
     let mut e = 0;
-    for k in 0..CELLS {
-        e = link(file, e, n, k, table[k]);
+    for (k, metric) in table[..CELLS].iter().enumerate() {
+        e = link(file, e, n, k, *metric);
     }
     e
 }
@@ -47,7 +47,7 @@ fn link(file: &mut [u8; LARGEST + 1], e: usize, n: usize, k: usize, metric: u32)
         LINKS_AT + ENTRY * e,
         i as u64,
         j as u64,
-        metric as u64,
+        u64::from(metric),
     );
     e + 1
 }
@@ -57,10 +57,8 @@ fn changes(file: &mut [u8; LARGEST + 1], at: usize, list: &[u8; LONG_LIST], byte
     requires { (at ≤ 3 + 5 * (width * width)) × (bytes ≤ 5 * (most_changes + 2)) }
 {
     file[at] = (bytes / ENTRY) as u8;
-    for k in 0..bytes {
-        file[at + 1 + k] = list[k];
-    }
     let times_at = at + 1 + bytes;
+    file[at + 1..times_at].copy_from_slice(&list[..bytes]);
     file[times_at + 3] = 1;
     times_at + 4 + 2
 }

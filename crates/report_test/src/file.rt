@@ -6,10 +6,9 @@ use cases::read;
 // With a word l33084 it is so many bytes of the largest file. Else it is what stands after the words: the number of
 // routers, links and changes, or hexadecimal.
 pub fn run(rt: &HostRuntime, words: &[u8], said: &[u8]) {
-    let length = read::value(words, b'l', 0) as usize;
-    if 0 < length {
-        by_rule(rt, words, length);
-    } else if read::find(said, b'n') < said.len() {
+    if words.contains(&b'l') {
+        by_rule(rt, words, read::value(words, b'l', 0) as usize);
+    } else if said.contains(&b'n') {
         made(rt, words, said);
     } else {
         written(rt, words, said);
@@ -29,16 +28,14 @@ fn made(rt: &HostRuntime, words: &[u8], said: &[u8]) {
 }
 
 fn lend(rt: &HostRuntime, words: &[u8], file: &[u8; LARGEST + 1], length: usize) {
-    let all = &file[..];
-    if all.len() < length {
-        return;
+    if let Some(all) = file.get(..length) {
+        texts::print(rt, words, all);
     }
-    texts::print(rt, words, &all[0..length]);
 }
 
 fn written(rt: &HostRuntime, words: &[u8], hexadecimal: &[u8]) {
     let mut file = [0u8; 8192];
-    let unhexed = hexadecimal::unhex(hexadecimal, &mut file);
-    let length = unhexed.length;
-    texts::print(rt, words, &file[..length]);
+    match hexadecimal::unhex(hexadecimal, &mut file) {
+        Ok(length) | Err(length) => texts::print(rt, words, &file[..length]),
+    }
 }

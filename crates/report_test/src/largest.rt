@@ -21,8 +21,8 @@ const STEPS_AT: usize = TIMES_AT + 4 + 2;
 
 // The file, and after it a byte that is one too many.
 pub fn fill(file: &mut [u8; LARGEST + 1]) {
-    for at in 0..LARGEST {
-        file[at] = byte(part(at));
+    for (at, b) in file[..LARGEST].iter_mut().enumerate() {
+        *b = byte(part(at));
     }
 }
 

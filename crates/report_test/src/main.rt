@@ -1,6 +1,6 @@
 // Prints the rehearsals of the files of the cases of standard input, and of some the routes, the running sheet or what
 // is unfinished. The first lines of stdin say what a case is.
-//     run         the lines of the input: of a case its name is printed, and under it what its file gives
+//     main        the cases of the input: the name of each is printed, and under it what its file gives
 //     file        the file of a case, from its hexadecimal, from words, or the largest one
 //     by_words    a file from words
 //     largest     the largest file, by a rule
@@ -16,26 +16,15 @@ mod texts;
 
 ghost use Rattle.std.specs.Prelude.{◌≤◌, length};
 
-use cases::{input, lines, print, read};
+use cases::{lines, print};
 
 fn main(rt: HostRuntime) {
     let mut text = [0u8; 32768];
-    let length = input::standard(&rt, &mut text);
-    run(&rt, &text[..length]);
-}
-
-fn run(rt: &HostRuntime, text: &[u8]) {
-    for at in 0..text.len() {
-        case(rt, lines::line(text, at));
-    }
-}
-
-fn case(rt: &HostRuntime, line: &[u8]) {
-    if lines::is_case(line) {
-        print::text(rt, lines::name(line));
-        print::byte(rt, b'\n');
-        parts(rt, lines::words(line));
-    }
+    lines::each_case(&rt, &mut text, |name, words| {
+        print::text(&rt, name);
+        print::byte(&rt, b'\n');
+        parts(&rt, words);
+    });
 }
 
 // The words, and what says the file.
@@ -48,6 +37,6 @@ fn parts(rt: &HostRuntime, case: &[u8]) {
 fn end_of_words(case: &[u8]) -> usize
     ensures { result ≤ length case.now }
 {
-    let sign = read::find(case, b'=');
-    if sign < case.len() { sign + 1 } else { 0 }
+    let sign = case.iter().position(|b| *b == b'=');
+    sign.map_or(0, |at| at + 1)
 }

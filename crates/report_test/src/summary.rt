@@ -22,15 +22,15 @@ fn short(rt: &HostRuntime, text: &[u8]) {
     );
     let first = lines::start(text, WIDTH + 3);
     let last = lines::start(text, WIDTH + MOST_STEPS - 1);
-    print::text(rt, &text[0..first]);
+    print::text(rt, &text[..first]);
     print::text(rt, &text[last..]);
 }
 
 // A sum of all bytes that depends on their order.
 fn checksum(text: &[u8]) -> u64 {
     let mut sum = 0;
-    for at in 0..text.len() {
-        sum = added(sum, text[at]);
+    for b in text {
+        sum = added(sum, *b);
     }
     sum
 }
@@ -39,5 +39,5 @@ fn added(sum: u64, b: u8) -> u64
     requires { sum < 4294967291 }
     ensures { result < 4294967291 }
 {
-    (sum * 257 + b as u64) % 4294967291
+    (sum * 257 + u64::from(b)) % 4294967291
 }

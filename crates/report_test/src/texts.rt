@@ -4,11 +4,12 @@ ghost use Rattle.std.specs.Prelude.{◌≡◌, ◌≤◌, length, take};
 use crate::summary;
 use area::limits::Set;
 use cases::{LONG_TABLE, print, read};
+use paths::Topology;
 use report::{ROUTES_ROOM, Text};
 
 // Prints the text that the words say, or with the letter b whether the file is taken for a text.
 pub fn print(rt: &HostRuntime, words: &[u8], file: &[u8]) {
-    if !has(words, b'b') {
+    if !words.contains(&b'b') {
         of_file(rt, words, file);
     } else if hexadecimal::is_text(file) {
         print::text(rt, b"text\n");
@@ -27,7 +28,7 @@ fn of_file(rt: &HostRuntime, words: &[u8], file: &[u8]) {
 fn lend(rt: &HostRuntime, words: &[u8], file: &[u8], out: &mut [u8; ROUTES_ROOM]) {
     let length = text(words, file, out);
     summary::print(rt, &out[..length]);
-    if has(words, b'o') {
+    if words.contains(&b'o') {
         print::byte(rt, b'\n');
     }
 }
@@ -37,8 +38,8 @@ fn lend(rt: &HostRuntime, words: &[u8], file: &[u8], out: &mut [u8; ROUTES_ROOM]
 fn text(words: &[u8], file: &[u8], out: &mut [u8]) -> usize
     ensures { (result ≤ length out.new) × (result ≡ length (take result out.new)) }
 {
-    let mut old = [1u32; LONG_TABLE];
-    let mut new = [2u32; LONG_TABLE];
+    let mut before = [1u32; LONG_TABLE];
+    let mut metrics = [2u32; LONG_TABLE];
     let mut old_dist = [3u32; LONG_TABLE];
     let mut old_hops: [Set; LONG_TABLE] = [7; LONG_TABLE];
     let mut old_fours: [Set; LONG_TABLE] = [8; LONG_TABLE];
@@ -53,18 +54,24 @@ fn text(words: &[u8], file: &[u8], out: &mut [u8]) -> usize
     let f = read::size(words, 5, LONG_TABLE);
     let g = read::size(words, 6, LONG_TABLE);
     let h = read::size(words, 7, LONG_TABLE);
+    let mut old = Topology {
+        dist: &mut old_dist[..c],
+        hops: &mut old_hops[..d],
+        fours: &mut old_fours[..e],
+    };
+    let mut new = Topology {
+        dist: &mut new_dist[..f],
+        hops: &mut new_hops[..g],
+        fours: &mut new_fours[..h],
+    };
     let bytes = room(words, out.len());
     report::print(
         by_letter(words),
         file,
-        &mut old[..a],
-        &mut new[..b],
-        &mut old_dist[..c],
-        &mut old_hops[..d],
-        &mut old_fours[..e],
-        &mut new_dist[..f],
-        &mut new_hops[..g],
-        &mut new_fours[..h],
+        &mut before[..a],
+        &mut metrics[..b],
+        &mut old,
+        &mut new,
         &mut out[..bytes],
     )
 }
@@ -74,30 +81,22 @@ fn room(words: &[u8], most: usize) -> usize
     ensures { result ≤ most }
 {
     let bytes = read::value(words, b'o', most as u64);
-    if bytes < most as u64 {
-        bytes as usize
-    } else {
-        most
-    }
+    bytes.min(most as u64) as usize
 }
 
 // The routes (r), the running sheet (t), its steps (s), what is unfinished (u), or with no letter the rehearsal.
 fn by_letter(words: &[u8]) -> Text {
-    if has(words, b'r') {
+    if words.contains(&b'r') {
         return Text::Routes;
     }
-    if has(words, b't') {
+    if words.contains(&b't') {
         return Text::SheetTurns;
     }
-    if has(words, b's') {
+    if words.contains(&b's') {
         return Text::SheetSteps;
     }
-    if has(words, b'u') {
+    if words.contains(&b'u') {
         return Text::Unfinished;
     }
     Text::Rehearsal
-}
-
-fn has(words: &[u8], letter: u8) -> bool {
-    read::find(words, letter) < words.len()
 }

@@ -15,12 +15,10 @@ fn main(rt: HostRuntime) {
     // One byte more than the largest file has, so that a longer one is seen to be too long.
     let mut file = [0u8; LARGEST + 1];
     let mut out = [0u8; LARGEST];
-    let input = streams::read(&rt, b"rewrite", &mut file);
-    if input.is_failed {
-        return;
+    if let Some(count) = streams::read(&rt, b"rewrite", &mut file) {
+        let length = whole(&file, count, &mut out);
+        streams::write(&rt, b"rewrite", &out[..length]);
     }
-    let length = whole(&file, input.length, &mut out);
-    streams::write(&rt, b"rewrite", &out[..length]);
 }
 
 // Puts all that is written for the input at the start of `out`, and gives its length. The first `count` bytes of `file`

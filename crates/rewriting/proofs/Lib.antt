@@ -1,2 +1,3 @@
 pub mod LiveLaws
 pub mod RewritingLaws
+pub mod AppendingLaws

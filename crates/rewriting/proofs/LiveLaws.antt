@@ -1,17 +1,19 @@
 -- Laws of the live links. Each of them is a link of the list (live_from), so what is known of the links holds of them
 -- too; no order is needed. Any bytes may follow them: `rest`.
 --     count_none, count_kept, count_dropped      one link more, as code counts it
---     appended_start, appended_live              and appends it
+--     live_none, live_kept, live_dropped         and writes it
 --     live_length, live_most       how long they are, and how many at most
 --     live_from                    each is a link of the list that is not dead
 --     live_new                     no pair is listed twice among them
 --     live_listed                  they give every pair the same metric
 --     live_all                     where no link is dead, they are all links
+--     live_cut                     the first bytes of the list have them
 use Prim.Native.Nat.{ℕ, zero, suc, ◌+◌, ◌*◌, ◌≤◌, ◌<◌}
 use Rattle.std.specs.Prelude.{◌≡◌, false, ◌&&◌, ◌⊎◌, get_or, drop}
 use Rattle.std.proofs.Math.Path.{refl, sym, ap, ap₂, subst}
 use Rattle.std.proofs.Common.{◌∙◌, inl, inr, eq-or-lt_of_le, le_of_suc-le-suc, not-suc-le-zero, eqb-true, length-take}
-use Rattle.std.proofs.Common.{length-drop, get_or-take, get_or-drop, get_or-append-add, take-add}
+use Rattle.std.proofs.Common.{◌-◌, length-drop, get_or-take, get_or-drop, get_or-append-add, take-add}
+use Rattle.std.proofs.lemmas.List.{drop-take, take-take}
 use Rattle.std.proofs.Math.Bool.{true}
 use Rattle.std.proofs.lemmas.Bool.{false≢true}
 use Rattle.std.proofs.Math.Logic.{⊎_elim}
@@ -28,8 +30,9 @@ use Rattle.entries.specs.Entries.{entry_of, from, to, metric, is_for_pair, is_fr
 use Rattle.entries.proofs.EntryLaws.{entry_count_least, entry_moved, of_pair, free_true, free_false}
 use Rattle.entries.proofs.EntryLaws.{given_start, given_next, given_none}
 use Rattle.bench_file.specs.Faults.{is_dead}
-use Rattle.text.specs.Text.{Appended}
-use Rattle.text.proofs.TextLaws.{appended_none, appended_then}
+use Rattle.text.specs.Text.{Writes}
+use Rattle.text.specs.declared.writer.Writer.{Writer}
+use Rattle.text.proofs.WriterLaws.{writes_none, writes_then}
 use Rattle.rewriting.specs.Live.{bytes_of, kept_of, live, live_count}
 
 -- ---- one link more, as code counts and appends it
@@ -46,17 +49,22 @@ pub count_none : (l : List ℕ) → 0 ≡ live_count l 0
 unfolding live_count
 count_none l = refl
 
-pub appended_live :
-    (l : List ℕ) (k : ℕ) {o p q : List ℕ} {a b c : ℕ}
-    → Appended o a (live l k) p b
-    → Appended p b (kept_of l k) q c
-    → Appended o a (live l (k + 1)) q c
+pub live_none : (l : List ℕ) (w : Writer) → Writes w (live l 0) w
 unfolding live
-appended_live l k x y = rw add-one (appended_then x y)
+live_none l w = writes_none w
 
-pub appended_start : (l o : List ℕ) (a : ℕ) → a ≤ length o → Appended o a (live l 0) o a
-unfolding live
-appended_start l o a h = appended_none o a h
+module _ (l : List ℕ) (k : ℕ) {u v : Writer} (so_far : Writes u (live l k) v) where
+  pub live_kept :
+      {w : Writer}
+      → is_dead (entry_of l k) ≡ false
+      → Writes v (bytes_of l k) w
+      → Writes u (live l (k + 1)) w
+  unfolding live
+  live_kept e x = rw (add-one k, e) (writes_then so_far x)
+
+  pub live_dropped : is_dead (entry_of l k) ≡ true → Writes u (live l (k + 1)) v
+  unfolding live
+  live_dropped e = rw (add-one k, e) (writes_then so_far (writes_none v))
 
 -- ---- each of the first k links is the first of its pair
 abbrev pub Once : (l : List ℕ) (k : ℕ) → Type 0
@@ -300,3 +308,25 @@ module _ (l : List ℕ) where
             ∙ ap (λ (n : ℕ). take n l) five,
         ap suc x.1,
       )
+
+  -- ---- of the first bytes of the list, as far as they have the links
+  pub live_cut :
+      (n k : ℕ)
+      → n ≤ length l
+      → 5 * k ≤ n
+      → (live (take n l) k ≡ live l k) × (live_count (take n l) k ≡ live_count l k)
+  unfolding live live_count
+  live_cut n zero h a = (refl, refl)
+  live_cut n (suc k) h a =
+      let size = length-take n l in
+      let before = live_cut n k h (omega arith) in
+      let here = entry_count_least l (suc k) (omega arith) in
+      let there = entry_count_least (take n l) (suc k) (omega arith) in
+      let entry : entry_of (take n l) k ≡ entry_of l k =
+      entry_moved (take n l) l k k (omega arith) (omega arith) (λ i b. get_or-take n l (5 * k + i) 0 (omega arith)) in
+      let more : n ≡ 5 * k + (n - 5 * k) = omega arith in
+      let bytes : bytes_of (take n l) k ≡ bytes_of l k =
+      ap (λ (m : ℕ). take 5 (drop (5 * k) (take m l))) more
+      ∙ ap (take 5) (drop-take (5 * k) (n - 5 * k) l)
+      ∙ take-take 5 (n - 5 * k) (drop (5 * k) l) (omega arith) in
+      rw (before.0, before.1, entry, bytes) (refl, refl)

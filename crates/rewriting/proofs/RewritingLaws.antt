@@ -8,7 +8,8 @@
 --     rewritten_same           where no link of f is dead, it is f with the times put in
 -- And for every file:
 --     written_refused, written_accepted        what is written: the line of a refusal alone, or the rewritten file
---     appended_rest, appended_file             as code appends it
+--     read_parts                               what an accepted file says of itself, as code reads it
+--     appended_rest, appended_file             the rewritten file, as code writes it
 --     written_first, written_room              the first bytes of an input decide, and there is room for all of it
 -- The links that are kept are links of f (LiveLaws.antt), so the new reader refuses none of them; the changes and,
 -- after the times, all bytes from the count of the steps on are those of f, at another place (behind, later).
@@ -20,25 +21,32 @@ use Rattle.std.proofs.Common.{get_or-drop, get_or-append-add, drop-drop}
 use mathlib.Core.List.{List, [], ◌∷◌, ◌++◌, append_assoc}
 use Rattle.std.proofs.Math.Decide.{dec_lt, ℕ_discrete}
 use native.Mathlib.Omega.{arith}
-use Rattle.std.proofs.Math.ListN.{get_or, take, length-append, length-drop}
+use Rattle.std.proofs.Math.ListN.{get_or, take, length-append, length-drop, length-take}
 use Rattle.std.proofs.Math.Seq.{take-append_seam, take-append-add, drop-append-add}
 use Rattle.area.specs.Limits.{width}
 use Rattle.area.specs.Sizes.{is_router_count}
-use Rattle.entries.specs.Entries.{entry_of}
-use Rattle.entries.proofs.EntryLaws.{Faultless, entry_count_least}
+use Rattle.entries.specs.Entries.{entry_count, entry_of}
+use Rattle.entries.proofs.EntryLaws.{Faultless, entry_count_is, entry_count_least}
 use Rattle.bench_file.specs.declared.Format.TheVariants.{Old, New}
 use Rattle.bench_file.specs.Sections.{routers, link_count, links, change_count_at, change_count, changes_at, changes}
 use Rattle.bench_file.specs.Sections.{times_at, hold_time, step_time, step_count, steps_at, steps, largest}
 use Rattle.bench_file.specs.Faults.{is_dead, file_refusal}
 use Rattle.bench_file.proofs.FaultLaws.{live_passes, Link, Accepted, accepted_of, of_accepted}
-use Rattle.bench_file.specs.Read.{metrics_by, metrics_of}
-use Rattle.bench_file.proofs.ReadLaws.{metrics_kept, metrics_accepted, linked_same}
+use Rattle.bench_file.specs.declared.Contents.{Contents}
+use Rattle.bench_file.specs.Read.{contents, contents_by, metrics_by, metrics_of}
+use Rattle.bench_file.proofs.ReadLaws.{by_accepted, metrics_kept, metrics_accepted, linked_same}
+use Rattle.area.proofs.RefusalLaws.{refusal_positive}
+use Rattle.area.proofs.SizeLaws.{router_count_most}
+use Rattle.bench_file.proofs.FileLaws.{links_most, contents_n, contents_links, contents_changes}
 use Rattle.bench_file.proofs.FileLaws.{accepted_most, one_format, long_refused, first_refusal}
-use Rattle.text.specs.Text.{Appended, refused_line}
-use Rattle.text.proofs.TextLaws.{appended_then, refused_most}
+use Rattle.text.specs.Text.{Writes, refused_line}
+use Rattle.text.specs.declared.writer.Writer.{Writer}
+use Rattle.text.proofs.TextLaws.{refused_most}
+use Rattle.text.proofs.WriterLaws.{writes_then}
 use Rattle.rewriting.specs.Live.{live, live_count}
-use Rattle.rewriting.specs.Rewriting.{kept_count, head, times, timed_rest, rewritten, written}
+use Rattle.rewriting.specs.Rewriting.{kept_count, head, times, timed_rest, rewritten, written, Counted}
 use Rattle.rewriting.proofs.LiveLaws.{Once, live_length, live_most, live_from, live_new, live_listed, live_all}
+use Rattle.rewriting.proofs.LiveLaws.{live_cut}
 
 -- a list with three numbers or more: these, and the rest
 first_three : (f : List ℕ) → 3 ≤ length f → f ≡ get_or f 0 0 ∷ (get_or f 1 0 ∷ (get_or f 2 0 ∷ drop 3 f))
@@ -313,13 +321,13 @@ module _ (f : List ℕ) where
       → i ≡ change_count_at f
       → j ≡ times_at f
       → times_at f ≤ length f
-      → {o p q s : List ℕ} {at a b r : ℕ}
-      → Appended o at (take (j - i) (drop i f)) p a
-      → Appended p a times q b
-      → Appended q b (lent j) s r
-      → Appended o at (timed_rest f) s r
-  appended_rest i j from to long {o} {s = s} {at} {r = r} x y z =
-      subst (λ (l : List ℕ). Appended o at l s r) parts (appended_then (appended_then x y) z)
+      → {u v w s : Writer}
+      → Writes u (take (j - i) (drop i f)) v
+      → Writes v times w
+      → Writes w (lent j) s
+      → Writes u (timed_rest f) s
+  appended_rest i j from to long {u} {s = s} x y z =
+      subst (λ (l : List ℕ). Writes u l s) parts (writes_then (writes_then x y) z)
     where
       changes_is : take (j - i) (drop i f) ≡ change_count f ∷ changes f
       changes_is =
@@ -337,33 +345,82 @@ module _ (f : List ℕ) where
           ∙ ap₂ (λ (c r : List ℕ). c ++ (times ++ r)) changes_is rest_is
 
   -- n and the count, the links and what follows them, one after another
-  pub appended_file :
-      (n k c : ℕ)
-      → n ≡ routers f
-      → k ≡ link_count f
-      → c ≡ live_count (lent 3) k
-      → {o p q s : List ℕ} {a b r : ℕ}
-      → Appended o 0 (head n c) p a
-      → Appended p a (live (lent 3) k) q b
-      → Appended q b (timed_rest f) s r
-      → Appended o 0 (rewritten f) s r
-  unfolding rewritten
-  appended_file n k c en ek ec {o} {p} {q} {s} {a} {b} {r} x y z =
-      subst (λ (w : List ℕ). Appended o 0 w s r) whole_text_lem (appended_then (appended_then x y) z)
-    where
-      count_is : c ≡ kept_count f
-      count_is = ec ∙ ap₂ live_count (lent_is 3) ek
+  module _ (n k at : ℕ) (read : Counted f n k at) where
+    -- the links, as they are lent
+    abbrev lent_links : List ℕ
+    lent_links = take (3 + 5 * k - 3) (drop 3 f)
 
-      head_is : head n c ≡ head (routers f) (kept_count f)
-      head_is = ap₂ head en count_is
+    links_long : length lent_links ≡ 5 * k
+    links_long = omega (arith, length-take (3 + 5 * k - 3) (drop 3 f), length-drop 3 f, read.size, read.count_is)
 
-      links_is : live (lent 3) k ≡ live (links f) (link_count f)
-      links_is = ap₂ live (lent_is 3) ek
+    pub links_counted : entry_count lent_links ≡ k
+    links_counted = entry_count_is lent_links k links_long
 
-      whole_text_lem : (head n c ++ live (lent 3) k) ++ timed_rest f ≡ rewritten f
-      whole_text_lem =
-          append_assoc (head n c) (live (lent 3) k) (timed_rest f)
-          ∙ ap₂ (λ (h l : List ℕ). h ++ (l ++ timed_rest f)) head_is links_is
+    pub links_whole : length lent_links ≡ 5 * entry_count lent_links
+    links_whole = omega (arith, links_long, links_counted)
+
+    links_are :
+        (live lent_links (entry_count lent_links) ≡ live (links f) (link_count f))
+        × (live_count lent_links (entry_count lent_links) ≡ kept_count f)
+    links_are =
+        let size = length-drop 3 f in
+        let cut = live_cut (drop 3 f) (3 + 5 * k - 3) k (omega (arith, read.size, read.count_is)) (omega arith) in (
+          ap (live lent_links) links_counted ∙ cut.0 ∙ ap (live (links f)) read.count_is,
+          ap (live_count lent_links) links_counted ∙ cut.1 ∙ ap (live_count (links f)) read.count_is,
+        )
+
+    pub appended_file :
+        (c : ℕ)
+        → c ≡ live_count lent_links (entry_count lent_links)
+        → {u v w s : Writer}
+        → Writes u (head n c) v
+        → Writes v (live lent_links (entry_count lent_links)) w
+        → Writes w (timed_rest f) s
+        → Writes u (rewritten f) s
+    unfolding rewritten
+    appended_file c counted {u} {s = s} x y z =
+        subst (λ (l : List ℕ). Writes u l s) whole_text_lem (writes_then x (writes_then y z))
+      where
+        head_is : head n c ≡ head (routers f) (kept_count f)
+        head_is = ap₂ head read.routers_is (counted ∙ links_are.1)
+
+        whole_text_lem :
+            head n c ++ (live lent_links (entry_count lent_links) ++ timed_rest f)
+            ≡ rewritten f
+        whole_text_lem = ap₂ (λ (h l : List ℕ). h ++ (l ++ timed_rest f)) head_is links_are.0
+
+-- ---- what code reads of an accepted file: x is what `examine` gave
+pub read_parts :
+    (f : List ℕ) (x : Contents)
+    → 0 ≡ file_refusal Old f
+    → x ≡ contents_by Old f
+    → Counted f x.n x.links (x.changes.at + 5 * x.changes.count)
+read_parts f x told said = record {
+  size = whole.size;
+  routers_is = n_is;
+  routers_most = omega (arith, n_is, router_count_most (routers f) whole.routers_in);
+  count_is = links_is;
+  count_most = omega (arith, links_is, links_most f whole.routers_in whole.most_links_lem);
+  at_is = omega (arith, at_is, changes_is);
+}
+  where
+    whole : Accepted Old f
+    whole = accepted_of Old f (sym told)
+
+    is-contents : x ≡ contents Old f
+    is-contents = said ∙ by_accepted Old f (sym told)
+
+    n_is : x.n ≡ routers f
+    n_is = ap (λ (c : Contents). c.n) is-contents ∙ contents_n Old f
+
+    links_is : x.links ≡ link_count f
+    links_is = ap (λ (c : Contents). c.links) is-contents ∙ contents_links Old f
+
+    at_is : x.changes.at ≡ changes_at f
+    at_is = ap (λ (c : Contents). c.changes.at) is-contents ∙ (contents_changes Old f).0
+
+    changes_is : x.changes.count ≡ change_count f
+    changes_is = ap (λ (c : Contents). c.changes.count) is-contents ∙ (contents_changes Old f).1
 
 -- ---- the program
 -- The first bytes of an input decide, if they are more than the largest file has,
@@ -388,3 +445,6 @@ written_room f = by_refusal (ℕ_discrete (file_refusal Old f) 0)
         let short = accepted_most Old f (accepted_of Old f z) in
         omega (arith, ap length (written_accepted f z), rewritten_most f z, short)
     by_refusal (no a) = omega (arith, ap length (written_refused f a), refused_most (file_refusal Old f))
+
+-- both returns of the code
+pub ruleset returns = (read_parts, refusal_positive)

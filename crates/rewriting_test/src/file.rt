@@ -1,12 +1,11 @@
 // The file of a case.
 use crate::{large, output};
-use cases::read;
 
 // The words `half` and `full` stand for files by a rule: no digit of a file is an h or an l.
 pub fn run(rt: &HostRuntime, words: &[u8]) {
-    if read::find(words, b'h') < words.len() {
+    if words.contains(&b'h') {
         large::half(rt);
-    } else if read::find(words, b'l') < words.len() {
+    } else if words.contains(&b'l') {
         large::full(rt);
     } else {
         written(rt, words);
@@ -15,7 +14,6 @@ pub fn run(rt: &HostRuntime, words: &[u8]) {
 
 fn written(rt: &HostRuntime, hexadecimal: &[u8]) {
     let mut file = [0u8; 1024];
-    let unhexed = hexadecimal::unhex(hexadecimal, &mut file);
-    let length = unhexed.length;
+    let (Ok(length) | Err(length)) = hexadecimal::unhex(hexadecimal, &mut file);
     output::print(rt, &file[..length]);
 }

@@ -80,3 +80,6 @@ module _ (n : ℕ) (m : List ℕ) (s : ℕ) (d h : List ℕ) where
     pub hops_left : hop_row n m s d h ≡ h
     unfolding hop_row
     hops_left = rw e refl
+
+-- the laws by which code knows the two rows
+pub ruleset rows = (sizes_are, distances_row, hops_row, distances_left, hops_left)

@@ -1,33 +1,14 @@
--- Loops that go through a row from the front, cell j in turn j. A turn writes no cell but its own: so what was done to
--- the cells below j stays, and each cell from j on is as it was when its turn comes.
---     Blanked v d j          the cells below j hold v
+-- A loop that goes through two rows from the front, cell j in turn j. A turn writes no cell but its own: so what was
+-- done to the cells below j stays, and each cell from j on is as it was when its turn comes.
 --     Swept R d₀ h₀ d h j    two rows were d₀ and h₀: the cells below j were changed as R allows, the others not
--- Of each: it holds at the start (`_none`), and after one turn more (`_more`; `swept_same` where nothing was written).
+-- It holds at the start (`swept_none`), and after one turn more (`swept_more`; `swept_same` where nothing was written).
 use mathlib.Core.Path.{◌≡◌, refl, ◌∙◌}
 use mathlib.Core.Logic.{◌≢◌}
 use mathlib.Core.List.{List}
 use Prim.Native.Nat.{ℕ, ◌+◌, ◌<◌, ◌≤◌}
-use Rattle.area.specs.Limits.{width}
 use native.Mathlib.Omega.{arith}
 use borrow.Author.Count.{below_none, below_more}
-use lib.ListN.{length, get_or, set, length-set}
-use lib.Seq.{get_or-set_same, get_or-set_other}
-
-pub record Blanked (v : ℕ) (d : List ℕ) (j : ℕ) : Type 0 where
-  pub size : length d ≡ width
-  pub done : (k : ℕ) → k < j → get_or d k 0 ≡ v
-
-pub blanked_none : (v : ℕ) (d : List ℕ) → length d ≡ width → Blanked v d 0
-blanked_none v d e = record { size = e; done = below_none _ }
-
-pub blanked_more : (v : ℕ) (d : List ℕ) (j : ℕ) → Blanked v d j → j < width → Blanked v (set d j v) (j + 1)
-blanked_more v d j b l = record {
-  size = length-set d j v ∙ b.size;
-  done =
-      below_more (λ k. get_or (set d j v) k 0 ≡ v) j
-      (λ k h. get_or-set_other d j k v 0 (λ e. let x : ⊥ = omega arith in x) ∙ b.done k h)
-      (get_or-set_same d j v 0 (omega (arith, b.size)));
-}
+use lib.ListN.{length, get_or}
 
 module _ (R : ℕ → ℕ → ℕ → ℕ → ℕ → Type 0) (d₀ h₀ : List ℕ) where
   pub record Swept (d h : List ℕ) (j : ℕ) : Type 0 where

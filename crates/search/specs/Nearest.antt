@@ -1,5 +1,5 @@
 -- Which router is settled next. The contract of src/nearest.rt cites this; it is no part of what the search promises.
-use Rattle.std.specs.Prelude.{ℕ, ◌<◌, ◌≤◌, ◌≡◌, false, List, get_or}
+use Rattle.std.specs.Prelude.{ℕ, ◌<◌, ◌≤◌, ◌≡◌, false, List, Option, None, Some, get_or}
 use Rattle.area.specs.Limits.{unreached}
 use Rattle.sets.specs.Sets.{bit}
 
@@ -14,3 +14,8 @@ pub record Nearest (n : ℕ) (d : List ℕ) (σ r : ℕ) : Type 0 where
       → bit σ j ≡ false
       → get_or d j 0 < unreached
       → (r < n) × (get_or d r 0 ≤ get_or d j 0)
+
+-- the router that was found, and n where there is none
+abbrev pub found_or : (n : ℕ) (found : Option ℕ) → ℕ
+found_or n None = n
+found_or n (Some r) = r

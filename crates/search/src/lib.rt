@@ -24,6 +24,7 @@ use offers::{first_hop, offer};
 use topology::usable;
 
 // The source's rows of distances and of next hops; where a size is wrong, nothing is written.
+#[tactic(auto, using(crate::proofs::RowsLaws::rows))]
 pub fn search(n: usize, metric: &[u32], source: usize, dist: &mut [u32], hops: &mut [Set])
     ensures distances { dist.new
         ≡ distance_row n metric.now source dist.old hops.old }
@@ -36,43 +37,24 @@ pub fn search(n: usize, metric: &[u32], source: usize, dist: &mut [u32], hops: &
 }
 
 // Are these the sizes that a search needs?
+#[tactic(auto, unfolding(crate::specs::Rows::are_sizes))]
 fn are_sizes(n: usize, cells: usize, distances: usize, sets: usize) -> bool
     ensures { result ≡ are_sizes n cells distances sets }
 {
-    if WIDTH < n {
-        return false;
-    }
-    if cells != CELLS {
-        return false;
-    }
-    if distances != WIDTH {
-        return false;
-    }
-    sets == WIDTH
+    n <= WIDTH && cells == CELLS && distances == WIDTH && sets == WIDTH
 }
 
-// The source's rows. Those of a router from n on are blank.
+// The source's rows. At first no router is reached, and none has a next hop; those of a router from n on stay so.
 fn rows(n: usize, metric: &[u32], source: usize, dist: &mut [u32], hops: &mut [Set])
     requires n_le_width { (n ≤ width) × (length metric.now ≡ width * width) }
     requires dist_len { (length dist.old ≡ width) × (length hops.old ≡ width) }
     ensures dist_after { dist.new ≡ build width (distance_cell n metric.now source) }
     ensures hops_after { hops.new ≡ build width (hop_cell n metric.now source) }
 {
-    blank(dist, hops);
+    dist.fill(UNREACHED);
+    hops.fill(0);
     if source < n {
         settle(n, metric, source, dist, hops);
-    }
-}
-
-// No router is reached, and none has a next hop.
-fn blank(dist: &mut [u32], hops: &mut [Set])
-    requires { (length dist.old ≡ width) × (length hops.old ≡ width) }
-    ensures by_index { (j : ℕ) → j < width → get_or dist.new j 0 ≡ unreached }
-    ensures by_index_2 { (j : ℕ) → j < width → get_or hops.new j 0 ≡ 0 }
-{
-    for j in 0..WIDTH {
-        dist[j] = UNREACHED;
-        hops[j] = 0;
     }
 }
 
@@ -88,11 +70,7 @@ fn settle(n: usize, metric: &[u32], source: usize, dist: &mut [u32], hops: &mut 
 {
     let mut settled: Set = 0;
     dist[source] = 0;
-    loop {
-        let q = nearest(n, dist, settled);
-        if q == n {
-            return;
-        }
+    while let Some(q) = nearest(n, dist, settled) {
         settled = sets::add(settled, q);
         relax(n, metric, source, q, dist, hops);
     }
@@ -108,6 +86,7 @@ fn relax(n: usize, metric: &[u32], source: usize, q: usize, dist: &mut [u32], ho
 {
     let base = dist[q];
     let own = hops[q];
+    // By number: `usable` asks for a pair of routers.
     for j in 0..n {
         let m = usable(n, metric, q, j);
         if m < UNUSED {

@@ -1,23 +1,23 @@
 // The router that the search for one source settles next.
-ghost use Rattle.std.specs.Prelude.{◌≤◌, length};
-ghost use Rattle.search.specs.Nearest.{Nearest};
+ghost use Rattle.std.specs.Prelude.{◌≤◌, ◌<◌, IfSome, length};
+ghost use Rattle.search.specs.Nearest.{Nearest, found_or};
 
 use area::limits::{Set, UNREACHED};
 
-// The nearest reached router that is not settled; n where there is none.
-pub(crate) fn nearest(n: usize, dist: &[u32], settled: Set) -> usize
+// The nearest reached router that is not settled.
+pub(crate) fn nearest(n: usize, dist: &[u32], settled: Set) -> Option<usize>
     requires { n ≤ length dist.now }
-    ensures { Nearest n dist.now settled result }
+    ensures inside { IfSome result (λ r. r < n) }
+    ensures nearest { Nearest n dist.now settled (found_or n result) }
 {
-    let mut best = n;
+    let mut best = None;
     let mut low = UNREACHED;
+    // By number: that of the nearest is the answer, and the row may be longer than n.
     for k in 0..n {
         let d = dist[k];
-        if d < low {
-            if !sets::member(settled, k) {
-                low = d;
-                best = k;
-            }
+        if d < low && !sets::member(settled, k) {
+            low = d;
+            best = Some(k);
         }
     }
     best

@@ -3,6 +3,7 @@
 --     four_none                the empty set has none
 --     beyond_next, beyond_four     members are left out one after another, and after four turns these are the four
 --                              lowest
+--     ones_size                the digits 1 of a set are as many as its members
 --     and_beyond, beyond_empty     s & (s - 1) is s without its lowest member; the empty set stays
 -- `size k s` counts the members below k, and the lowest member has none below it.
 use Prim.Native.Nat.{ℕ, zero, suc, ◌+◌, ◌-◌, ◌/◌, ◌%◌, ◌^◌, ◌≤◌, ◌<◌}
@@ -16,9 +17,13 @@ use native.Mathlib.Omega.{arith}
 use borrow.Author.Tests.{lt-ltb, le-ltb, le-leb, lt-leb, eq-eqb, ne_eqb}
 use Rattle.std.proofs.Math.Dec.{ltb, leb}
 use Rattle.std.specs.Int.Bits.{bit_and, and_lt}
+use Rattle.std.specs.Int.RustNames.{count_ones}
+use Rattle.std.proofs.lemmas.Nat.{ones_le_self}
+use lib.Count.{ones_step}
 use Rattle.area.proofs.TestLaws.{look, both_true, and_true, and_false}
 use Rattle.sets.specs.Sets.{num, bit, set_of, without}
-use Rattle.sets.proofs.SetLaws.{bit_zero, bit_set_of, bit_lt, set_of_lt, set_of_same, set_of_none, is_set_of, bit_and_lem}
+use Rattle.sets.proofs.SetLaws.{num_digit, bit_zero, bit_set_of, bit_lt, set_of_lt}
+use Rattle.sets.proofs.SetLaws.{set_of_same, set_of_none, is_set_of, bit_and_lem}
 use Rattle.sets.specs.Counts.{size}
 use Rattle.sets.proofs.CountLaws.{size_is, total_next, total_none}
 use Rattle.sets.specs.Four.{four, beyond}
@@ -93,6 +98,10 @@ module _ (w s : ℕ) where
       more true c (no f) = rw (le-leb i c (omega arith)) (omega arith)
       more false c d = omega arith
 
+  pub beyond_lt : (i : ℕ) → beyond w i s < 2 ^ w
+  unfolding beyond
+  beyond_lt i = set_of_lt w (left i)
+
   pub beyond_next : (i : ℕ) → beyond w 1 (beyond w i s) ≡ beyond w (suc i) s
   unfolding beyond
   beyond_next i =
@@ -138,6 +147,19 @@ size_half (suc k) s =
     size_next (suc k) s
     ∙ ap₂ (λ (x : ℕ) (b : Bool). x + num b) (size_half k s) (bit_half s k)
     ∙ omega (arith, size_next k (s / 2))
+
+-- the digits 1 of a set are as many as its members
+pub ones_size : (w s : ℕ) → s < 2 ^ w → count_ones s ≡ size w s
+ones_size zero s h = let none : s ≡ 0 = omega arith in rw none (omega (arith, ones_le_self 0, size_zero 0))
+ones_size (suc w) s h =
+    omega (
+      arith,
+      ones_step s,
+      ones_size w (s / 2) (omega (arith, pow-suc 2 w)),
+      size_half w s,
+      ap num (bit_last s),
+      num_digit (s % 2) (omega arith),
+    )
 
 -- a digit above the lowest 1 is kept, and that one is not
 abbrev Keeps : (k s : ℕ) → Type 0

@@ -15,7 +15,8 @@
 --     added_below                              a set of routers below n and one more of them
 use Rattle.std.specs.Prelude.{ℕ, zero, suc, ◌+◌, ◌-◌, ◌*◌, ◌/◌, ◌%◌, ◌^◌, ◌≤◌, ◌<◌, ◌≡◌, Bool, ◌&&◌, ◌||◌, ◌≢◌, ◌⊎◌}
 use Rattle.std.proofs.Math.Path.{refl, ap}
-use Rattle.std.proofs.Common.{sym, ap₂, ◌∙◌, inl, inr, ⊎_elim, not-suc-le-zero, le_of_suc-le-suc, eq-or-lt_of_le, sub-add_cancel, mul_assoc, mod-eq_of_lt, add-one, pow_pos, pow-add, pow_mono, shl_exact}
+use Rattle.std.proofs.Common.{sym, ap₂, ◌∙◌, inl, inr, ⊎_elim, not-suc-le-zero, le_of_suc-le-suc, eq-or-lt_of_le}
+use Rattle.std.proofs.Common.{sub-add_cancel, mul_assoc, mod-eq_of_lt, add-one, pow_pos, pow-add, pow_mono, shl_exact}
 use Rattle.std.proofs.Math.Bool.{true, false, not}
 use Rattle.std.proofs.lemmas.Bool.{false≢true}
 use Rattle.std.proofs.Math.Nat.{pow-succ', mod-one, div-eq_of_lt, add-mul-div_right, add-mul-mod_self_right}
@@ -101,7 +102,7 @@ set_of_same (suc w) p q f =
     (set_of_same w p q (λ k h. f k (omega arith)))
     (f w (omega arith))
 
-num_digit : (d : ℕ) → d < 2 → num (eqb d 1) ≡ d
+pub num_digit : (d : ℕ) → d < 2 → num (eqb d 1) ≡ d
 num_digit zero h = refl
 num_digit (suc zero) h = refl
 num_digit (suc (suc d)) h = absurd (omega arith)

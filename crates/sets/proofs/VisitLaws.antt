@@ -6,9 +6,11 @@
 --     visit_start, visit_more, visit_next, visit_end       a loop that visits them
 --     visit_member, visit_left, visit_gone, visit_less     the next one is a member; those that are left then, and the
 --                      others; they are fewer
-use Rattle.std.specs.Prelude.{ℕ, zero, suc, ◌-◌, ◌/◌, ◌%◌, ◌^◌, ◌≤◌, ◌<◌, ◌≡◌, true, false, ◌&&◌, ◌≢◌, ◌⊎◌, eqb}
+--     visit_first      the list of the members begins with the next one, and goes on with those that are left then
+use Rattle.std.specs.Prelude.{ℕ, zero, suc, ◌-◌, ◌/◌, ◌%◌, ◌^◌, ◌≤◌, ◌<◌, ◌≡◌, true, false, ◌&&◌, ◌≢◌, ◌⊎◌, ◌∷◌, eqb}
 use Rattle.std.proofs.Math.Path.{refl}
-use Rattle.std.proofs.Common.{sym, ap, subst, ◌∙◌, inl, inr, ⊎_elim, not-suc-le-zero, le_of_suc-le-suc, arith, le-leb, eq-eqb, ne_eqb}
+use Rattle.std.proofs.Common.{sym, ap, subst, ◌∙◌, inl, inr, ⊎_elim, not-suc-le-zero}
+use Rattle.std.proofs.Common.{le_of_suc-le-suc, arith, le-leb, eq-eqb, ne_eqb}
 use Rattle.std.proofs.Math.Bool.{not}
 use Rattle.std.proofs.lemmas.Bool.{false≢true, lt-leb}
 use Rattle.std.proofs.Math.Decide.{dec_lt, ℕ_discrete}
@@ -23,6 +25,8 @@ use Rattle.sets.proofs.SetLaws.{bit_zero, bit_lt, set_of_same, no_members, remov
 use Rattle.sets.proofs.SetLaws.{removed_self, removed_still}
 use Rattle.sets.specs.Counts.{size}
 use Rattle.sets.proofs.CountLaws.{size_is, total_term, total_full}
+use Rattle.sets.specs.Members.{members}
+use Rattle.sets.proofs.MembersLaws.{members_from}
 use Rattle.sets.specs.Four.{beyond}
 use Rattle.sets.proofs.FourLaws.{bit_half, bit_last, and_beyond}
 
@@ -152,6 +156,22 @@ module _ (w left q : ℕ) (fits : left < 2 ^ w) (some : left ≢ 0) (is : q ≡ 
           (λ t. t)
           (look (bit left k)))
     ]
+
+-- the member, and those that are left then, make up the list
+pub visit_first :
+    (w left q r : ℕ)
+    → left < 2 ^ w
+    → left ≢ 0
+    → q ≡ lowest w (bit left)
+    → r ≡ beyond w 1 left
+    → members w left ≡ q ∷ members w r
+visit_first w left q r fits some is e =
+    let h = inside w left q fits some is in
+    let r_is = e ∙ after w left q fits some is in
+    rw r_is
+    (members_from left w (removed w left q) q h
+    (λ k l. lowest_below (bit left) w k (omega arith)) (visit_member w left q fits some is).1
+    (removed_self w left q h) (λ k l f. removed_other w left q k l f))
 
 -- then fewer are left
 pub visit_less : (w left r : ℕ) → left < 2 ^ w → left ≢ 0 → r ≡ beyond w 1 left → r < left

@@ -3,20 +3,25 @@
 //     size                             how many members a set has
 //     entry                            a router's set in a table of sets
 //     add, remove, join, without       a new set from one or two
-//     lowest, rest                     the lowest member, and the others: so a loop visits the members of a set
+//     lowest, rest                     the lowest member, and the others
+//     members                          the members one after another, for a loop over them (visiting.rt)
 //     four                             the four lowest members
-// What each promises is specs/Sets.antt, Counts.antt and Four.antt; why bit operations do it is the last part of
-// proofs/SetLaws.antt, and of proofs/FourLaws.antt; the laws of a loop over the members are proofs/VisitLaws.antt.
+// What each promises is specs/Sets.antt, Counts.antt, Members.antt and Four.antt; why bit operations do it is the last
+// part of proofs/SetLaws.antt, and of proofs/FourLaws.antt; the laws of a loop over the members are
+// proofs/VisitLaws.antt.
 #![tactic(auto)]
+
+pub mod visiting;
 
 ghost use Rattle.std.specs.Prelude.{◌≡◌, ◌≤◌, eqb, get_or};
 ghost use Rattle.area.specs.Limits.{width};
 ghost use Rattle.area.specs.Tests.{lowest};
-ghost use Rattle.sets.specs.Sets.{num, bit, added, removed, union, without, subset};
+ghost use Rattle.sets.specs.Sets.{bit, added, removed, union, without, subset};
 ghost use Rattle.sets.specs.Counts.{size};
 ghost use Rattle.sets.specs.Four.{four, beyond};
 
 use area::limits::{Set, WIDTH};
+use visiting::Members;
 
 // Is router k a member of s?
 pub fn member(s: Set, k: usize) -> bool
@@ -75,22 +80,12 @@ pub fn entry(table: &[Set], k: usize) -> Set
 }
 
 // How many members has s?
+#[tactic(auto, using(crate::proofs::FourLaws::ones_size))]
 pub fn size(s: Set) -> usize
     ensures upper_bound { result ≤ width }
     ensures count { result ≡ size width s }
 {
-    let mut count = 0;
-    for k in 0..WIDTH {
-        count += one_if(member(s, k));
-    }
-    count
-}
-
-// 1 where a test holds.
-fn one_if(test: bool) -> usize
-    ensures { (result ≤ 1) × (result ≡ num test) }
-{
-    if test { 1 } else { 0 }
+    s.count_ones() as usize
 }
 
 // The four lowest members of s; all of them where it has fewer.
@@ -103,7 +98,7 @@ pub fn four(s: Set) -> Set
     without(s, rest(from_fourth))
 }
 
-// The lowest member of s; WIDTH where it has none.
+// The lowest member of s; WIDTH where it has none, as `lowest` of area/specs/Tests.antt has it for every test.
 pub fn lowest(s: Set) -> usize
     ensures member { result ≡ lowest width (bit s) }
 {
@@ -115,4 +110,11 @@ pub fn rest(s: Set) -> Set
     ensures set { result ≡ beyond width 1 s }
 {
     if s == 0 { 0 } else { s & (s - 1) }
+}
+
+// The members of s, the lowest first.
+pub fn members(s: Set) -> Members
+    ensures all_left { result.left ≡ s }
+{
+    Members { left: s }
 }

@@ -9,6 +9,7 @@ use plan::Record;
 pub(crate) fn record(n: u8, words: &[u8]) -> Record {
     let mut r = plan::blank();
     r.n = n;
+    // By the numbers of the text: a word has two of them.
     for k in 0..read::MOST {
         r = with_word(r, words, k);
     }

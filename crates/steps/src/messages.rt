@@ -1,42 +1,40 @@
-// A message between two routers, over the tables per router that it reads and changes. What `deliver` promises is
-// specs/Lent.antt.
+// A message between two routers. The record of which `deliver` promises is `put` of specs/Lent.antt.
 ghost use Rattle.std.specs.Prelude.{◌≡◌, ◌<◌};
 ghost use Rattle.area.specs.Limits.{width};
-ghost use Rattle.machine.specs.Answers.{reply_of};
-ghost use Rattle.machine.specs.Machine.{listens};
-ghost use Rattle.steps.specs.Lent.{Delivers};
+ghost use Rattle.plan.specs.declared.Record.{Record};
+ghost use Rattle.machine.specs.Answers.{reply_of, gives};
+ghost use Rattle.machine.specs.Machine.{deliver, listens};
+ghost use Rattle.steps.specs.Lent.{AreSame, put};
 
-use area::limits::{Set, WIDTH};
+use crate::lent::Lent;
+use area::limits::Set;
 use area::refusal::Refusal;
-use machine::{Answer, DONE, HOLDING, ONGOING};
+use machine::states::State;
+use machine::{Answer, Effect};
 use sets::{member, remove};
 
-// The message that the sender is done arrives at the receiver.
-#[tactic(auto, unfolding(machine::specs::Machine::deliver))]
-pub(crate) fn deliver(
-    waiting: &mut [Set; WIDTH],
-    telling: &[Set; WIDTH],
-    states: &[u8; WIDTH],
-    sender: usize,
-    receiver: usize,
-) -> Answer
-    requires { (sender < width) × (receiver < width) }
-    ensures { Delivers telling.now states.now
-        waiting.old waiting.new sender receiver (reply_of result) }
-{
-    let at = states[sender];
-    if at != DONE {
-        return Answer::Refused(Refusal::NotDone);
+impl Lent<'_> {
+    // The message that the sender is done arrives at the receiver.
+    #[tactic(auto, unfolding(machine::specs::Machine::deliver))]
+    pub(crate) fn deliver(&mut self, sender: usize, receiver: usize) -> Answer
+        requires { (sender < width) × (receiver < width) }
+        ensures outcome { (x : Record) →
+            gives (put x self.new) (reply_of result) ≡ deliver (put x self.old) sender receiver }
+        ensures same { AreSame self.old self.new }
+    {
+        if self.states[sender] != State::Done.number() {
+            return Err(Refusal::NotDone);
+        }
+        if !member(self.telling[sender], receiver) {
+            return Err(Refusal::NotTold);
+        }
+        let waits_for = self.waiting[receiver];
+        if !listens(self.states[receiver], waits_for, sender) {
+            return Ok(Effect::Ignored);
+        }
+        self.waiting[receiver] = remove(waits_for, sender);
+        Ok(Effect::Applied)
     }
-    if !member(telling[sender], receiver) {
-        return Answer::Refused(Refusal::NotTold);
-    }
-    let waits_for = waiting[receiver];
-    if !listens(states[receiver], waits_for, sender) {
-        return Answer::Ignored;
-    }
-    waiting[receiver] = remove(waits_for, sender);
-    Answer::Ok
 }
 
 // Does a router in this state, which waits for these routers, listen for the message of the sender?
@@ -44,11 +42,5 @@ pub(crate) fn deliver(
 fn listens(state: u8, waits: Set, sender: usize) -> bool
     ensures { result ≡ listens state waits sender }
 {
-    if state == HOLDING {
-        return member(waits, sender);
-    }
-    if state == ONGOING {
-        return member(waits, sender);
-    }
-    false
+    matches!(State::from(state), State::Holding | State::Ongoing) && member(waits, sender)
 }

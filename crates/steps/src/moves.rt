@@ -1,131 +1,112 @@
-// The moves of one router, over the tables per router that each reads and changes, and the times. Each is the call of
-// its kind: first the refusals in their order, of which 23 is that the event leads nowhere from the router's state
-// (`State::after`); then its entry is written. What they promise is specs/Lent.antt.
-ghost use Rattle.std.specs.Prelude.{◌<◌};
+// The moves of one router. Each is the call of its kind: first the refusals in their order, of which 23 is that the
+// event leads nowhere from the router's state (`State::after`); then its entry is written. The record of which
+// they promise is `put` of specs/Lent.antt.
+ghost use Rattle.std.specs.Prelude.{◌≡◌, ◌<◌, IfOk, IfErr};
 ghost use Rattle.area.specs.Limits.{width};
-ghost use Rattle.machine.specs.Answers.{reply_of};
-ghost use Rattle.steps.specs.Lent.{Learns, Releases, Writes, Finishes};
+ghost use Rattle.area.specs.Refusals.{wrong_state, refusal_number};
+ghost use Rattle.plan.specs.declared.Record.{Record};
+ghost use Rattle.machine.specs.Answers.{reply_of, gives};
+ghost use Rattle.machine.specs.Machine.{learn, release, write, finish};
+ghost use Rattle.machine.specs.States.{named, next_state};
+ghost use Rattle.steps.specs.Lent.{AreSame, put};
 
+use crate::lent::Lent;
 use crate::timers::{due_time, held_until, must_wait};
-use area::limits::{Set, WIDTH};
 use area::refusal::Refusal;
-use machine::Answer;
-use machine::states::{Event, NextState, named};
+use machine::states::{Event, State};
+use machine::{Answer, Effect};
 use sets::{add, is_subset, member};
 
-// A router learns of the change.
-#[tactic(auto, unfolding(machine::specs::Machine::learn))]
-pub(crate) fn learn(
-    states: &mut [u8; WIDTH],
-    clock: u32,
-    learn_times: &mut [u32; WIDTH],
-    i: usize,
-) -> Answer
-    requires { i < width }
-    ensures { Learns clock states.old learn_times.old
-        states.new learn_times.new i (reply_of result) }
-{
-    let NextState::To(holding) = named(states[i]).after(Event::Learn) else {
-        return Answer::Refused(Refusal::State);
-    };
-    states[i] = holding.number();
-    learn_times[i] = clock;
-    Answer::Ok
+impl Lent<'_> {
+    // A router learns of the change.
+    #[tactic(auto, unfolding(machine::specs::Machine::learn))]
+    pub(crate) fn learn(&mut self, i: usize) -> Answer
+        requires { i < width }
+        ensures outcome { (x : Record) →
+            gives (put x self.new) (reply_of result) ≡ learn (put x self.old) i }
+        ensures same { AreSame self.old self.new }
+    {
+        let holding = next(self.states[i], Event::Learn)?;
+        self.states[i] = holding.number();
+        self.learn_times[i] = *self.clock;
+        Ok(Effect::Applied)
+    }
+
+    // The hold-down of a router is over.
+    #[tactic(auto, unfolding(machine::specs::Machine::release))]
+    pub(crate) fn release(&mut self, i: usize) -> Answer
+        requires { i < width }
+        ensures outcome { (x : Record) →
+            gives (put x self.new) (reply_of result) ≡ release (put x self.old) i }
+        ensures same { AreSame self.old self.new }
+    {
+        let ongoing = next(self.states[i], Event::Release)?;
+        let now = *self.clock as u64;
+        if now < held_until(self.learn_times[i], self.hold_time) {
+            return Err(Refusal::TooEarly);
+        }
+        self.states[i] = ongoing.number();
+        Ok(Effect::Applied)
+    }
+
+    // A router writes its new next hops to destination d.
+    #[tactic(auto, unfolding(machine::specs::Machine::write, machine::specs::Machine::ready))]
+    pub(crate) fn write(&mut self, i: usize, d: usize) -> Answer
+        requires { i < width }
+        ensures outcome { (x : Record) →
+            gives (put x self.new) (reply_of result) ≡ write (put x self.old) i d }
+        ensures same { AreSame self.old self.new }
+    {
+        // The next state is ongoing again, so it need not be stored.
+        next(self.states[i], Event::Write)?;
+        let due_at = due_time(
+            self.learn_times[i],
+            self.hold_time,
+            self.ranks[i],
+            self.step_time,
+        );
+        if must_wait(self.waiting[i], *self.clock, due_at) {
+            return Err(Refusal::Waiting);
+        }
+        let so_far = self.written[i];
+        if !member(self.due[i], d) || member(so_far, d) {
+            return Err(Refusal::NotDue);
+        }
+        self.written[i] = add(so_far, d);
+        Ok(Effect::Applied)
+    }
+
+    // A router has written all that is due, and is done.
+    #[tactic(auto, unfolding(machine::specs::Machine::finish, machine::specs::Machine::ready))]
+    pub(crate) fn finish(&mut self, i: usize) -> Answer
+        requires { i < width }
+        ensures outcome { (x : Record) →
+            gives (put x self.new) (reply_of result) ≡ finish (put x self.old) i }
+        ensures same { AreSame self.old self.new }
+    {
+        let done = next(self.states[i], Event::Finish)?;
+        let last_wait = due_time(
+            self.learn_times[i],
+            self.hold_time,
+            self.ranks[i],
+            self.step_time,
+        );
+        if must_wait(self.waiting[i], *self.clock, last_wait) {
+            return Err(Refusal::Waiting);
+        }
+        if !is_subset(self.due[i], self.written[i]) {
+            return Err(Refusal::Unwritten);
+        }
+        self.states[i] = done.number();
+        Ok(Effect::Applied)
+    }
 }
 
-// The hold-down of a router is over.
-#[tactic(auto, unfolding(machine::specs::Machine::release))]
-pub(crate) fn release(
-    states: &mut [u8; WIDTH],
-    hold_time: u16,
-    clock: u32,
-    learn_times: &[u32; WIDTH],
-    i: usize,
-) -> Answer
-    requires { i < width }
-    ensures { Releases hold_time clock learn_times.now
-        states.old states.new i (reply_of result) }
+// The state after an event, or the refusal where the event has no place.
+fn next(state: u8, event: Event) -> Result<State, Refusal>
+    ensures to { IfOk result (λ to. next_state (named state) event ≡ Some to) }
+    ensures nowhere { IfErr result (λ why. (next_state (named state) event ≡ None)
+        × (refusal_number why ≡ wrong_state)) }
 {
-    let NextState::To(ongoing) = named(states[i]).after(Event::Release) else {
-        return Answer::Refused(Refusal::State);
-    };
-    let now = clock as u64;
-    if now < held_until(learn_times[i], hold_time) {
-        return Answer::Refused(Refusal::TooEarly);
-    }
-    states[i] = ongoing.number();
-    Answer::Ok
-}
-
-// A router writes its new next hops to destination d.
-#[tactic(auto, unfolding(machine::specs::Machine::write, machine::specs::Machine::ready))]
-pub(crate) fn write(
-    ranks: &[u8; WIDTH],
-    waiting: &[Set; WIDTH],
-    due: &[Set; WIDTH],
-    states: &[u8; WIDTH],
-    written: &mut [Set; WIDTH],
-    hold_time: u16,
-    step_time: u16,
-    clock: u32,
-    learn_times: &[u32; WIDTH],
-    i: usize,
-    d: usize,
-) -> Answer
-    requires { i < width }
-    ensures { Writes ranks.now waiting.now due.now states.now
-        hold_time step_time clock learn_times.now
-        written.old written.new i d (reply_of result) }
-{
-    // The next state is ongoing again, so it need not be stored.
-    let NextState::To(_) = named(states[i]).after(Event::Write) else {
-        return Answer::Refused(Refusal::State);
-    };
-    let due_at = due_time(learn_times[i], hold_time, ranks[i], step_time);
-    if must_wait(waiting[i], clock, due_at) {
-        return Answer::Refused(Refusal::Waiting);
-    }
-    if !member(due[i], d) {
-        return Answer::Refused(Refusal::NotDue);
-    }
-    let so_far = written[i];
-    if member(so_far, d) {
-        return Answer::Refused(Refusal::NotDue);
-    }
-    written[i] = add(so_far, d);
-    Answer::Ok
-}
-
-// A router has written all that is due, and is done.
-#[tactic(auto, unfolding(machine::specs::Machine::finish, machine::specs::Machine::ready))]
-pub(crate) fn finish(
-    ranks: &[u8; WIDTH],
-    waiting: &[Set; WIDTH],
-    due: &[Set; WIDTH],
-    states: &mut [u8; WIDTH],
-    written: &[Set; WIDTH],
-    hold_time: u16,
-    step_time: u16,
-    clock: u32,
-    learn_times: &[u32; WIDTH],
-    i: usize,
-) -> Answer
-    requires { i < width }
-    ensures { Finishes ranks.now waiting.now due.now written.now
-        hold_time step_time clock learn_times.now
-        states.old states.new i (reply_of result) }
-{
-    let NextState::To(done) = named(states[i]).after(Event::Finish) else {
-        return Answer::Refused(Refusal::State);
-    };
-    let last_wait = due_time(learn_times[i], hold_time, ranks[i], step_time);
-    if must_wait(waiting[i], clock, last_wait) {
-        return Answer::Refused(Refusal::Waiting);
-    }
-    let all_written = is_subset(due[i], written[i]);
-    if !all_written {
-        return Answer::Refused(Refusal::Unwritten);
-    }
-    states[i] = done.number();
-    Answer::Ok
+    State::from(state).after(event).ok_or(Refusal::State)
 }

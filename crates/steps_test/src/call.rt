@@ -2,7 +2,6 @@
 ghost use Rattle.std.specs.Prelude.{◌<◌, ◌≤◌};
 
 use cases::read;
-use machine::Answer;
 
 // Is number k of the words the first of a step?
 pub(crate) fn is_step(words: &[u8], k: usize) -> bool {
@@ -10,7 +9,8 @@ pub(crate) fn is_step(words: &[u8], k: usize) -> bool {
     b'A' <= letter && letter <= b'Z'
 }
 
-// The kind of a step by its letter.
+// The kind of a step by its letter. The numbers are written out here, and not taken from the crate `machine`, so that a
+// wrong one there shows; 0, 7 and 255 are no kinds.
 pub(crate) fn kind(words: &[u8], k: usize) -> u8 {
     match read::mark(words, k) {
         b'L' => 1,
@@ -38,15 +38,6 @@ pub(crate) fn b(words: &[u8], k: usize) -> u8
         return 0;
     }
     a(words, k + 1)
-}
-
-// The number of an answer: 0 for ok, 255 for ignored, and the refusal's own.
-pub(crate) fn number(answer: Answer) -> u8 {
-    match answer {
-        Answer::Ok => 0,
-        Answer::Ignored => 255,
-        Answer::Refused(why) => why.number(),
-    }
 }
 
 // Puts the bytes of the step that begins with number k, if there is one, at a place of `bytes`, as far as there is room

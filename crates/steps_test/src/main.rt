@@ -1,6 +1,6 @@
 // Takes records through steps, by the cases of standard input, and prints the answers and the records. The first lines
 // of stdin say what a case is.
-//     run        the lines of the input
+//     main       the cases of the input, one after another
 //     records    the first record of a case: Plan's, one made by hand, or the one that the case before has left
 //     planning   Plan's record, and its sets of four
 //     taking     takes the steps of a case, one by one and then all at once
@@ -22,31 +22,19 @@ mod show;
 mod table;
 mod taking;
 
-use cases::{input, lines, print};
+use cases::{lines, print};
 use plan::Record;
 
 fn main(rt: HostRuntime) {
     let mut text = [0u8; 32768];
-    let length = input::standard(&rt, &mut text);
-    run(&rt, &text[..length]);
-    table::show(&rt);
-}
-
-fn run(rt: &HostRuntime, text: &[u8]) {
+    // A case may go on from the record that the one before has left.
     let mut left = records::blank(0, 0, 0);
-    for at in 0..text.len() {
-        left = case(rt, left, lines::line(text, at));
-    }
-}
-
-// A case may go on from the record that the one before has left. Gives the record that it leaves itself.
-fn case(rt: &HostRuntime, left: Record, line: &[u8]) -> Record {
-    if !lines::is_case(line) {
-        return left;
-    }
-    print::text(rt, lines::name(line));
-    print::byte(rt, b':');
-    parts(rt, left, lines::words(line))
+    lines::each_case(&rt, &mut text, |name, words| {
+        print::text(&rt, name);
+        print::byte(&rt, b':');
+        left = parts(&rt, left, words);
+    });
+    table::show(&rt);
 }
 
 // The words of the record, and after a colon those of the steps.

@@ -4,6 +4,7 @@ ghost use Rattle.area.specs.Limits.{width};
 
 use crate::{call, compare};
 use in_place::applied;
+use machine::kinds::Kind;
 use plan::Record;
 use steps::{Machine, Stepped};
 
@@ -25,24 +26,19 @@ pub(crate) fn differing(now: Record, words: &[u8], k: usize) -> u64
 // A step by the method of its kind. Kinds that have none are left to `step`.
 pub(crate) fn method(now: Record, kind: u8, a: u8, b: u8) -> Stepped {
     let machine = Machine { now };
-    match kind {
-        1 => machine.learn(a),
-        2 => machine.release(a),
-        3 => machine.write(a, b),
-        4 => machine.finish(a),
-        5 => machine.deliver(a, b),
-        6 => machine.tick(),
-        _ => machine.step(kind, a, b),
+    match Kind::try_from(kind) {
+        Ok(Kind::Learn) => machine.learn(a),
+        Ok(Kind::Release) => machine.release(a),
+        Ok(Kind::Write) => machine.write(a, b),
+        Ok(Kind::Finish) => machine.finish(a),
+        Ok(Kind::Deliver) => machine.deliver(a, b),
+        Ok(Kind::Tick) => machine.tick(),
+        Err(_) => machine.step(kind, a, b),
     }
 }
 
 fn unlike(x: Stepped, y: Stepped) -> u64
     ensures { result ≤ 7 * width + 7 }
 {
-    let x_next = x.next;
-    let y_next = y.next;
-    let x_answer = x.answer;
-    let y_answer = y.answer;
-    compare::records(x_next, y_next)
-        + compare::unlike(call::number(x_answer), call::number(y_answer))
+    compare::records(x.next, y.next) + compare::unlike(x.answer, y.answer)
 }

@@ -4,7 +4,8 @@ ghost use Rattle.area.specs.Limits.{most_changes};
 
 use area::limits::{CELLS, Set};
 use cases::{LONG_LIST, LONG_TABLE, lists, metrics, read};
-use plan::Record;
+use paths::Topology;
+use plan::{Change, Record};
 
 // The record for the links, the changes and the times of the words: all 0 where Plan refuses.
 pub(crate) fn record(words: &[u8]) -> Record {
@@ -41,21 +42,22 @@ fn plan(
     let mut old_hops = [0; CELLS];
     let mut new_dist = [0; CELLS];
     let mut new_hops = [0; CELLS];
-    let table = &old[..];
-    let changes = &list[..];
-    let p = plan::plan(
-        read::value(words, b'p', 0) as usize,
-        read::time(words, b'h', 0),
-        read::time(words, b'm', 1),
-        &table[0..CELLS],
-        &changes[0..bytes],
-        &mut new,
-        &mut old_dist,
-        &mut old_hops,
-        old_fours,
-        &mut new_dist,
-        &mut new_hops,
-        new_fours,
-    );
-    p.record
+    let change = Change {
+        n: read::value(words, b'p', 0) as usize,
+        hold_time: read::time(words, b'h', 0),
+        step_time: read::time(words, b'm', 1),
+        metrics: &old[..CELLS],
+        list: &list[..bytes],
+    };
+    let mut before = Topology {
+        dist: &mut old_dist,
+        hops: &mut old_hops,
+        fours: old_fours,
+    };
+    let mut after = Topology {
+        dist: &mut new_dist,
+        hops: &mut new_hops,
+        fours: new_fours,
+    };
+    plan::plan(change, &mut new, &mut before, &mut after).unwrap_or(plan::blank())
 }

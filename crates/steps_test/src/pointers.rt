@@ -10,6 +10,7 @@ use plan::Record;
 
 // A line for the destination of the word g, if there is one: each router with its next hops, as 0>1.
 pub(crate) fn show(rt: &HostRuntime, last: Record, words: &[u8]) {
+    // With no such word it is 256, which is no router.
     let d = read::value(words, b'g', 256) as usize;
     if d < WIDTH {
         to(rt, last, words, d);
@@ -37,8 +38,8 @@ fn routers(
 )
     requires { d < width }
 {
-    for r in 0..WIDTH {
-        router(rt, r, written[r], old_fours, new_fours, d);
+    for (r, set) in written.iter().enumerate() {
+        router(rt, r, *set, old_fours, new_fours, d);
     }
 }
 
@@ -52,16 +53,17 @@ fn router(
 )
     requires { (r < width) × (d < width) }
 {
-    let at = WIDTH * r + d;
-    if has(written, d) {
-        hops(rt, r, new_fours[at]);
+    let fours = if has(written, d) {
+        new_fours
     } else {
-        hops(rt, r, old_fours[at]);
-    }
+        old_fours
+    };
+    hops(rt, r, fours[WIDTH * r + d]);
 }
 
 // The next hops of one router.
 fn hops(rt: &HostRuntime, r: usize, four: Set) {
+    // A router's number is a bit of the set, and a place in no slice.
     for k in 0..WIDTH {
         hop(rt, r, four, k);
     }

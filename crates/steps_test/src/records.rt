@@ -9,6 +9,7 @@ use plan::Record;
 // The record with what the words say.
 pub(crate) fn with_words(left: Record, words: &[u8]) -> Record {
     let mut r = left;
+    // The number of a word is a place in no slice: it is looked for in the line.
     for k in 0..read::MOST {
         r = with_word(r, words, k);
     }

@@ -1,8 +1,10 @@
 // Parts of a line of the output.
 ghost use Rattle.std.specs.Prelude.{◌<◌};
 
-use area::limits::{Set, WIDTH};
+use area::limits::WIDTH;
 use cases::{print, read};
+use machine::{Answer, Effect};
+use plan::Record;
 
 // The step that begins with number k.
 pub(crate) fn step(rt: &HostRuntime, words: &[u8], k: usize)
@@ -17,58 +19,42 @@ pub(crate) fn step(rt: &HostRuntime, words: &[u8], k: usize)
     }
 }
 
-// An answer by its number, and how many entries changed.
-pub(crate) fn answer(rt: &HostRuntime, number: u8, changed: u64) {
+// An answer, and how many entries changed.
+pub(crate) fn answer(rt: &HostRuntime, answer: Answer, changed: u64) {
     print::byte(rt, b'=');
-    outcome(rt, number);
+    outcome(rt, answer);
     print::byte(rt, b'/');
     print::number(rt, changed);
 }
 
-// An answer by its number.
-pub(crate) fn outcome(rt: &HostRuntime, number: u8) {
-    if number == 0 {
-        print::text(rt, b"ok");
-    } else if number == 255 {
-        print::text(rt, b"ignored");
-    } else {
-        print::number(rt, number as u64);
+// An answer: a refusal by its number.
+pub(crate) fn outcome(rt: &HostRuntime, answer: Answer) {
+    match answer {
+        Ok(Effect::Applied) => print::text(rt, b"ok"),
+        Ok(Effect::Ignored) => print::text(rt, b"ignored"),
+        Err(why) => print::number(rt, u64::from(why.number())),
     }
 }
 
 pub(crate) fn clock(rt: &HostRuntime, time: u32) {
-    print::form(rt, b"; clock #", &[time as u64]);
+    print::form(rt, b"; clock #", &[u64::from(time)]);
 }
 
 // State, waiting, due and written set and learn time of each router of the area.
-pub(crate) fn routers<'a>(
-    rt: &HostRuntime,
-    n: u8,
-    states: &'a [u8; WIDTH],
-    waiting: &'a [Set; WIDTH],
-    due: &'a [Set; WIDTH],
-    written: &'a [Set; WIDTH],
-    learn_times: &'a [u32; WIDTH],
-) {
+pub(crate) fn routers(rt: &HostRuntime, now: &Record) {
     print::byte(rt, b';');
-    for k in 0..WIDTH {
-        if k < n as usize {
-            router(
-                rt,
-                states[k],
-                waiting[k],
-                due[k],
-                written[k],
-                learn_times[k],
-            );
-        }
+    // Five tables are read at each router's number, so it is counted.
+    for k in 0..WIDTH.min(usize::from(now.n)) {
+        print::form(
+            rt,
+            b" #/#/#/#/#",
+            &[
+                u64::from(now.states[k]),
+                now.waiting[k],
+                now.due[k],
+                now.written[k],
+                u64::from(now.learn_times[k]),
+            ],
+        );
     }
-}
-
-fn router(rt: &HostRuntime, state: u8, waiting: Set, due: Set, written: Set, learn_time: u32) {
-    print::form(
-        rt,
-        b" #/#/#/#/#",
-        &[state as u64, waiting, due, written, learn_time as u64],
-    );
 }

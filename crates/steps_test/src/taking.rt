@@ -9,25 +9,18 @@ use steps::Machine;
 // Takes the steps one by one, and then all at once from their bytes. Gives the last record.
 pub(crate) fn steps(rt: &HostRuntime, first: Record, words: &[u8]) -> Record {
     let mut now = first;
-    let mut differing = 0;
+    let mut differing = 0u64;
     let mut bytes = [1; 194];
     let mut end = 0;
+    // The number of a word is a place in no slice: it is looked for in the line.
     for k in 0..read::MOST {
         // No line is long enough for this sum to wrap.
-        differing = std::num::wrapping_add_u64(differing, others::differing(now, words, k));
+        differing = differing.wrapping_add(others::differing(now, words, k));
         end = call::put(&mut bytes, end, words, k);
         now = step(rt, now, words, k);
     }
     show::clock(rt, now.clock);
-    show::routers(
-        rt,
-        now.n,
-        &now.states,
-        &now.waiting,
-        &now.due,
-        &now.written,
-        &now.learn_times,
-    );
+    show::routers(rt, &now);
     print::form(rt, b"; methods # run", &[differing]);
     again(rt, first, now, &bytes, end);
     now
@@ -42,9 +35,8 @@ fn step(rt: &HostRuntime, now: Record, words: &[u8], k: usize) -> Record
     }
     let stepped = Machine { now }.step(call::kind(words, k), call::a(words, k), call::b(words, k));
     let next = stepped.next;
-    let answer = stepped.answer;
     show::step(rt, words, k);
-    show::answer(rt, call::number(answer), compare::records(now, next));
+    show::answer(rt, stepped.answer, compare::records(now, next));
     next
 }
 
@@ -53,11 +45,10 @@ fn step(rt: &HostRuntime, now: Record, words: &[u8], k: usize) -> Record
 fn again(rt: &HostRuntime, first: Record, last: Record, bytes: &[u8; 194], end: usize)
     requires { end ≤ 192 }
 {
-    let all = &bytes[..];
-    let one_more = end + 1;
-    let two_more = end + 2;
-    let exact = compare::records(last, steps::run(first, &all[0..end]));
-    let one = compare::records(last, steps::run(first, &all[0..one_more]));
-    let two = compare::records(last, steps::run(first, &all[0..two_more]));
-    print::form(rt, b" # # #\n", &[exact, one, two]);
+    let differs = |end: usize| compare::records(last, steps::run(first, &bytes[..end]));
+    print::form(
+        rt,
+        b" # # #\n",
+        &[differs(end), differs(end + 1), differs(end + 2)],
+    );
 }

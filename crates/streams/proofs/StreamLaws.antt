@@ -1,7 +1,7 @@
 -- From what was read to what is printed.
---     whole_text_lem     where the output buffer has room for every text, and as many bytes as the input buffer has decide
---                    the text of an input, the whole text of the whole input is printed
---     whole_bytes    the same, where they decide it for bytes
+--     whole_text_lem     where the output buffer has room for every text, and as many bytes as the input buffer has
+--                        decide the text of an input, the whole text of the whole input is printed
+--     whole_bytes        the same, where they decide it for bytes
 use Rattle.std.specs.Prelude.{ℕ, ◌≤◌, ◌<◌, ◌≡◌, List, length, get_or, take}
 use Rattle.std.proofs.Common.{ap, ◌∙◌, subst, arith, length-take, get_or-take}
 use Rattle.std.proofs.Math.Decide.{dec_lt}

@@ -6,58 +6,38 @@
 // What a read leaves in the buffer, no contract can say: specs/Streams.antt is what the programs suppose of it.
 #![tactic(auto)]
 
-ghost use Rattle.std.specs.Prelude.{◌≤◌, length};
+ghost use Rattle.std.specs.Prelude.{◌≤◌, length, IfSome};
 ghost use Rattle.streams.specs.Streams.{IsPrefixLen};
 
 use std::io;
 use std::io::{Read, Write};
 
-// What was read: how many bytes, and whether a read failed.
-#[derive(Clone, Copy)]
-pub struct Input {
-    pub length: usize,
-    pub is_failed: bool,
-}
-
-// Reads from standard input to the start of `buffer`, until that is full, the input ends or a read fails.
-pub fn read(rt: &HostRuntime, program: &[u8], buffer: &mut [u8]) -> Input
-    ensures counted { IsPrefixLen result.length buffer.new }
+// Reads from standard input to the start of `buffer`, until that is full or the input ends, and gives how many bytes
+// were read; none where a read fails.
+pub fn read(rt: &HostRuntime, program: &[u8], buffer: &mut [u8]) -> Option<usize>
+    ensures counted { IfSome result (λ n. IsPrefixLen n buffer.new) }
 {
     let mut done = 0;
+    // One read may give less than there is room for; `read_exact` does not say how much it got before an end.
     while done < buffer.len() {
-        let more = read_once(rt, program, &mut buffer[done..]);
-        if more.is_failed {
-            return Input {
-                length: done,
-                is_failed: true,
-            };
-        }
-        if more.length == 0 {
+        let more = read_once(rt, program, &mut buffer[done..])?;
+        if more == 0 {
             break;
         }
-        done += more.length;
+        done += more;
     }
-    Input {
-        length: done,
-        is_failed: false,
-    }
+    Some(done)
 }
 
 // One read: no byte where the input has ended.
-fn read_once(rt: &HostRuntime, program: &[u8], part: &mut [u8]) -> Input
-    ensures { result.length ≤ length part.old }
+fn read_once(rt: &HostRuntime, program: &[u8], part: &mut [u8]) -> Option<usize>
+    ensures { IfSome result (λ n. n ≤ length part.old) }
 {
     match rt.stdin().read(part) {
-        Ok(length) => Input {
-            length,
-            is_failed: false,
-        },
+        Ok(length) => Some(length),
         Err(reason) => {
             fail(rt, program, b": cannot read standard input", &reason);
-            Input {
-                length: 0,
-                is_failed: true,
-            }
+            None
         }
     }
 }

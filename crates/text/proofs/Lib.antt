@@ -2,3 +2,4 @@
 pub mod Copying
 pub mod Spelling
 pub mod TextLaws
+pub mod WriterLaws

@@ -2,6 +2,7 @@
 use Rattle.std.specs.Prelude.{ℕ, zero, suc, ◌+◌, ◌/◌, ◌%◌, ◌≤◌, ◌≡◌, cond, List, [], ◌∷◌, ◌++◌, ltb, length, take}
 use Prim.Native.Char.{code}
 use Prim.Native.String as str
+use Rattle.text.specs.declared.writer.Writer.{Writer}
 
 -- The text of the first `at` bytes of `before`, and `bytes` after it, is the first r bytes of `after`; what does not
 -- fit is left off. `counted` follows from `within`: it stands here so that a caller's `&out[..r]` needs no proof file.
@@ -10,6 +11,11 @@ pub record Appended (before : List ℕ) (at : ℕ) (bytes : List ℕ) (after : L
   pub within : r ≤ length after
   pub counted : r ≡ length (take r after)
   pub text : take r after ≡ take (length before) (take at before ++ bytes)
+
+-- A writer has appended `bytes` to its text: w is the writer before, v after. It writes to the same buffer still.
+pub record Writes (w : Writer) (bytes : List ℕ) (v : Writer) : Type 0 where
+  pub same : v.out.ghost_name ≡ w.out.ghost_name
+  pub appended : Appended w.out.now w.at bytes v.out.now v.at
 
 -- the bytes of a word in ASCII
 abbrev pub word : (s : str.String) → List ℕ

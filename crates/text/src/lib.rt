@@ -1,70 +1,77 @@
-// Texts in a lent buffer: a text is the first bytes of `out`, and each function here appends to it and gives its new
-// length. What `out` has no room for is left off.
-//     append       bytes; `byte` one byte
+// Texts in a lent buffer: a text is the first bytes of the buffer, and each method of `Writer` appends to it. What the
+// buffer has no room for is left off.
+//     writer       the struct `Writer`
+//     new          the empty text
+//     append       bytes
 //     number       a number in decimal, by `spell`, which puts the digits down from the last one back
 //     field        a number after its name
 //     line         the same as a line
 //     refused_line     the line of a refusal
-// What they promise is specs/Text.antt, and what a caller may conclude proofs/TextLaws.antt. The loops' arguments are
-// proofs/Copying.antt (append) and proofs/Spelling.antt (spell).
+// What they promise is specs/Text.antt; what a caller may conclude is proofs/WriterLaws.antt of writers, and
+// proofs/TextLaws.antt of texts. The argument of the copy is proofs/Copying.antt, that of the loop of `spell`
+// proofs/Spelling.antt.
 #![tactic(auto)]
 
-ghost use Rattle.std.specs.Prelude.{◌≡◌, [], ◌∷◌, ◌≤◌, min, length, drop};
-ghost use Rattle.text.specs.Text.{Appended, decimal, field, line, refused_line};
+mod writer;
 
-// Appends `bytes` to the text of the first `at` bytes of `out`.
-pub fn append(out: &mut [u8], at: usize, bytes: &[u8]) -> usize
-    ensures appended { Appended out.old at bytes.now out.new result }
-{
-    let from = least(at, out.len());
-    let count = least(bytes.len(), out.len() - from);
-    for i in 0..count {
-        out[from + i] = bytes[i];
+ghost use Rattle.std.specs.Prelude.{◌≡◌, ◌≤◌, length, drop};
+ghost use Rattle.text.specs.Text.{Writes, decimal, field, line, refused_line};
+
+pub use writer::Writer;
+
+impl<'a> Writer<'a> {
+    // The empty text, at the start of `out`.
+    pub fn new(out: &'a mut [u8]) -> Writer<'a>
+        ensures same { result.out.ghost_name ≡ out.entry.ghost_name }
+        ensures empty { (result.out.now ≡ out.old) × (result.at ≡ 0) }
+    {
+        Writer { out, at: 0 }
     }
-    from + count
-}
 
-// Appends one byte.
-fn byte(out: &mut [u8], at: usize, x: u8) -> usize
-    ensures { Appended out.old at (x ∷ []) out.new result }
-{
-    if out.len() <= at {
-        return out.len();
+    // Appends `bytes`.
+    pub fn append(&mut self, bytes: &[u8])
+        ensures appended { Writes self.old bytes.now self.new }
+    {
+        let count = bytes.len().min(self.out.len() - self.at);
+        let end = self.at + count;
+        self.out[self.at..end].copy_from_slice(&bytes[..count]);
+        self.at = end;
     }
-    out[at] = x;
-    at + 1
-}
 
-// Appends x in decimal.
-pub fn number(out: &mut [u8], at: usize, x: u64) -> usize
-    ensures appended { Appended out.old at (decimal x) out.new result }
-{
-    let mut digits = [0u8; 20];
-    let from = spell(x, &mut digits);
-    append(out, at, &digits[from..])
-}
+    // Appends x in decimal.
+    pub fn number(&mut self, x: u64)
+        ensures appended { Writes self.old (decimal x) self.new }
+    {
+        let mut digits = [0u8; 20];
+        let from = spell(x, &mut digits);
+        self.append(&digits[from..]);
+    }
 
-// Appends a number after its name.
-pub fn field(out: &mut [u8], at: usize, name: &[u8], x: u64) -> usize
-    ensures appended { Appended out.old at (field name.now x) out.new result }
-{
-    let named = append(out, at, name);
-    number(out, named, x)
-}
+    // Appends a number after its name.
+    #[tactic(auto, using(crate::proofs::WriterLaws::writes_then), unfolding(crate::specs::Text::field))]
+    pub fn field(&mut self, name: &[u8], x: u64)
+        ensures appended { Writes self.old (field name.now x) self.new }
+    {
+        self.append(name);
+        self.number(x);
+    }
 
-// Appends a line: a number after its name.
-pub fn line(out: &mut [u8], at: usize, name: &[u8], x: u64) -> usize
-    ensures appended { Appended out.old at (line name.now x) out.new result }
-{
-    let numbered = field(out, at, name, x);
-    byte(out, numbered, b'\n')
-}
+    // Appends a line: a number after its name.
+    #[tactic(auto, using(crate::proofs::WriterLaws::writes_then), unfolding(crate::specs::Text::line))]
+    pub fn line(&mut self, name: &[u8], x: u64)
+        ensures appended { Writes self.old (line name.now x) self.new }
+    {
+        self.field(name, x);
+        self.append(b"\n");
+    }
 
-// Appends the line of a refusal, by its number.
-pub fn refused_line(out: &mut [u8], at: usize, number: u8) -> usize
-    ensures line { Appended out.old at (refused_line number) out.new result }
-{
-    line(out, at, b"refused ", number as u64)
+    // Appends the line of a refusal, by its number.
+    #[tactic(auto, unfolding(crate::specs::Text::refused_line))]
+    pub fn refused_line(&mut self, number: u8)
+        ensures line { Writes self.old (refused_line number) self.new }
+    {
+        self.line(b"refused ", number as u64);
+    }
 }
 
 // Puts the decimal digits of x at the end of `digits`, and gives the place of the first.
@@ -74,6 +81,7 @@ fn spell(x: u64, digits: &mut [u8]) -> usize
 {
     let mut from = 19;
     let mut rest = x;
+    // Digit by digit: std prints a number through a formatter, which takes more of a line than the number.
     while 10 <= rest {
         digits[from] = 48 + (rest % 10) as u8;
         rest /= 10;
@@ -81,11 +89,4 @@ fn spell(x: u64, digits: &mut [u8]) -> usize
     }
     digits[from] = 48 + rest as u8;
     from
-}
-
-// The smaller of two numbers.
-fn least(a: usize, b: usize) -> usize
-    ensures { result ≡ min a b }
-{
-    if a < b { a } else { b }
 }

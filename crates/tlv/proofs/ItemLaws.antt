@@ -1,15 +1,18 @@
 -- Laws of items: those by which the code is proved, and those for a loop over the items of a list.
---     item_end, item_short, item_past, item_long, item_entry, after-..
+--     item_end, item_short, item_past, item_long, item_entry
 --                                          one for each way in which a function returns
 --     next_inside                          an entry ends behind its place, inside its list
---     items_end, items_refused, items_entry
+--     items_end, items_fault, items_entry
 --                                          the items from a place on, by what stands there
 --     same_identity                        two identities are equal as numbers exactly if their seven bytes are
 -- There are enough items: each entry takes a place further, so `items_from` with as many as there are bytes left gives
 -- the same as with more (`enough`).
-use Rattle.std.specs.Prelude.{ℕ, zero, suc, ◌+◌, ◌-◌, ◌*◌, ◌≤◌, ◌<◌, ◌≡◌, ◌↔◌, List, [], ◌∷◌, length, get_or}
+use Rattle.std.specs.Prelude.{ℕ, zero, suc, ◌+◌, ◌-◌, ◌*◌, ◌≤◌, ◌<◌, ◌≡◌, ◌↔◌, List, [], ◌∷◌, length, get_or, take}
+use Rattle.std.specs.Prelude.{drop}
+use Rattle.std.specs.Prelude.{Some, None, Ok, Err}
 use Rattle.std.proofs.Math.Path.{refl}
 use Rattle.std.proofs.Common.{sym, ap, ◌∙◌, subst, ⊎_elim, not-suc-le-zero, eq-or-lt_of_le, le_of_suc-le-suc, arith}
+use Rattle.std.proofs.lemmas.List.{length-take, length-drop, get_or-take, get_or-drop}
 use Rattle.std.proofs.Math.Decide.{dec_lt, dec_le}
 use borrow.Author.Tests.{le-leb, lt-leb, lt-ltb, le-ltb}
 use Rattle.area.specs.Bytes.{three}
@@ -17,68 +20,106 @@ use Rattle.area.proofs.ByteLaws.{byte_missing, byte_same}
 use Rattle.area.specs.declared.refusal.Refusal.{Refusal}
 use Rattle.area.specs.declared.refusal.Refusal.TheVariants.{PastList, LongSubTlvs}
 use Rattle.tlv.specs.declared.Neighbour.{Neighbour}
-use Rattle.tlv.specs.declared.Item.{Item}
-use Rattle.tlv.specs.declared.Item.TheVariants.{End, Refused, Entry}
-use Rattle.tlv.specs.Items.{seven, sub_tlvs, end_of, item_at, place_after}
+use Rattle.tlv.specs.Items.{Item, Read, seven, sub_tlvs, end_of, item_at}
 use Rattle.tlv.specs.Items.{followed, items_from, items_at}
 
 -- ---- the code's returns
 module _ (l : List ℕ) (p : ℕ) where
-  pub item_end : length l ≤ p → End ≡ item_at l p
+  pub item_end : length l ≤ p → Ok None ≡ item_at l p
   unfolding item_at
   item_end h = rw (le-leb (length l) p h) refl
 
-  module _ (h : p < length l) where
-    runs_past : length l < end_of l p → Refused PastList ≡ item_at l p
+  module _ (b : p < length l) where
+    runs_past : length l < end_of l p → Err PastList ≡ item_at l p
     unfolding item_at
-    runs_past s = rw (lt-leb (length l) p h, lt-ltb (length l) (end_of l p) s) refl
+    runs_past s = rw (lt-leb (length l) p b, lt-ltb (length l) (end_of l p) s) refl
 
-    pub item_short : length l - p < 11 → Refused PastList ≡ item_at l p
+    pub item_short : length l - p < 11 → Err PastList ≡ item_at l p
     item_short s = runs_past (omega (arith, byte_missing l (p + 10) (omega arith)))
 
-    module _ (k : ℕ) (e : k ≡ sub_tlvs l p) where
-      pub item_past : length l - p < 11 + k → Refused PastList ≡ item_at l p
-      item_past s = runs_past (omega arith)
+    module _ (fits : end_of l p ≤ length l) where
+      too_long : 244 < sub_tlvs l p → Err LongSubTlvs ≡ item_at l p
+      unfolding item_at
+      too_long m = rw (lt-leb (length l) p b, le-ltb (length l) (end_of l p) fits, lt-ltb 244 (sub_tlvs l p) m) refl
 
-      module _ (b : 11 + k ≤ length l - p) where
-        fits : end_of l p ≤ length l
-        fits = omega arith
+      in_full :
+          sub_tlvs l p ≤ 244
+          → Ok (Some (record { identity = seven l p; metric = three l (p + 7); next = end_of l p })) ≡ item_at l p
+      unfolding item_at
+      in_full m = rw (lt-leb (length l) p b, le-ltb (length l) (end_of l p) fits, le-ltb 244 (sub_tlvs l p) m) refl
 
-        pub item_long : 244 < k → Refused LongSubTlvs ≡ item_at l p
-        unfolding item_at
-        item_long s =
-            rw (lt-leb (length l) p h, le-ltb (length l) (end_of l p) fits, lt-ltb 244 (sub_tlvs l p) (omega arith))
-            refl
+    -- h is the first eleven bytes from p on, r what follows them, and k how many bytes of sub-TLVs h says
+    module _
+        (h r : List ℕ)
+        (head : h ≡ take 11 (take (length l - p) (drop p l)))
+        (rest : length r + 11 ≡ length (take (length l - p) (drop p l)))
+        (k : ℕ) (e : k ≡ get_or h 10 0)
+      where
+        left : length r + 11 + p ≡ length l
+        left = omega (arith, b, rest, length-take (length l - p) (drop p l), length-drop p l)
 
-        pub item_entry :
-            k ≤ 244
-            → (i m : ℕ)
-            → i ≡ seven l p
-            → m ≡ three l (p + 7)
-            → Entry (record { identity = i; metric = m; next = p + 11 + k }) ≡ item_at l p
-        unfolding item_at
-        item_entry s i m f g =
-            rw (lt-leb (length l) p h, le-ltb (length l) (end_of l p) fits, le-ltb 244 (sub_tlvs l p) (omega arith))
-            (rw (e, f, g) refl)
+        byte_of : (j q : ℕ) → j < 11 → q ≡ p + j → get_or h j 0 ≡ get_or l q 0
+        byte_of j q s at =
+            ap (λ (x : List ℕ). get_or x j 0) head
+            ∙ get_or-take 11 (take (length l - p) (drop p l)) j 0 s
+            ∙ get_or-take (length l - p) (drop p l) j 0 (omega (arith, left))
+            ∙ get_or-drop p l j 0
+            ∙ ap (λ (x : ℕ). get_or l x 0) (sym at)
 
-module _ (l : List ℕ) (p : ℕ) (i : Item) (r : i ≡ item_at l p) where
-  pub after_entry : (x : Neighbour) → i ≡ Entry x → x.next ≡ place_after l p
-  unfolding place_after
-  after_entry x q = rw (← r, q) refl
+        identity : seven h 0 ≡ seven l p
+        identity =
+            omega (
+              arith,
+              byte_of 0 p (omega arith) (omega arith),
+              byte_of 1 (p + 1) (omega arith) (omega arith),
+              byte_of 2 (p + 2) (omega arith) (omega arith),
+              byte_of 3 (p + 3) (omega arith) (omega arith),
+              byte_of 4 (p + 4) (omega arith) (omega arith),
+              byte_of 5 (p + 5) (omega arith) (omega arith),
+              byte_of 6 (p + 6) (omega arith) (omega arith),
+            )
 
-  pub after_end : i ≡ End → p ≡ place_after l p
-  unfolding place_after
-  after_end q = rw (← r, q) refl
+        metric : three h 7 ≡ three l (p + 7)
+        metric =
+            omega (
+              arith,
+              byte_of 7 (p + 7) (omega arith) (omega arith),
+              byte_of 8 (p + 7 + 1) (omega arith) (omega arith),
+              byte_of 9 (p + 7 + 2) (omega arith) (omega arith),
+            )
 
-  pub after_refused : (k : Refusal) → i ≡ Refused k → p ≡ place_after l p
-  unfolding place_after
-  after_refused k q = rw (← r, q) refl
+        size : k ≡ sub_tlvs l p
+        size = e ∙ byte_of 10 (p + 10) (omega arith) (omega arith)
+
+        ends : end_of l p ≡ p + 11 + k
+        ends = omega (arith, size)
+
+        pub item_past : length r < k → Err PastList ≡ item_at l p
+        item_past s = runs_past (omega (arith, left, ends))
+
+        module _ (s : k ≤ length r) where
+          fits : end_of l p ≤ length l
+          fits = omega (arith, left, ends)
+
+          pub item_long : 244 < k → Err LongSubTlvs ≡ item_at l p
+          item_long m = too_long fits (omega (arith, size))
+
+          pub item_entry :
+              k ≤ 244
+              → (i m : ℕ)
+              → i ≡ seven h 0
+              → m ≡ three h 7
+              → Ok (Some (record { identity = i; metric = m; next = p + 11 + k })) ≡ item_at l p
+          item_entry m i v f g = rw (size, f ∙ identity, g ∙ metric) (in_full fits (omega (arith, size)))
+
+-- what `item` returns
+pub ruleset item_laws = (item_end, item_short, item_past, item_long, item_entry)
 
 -- ---- where an entry ends
 abbrev Inside : List ℕ → ℕ → Item → Type 0
-Inside l p End = Unit {0}
-Inside l p (Refused k) = Unit {0}
-Inside l p (Entry x) = (p < x.next) × (x.next ≤ length l)
+Inside l p (Ok None) = Unit {0}
+Inside l p (Ok (Some x)) = (p < x.next) × (x.next ≤ length l)
+Inside l p (Err k) = Unit {0}
 
 inside : (l : List ℕ) (p : ℕ) → Inside l p (item_at l p)
 inside l p = elim (dec_le (length l) p) [
@@ -86,22 +127,17 @@ inside l p = elim (dec_le (length l) p) [
   | no a ↦ elim (dec_lt (length l) (end_of l p)) [
     | yes b ↦ subst (Inside l p) (runs_past l p (omega arith) b) tt
     | no b ↦ elim (dec_lt 244 (sub_tlvs l p)) [
-      | yes c ↦ subst (Inside l p) (item_long l p (omega arith) (sub_tlvs l p) refl (omega arith) c) tt
-      | no c ↦
-          subst (Inside l p)
-          (item_entry l p (omega arith) (sub_tlvs l p) refl (omega arith) (omega arith) (seven l p) (three l (p + 7))
-          refl refl)
-          (omega arith, omega arith)
+      | yes c ↦ subst (Inside l p) (too_long l p (omega arith) (omega arith) c) tt
+      | no c ↦ subst (Inside l p) (in_full l p (omega arith) (omega arith) (omega arith)) (omega arith, omega arith)
     ]
   ]
 ]
 
 pub next_inside :
-    (l : List ℕ) (p : ℕ) (i : Item) (x : Neighbour)
-    → i ≡ item_at l p
-    → i ≡ Entry x
+    (l : List ℕ) (p : ℕ) (x : Neighbour)
+    → item_at l p ≡ Ok (Some x)
     → (p < x.next) × (x.next ≤ length l)
-next_inside l p i x r q = subst (Inside l p) (sym r ∙ q) (inside l p)
+next_inside l p x r = subst (Inside l p) r (inside l p)
 
 -- ---- the items from a place on
 enough :
@@ -121,27 +157,35 @@ enough l (suc h) (suc k) p a b =
         → Inside l p i
         → ((q : ℕ) → p < q → items_from l h q ≡ items_from l k q)
         → followed i (items_from l h) ≡ followed i (items_from l k)
-    go End x f = refl
-    go (Refused k) x f = refl
-    go (Entry n) x f = ap (◌∷◌ (Entry n)) (f n.next x.0)
+    go (Ok None) x f = refl
+    go (Ok (Some n)) x f = ap (λ (l : List Read). Ok n ∷ l) (f n.next x.0)
+    go (Err k) x f = refl
 
 module _ (l : List ℕ) (p : ℕ) where
   opened : items_at l p ≡ followed (item_at l p) (items_at l)
   unfolding items_at items_from
   opened = enough l (length l) (suc (length l)) p (omega arith) (omega arith)
 
-  module _ (i : Item) (r : i ≡ item_at l p) where
-    with_item : (j : Item) → i ≡ j → items_at l p ≡ followed j (items_at l)
-    with_item j q = opened ∙ ap (λ (x : Item). followed x (items_at l)) (sym r ∙ q)
+  pub items_end : item_at l p ≡ Ok None → items_at l p ≡ []
+  items_end r = opened ∙ ap (λ (x : Item). followed x (items_at l)) r
 
-    pub items_end : i ≡ End → items_at l p ≡ []
-    items_end q = with_item End q
+  pub items_entry : (x : Neighbour) → item_at l p ≡ Ok (Some x) → items_at l p ≡ Ok x ∷ items_at l x.next
+  items_entry x r = opened ∙ ap (λ (x : Item). followed x (items_at l)) r
 
-    pub items_refused : (k : Refusal) → i ≡ Refused k → items_at l p ≡ Refused k ∷ []
-    items_refused k q = with_item (Refused k) q
+  items_last : (k : Refusal) → item_at l p ≡ Err k → items_at l p ≡ Err k ∷ []
+  items_last k r = opened ∙ ap (λ (x : Item). followed x (items_at l)) r
 
-    pub items_entry : (x : Neighbour) → i ≡ Entry x → items_at l p ≡ Entry x ∷ items_at l x.next
-    items_entry x q = with_item (Entry x) q
+-- nothing is left at the end of the list, where a reader is behind a fault
+pub items_fault :
+    (l : List ℕ) (p : ℕ) (k : Refusal)
+    → item_at l p ≡ Err k
+    → items_at l p ≡ Err k ∷ items_at l (length l)
+items_fault l p k r =
+    let none = items_end l (length l) (sym (item_end l (length l) (omega arith))) in
+    items_last l p k r ∙ ap (λ (x : List Read). Err k ∷ x) (sym none)
+
+-- what `next` returns
+pub ruleset next_laws = (items_end, items_entry, items_fault)
 
 -- ---- identities
 -- the bytes of one identity are those of the other

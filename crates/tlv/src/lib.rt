@@ -1,23 +1,19 @@
 // Entries of extended IS reachability (TLV 22, RFC 5305), one after another (02, No. 6).
 //     Reader       holds the lent bytes of a list and a position in them: `item` is what stands there, and `after` the
-//                  reader behind it
-//     item_at      the same for a caller that holds no reader
-//     decode       the work: what stands at a place of a list
+//                  reader behind it. As an iterator it gives the entries from its position on, up to the first fault
+//     item_at      what stands at a place: it decodes, and the reader's calls are thin calls over it
 // What stands where is specs/Items.antt. That two identities are equal as numbers exactly if their bytes are, and what
 // a loop over the items of a list needs, is proofs/ItemLaws.antt.
 #![tactic(auto)]
 
-ghost use Rattle.std.specs.Prelude.{◌≡◌, ◌<◌, ◌≤◌, ◌+◌, length};
-ghost use Rattle.area.specs.Bytes.{three};
-ghost use Rattle.tlv.specs.Items.{seven, item_at, place_after};
+ghost use Rattle.std.specs.Prelude.{◌≡◌};
+ghost use Rattle.std.specs.Iterator.{YieldsFirst, item_count};
+ghost use Rattle.tlv.specs.Items.{item_at, place_after, items_at};
 
 use area::refusal::Refusal;
 
 // Bytes of an entry before its sub-TLVs: identity, metric, and how many bytes of sub-TLVs follow.
 const HEAD: usize = 11;
-
-// Bytes of an identity: that of a system, and the number of a pseudonode.
-const IDENTITY: usize = 7;
 
 // The most bytes of sub-TLVs that an entry has.
 const MOST_SUB_TLVS: usize = 244;
@@ -30,14 +26,6 @@ pub struct Neighbour {
     pub next: usize,
 }
 
-// What stands at a place of a list: nothing more, a fault, or an entry.
-#[derive(Clone, Copy)]
-pub enum Item {
-    End,
-    Refused(Refusal),
-    Entry(Neighbour),
-}
-
 // The lent bytes of a list, and a position in them.
 #[derive(Clone, Copy)]
 pub struct Reader<'a> {
@@ -45,110 +33,80 @@ pub struct Reader<'a> {
     pub at: usize,
 }
 
-pub fn new<'a>(bytes: &'a [u8], at: usize) -> Reader<'a>
-    ensures reader { (result.bytes ≡ bytes.entry) × (result.at ≡ at) }
-{
-    Reader { bytes, at }
-}
-
 impl<'a> Reader<'a> {
+    pub fn new(bytes: &'a [u8], at: usize) -> Reader<'a>
+        ensures reader { (result.bytes ≡ bytes.entry) × (result.at ≡ at) }
+    {
+        Reader { bytes, at }
+    }
+
     // What stands at the reader's place.
-    pub fn item(self) -> Item
+    pub fn item(self) -> Result<Option<Neighbour>, Refusal>
         ensures item { result ≡ item_at self.entry.bytes.now self.entry.at }
     {
-        decode(self.bytes, self.at)
+        item_at(self.bytes, self.at)
     }
 
     // The reader behind the entry at its place; as it is where there is no entry.
+    #[tactic(auto, unfolding(crate::specs::Items::place_after))]
     pub fn after(self) -> Reader<'a>
         ensures reader { (result.bytes ≡ self.entry.bytes)
             × (result.at ≡ place_after self.entry.bytes.now self.entry.at) }
     {
-        let next = place_after(self.bytes, self.at);
-        Reader {
-            bytes: self.bytes,
-            at: next,
+        match self.item() {
+            Ok(Some(x)) => Reader { at: x.next, ..self },
+            Ok(None) => self,
+            Err(_) => self,
         }
     }
 }
 
-// What stands at a place of a list.
-pub fn item_at(bytes: &[u8], at: usize) -> Item
+impl<'a> Iterator for Reader<'a> {
+    type Item = Result<Neighbour, Refusal>;
+
+    ghost next_gives = { YieldsFirst (λ s. items_at s.bytes.now s.at) };
+
+    ghost remaining = { item_count (λ s. items_at s.bytes.now s.at) };
+
+    // Behind a fault the reader is at the end.
+    #[tactic(auto, using(crate::proofs::ItemLaws::next_laws))]
+    fn next(&mut self) -> Option<Result<Neighbour, Refusal>> {
+        match self.item() {
+            Ok(None) => None,
+            Ok(Some(x)) => {
+                self.at = x.next;
+                Some(Ok(x))
+            }
+            Err(why) => {
+                self.at = self.bytes.len();
+                Some(Err(why))
+            }
+        }
+    }
+}
+
+// What stands at a place of a list: nothing more, an entry, or a fault.
+#[tactic(auto, using(crate::proofs::ItemLaws::item_laws))]
+pub fn item_at(bytes: &[u8], at: usize) -> Result<Option<Neighbour>, Refusal>
     ensures item { result ≡ item_at bytes.now at }
 {
-    new(bytes, at).item()
-}
-
-fn decode(bytes: &[u8], at: usize) -> Item
-    ensures { result ≡ item_at bytes.now at }
-{
     if bytes.len() <= at {
-        return Item::End;
+        return Ok(None);
     }
-    let left = bytes.len() - at;
-    if left < HEAD {
-        return Item::Refused(Refusal::PastList);
-    }
-    let skipped = wide(bytes[at + 10]) as usize;
-    if left < HEAD + skipped {
-        return Item::Refused(Refusal::PastList);
+    let (head, rest): (&[u8; HEAD], &[u8]) = bytes[at..]
+        .split_first_chunk()
+        .ok_or(Refusal::PastList)?;
+    let [a, b, c, d, e, f, g, x, y, z, sub_tlvs] = *head;
+    let skipped = usize::from(sub_tlvs);
+    if rest.len() < skipped {
+        return Err(Refusal::PastList);
     }
     if MOST_SUB_TLVS < skipped {
-        return Item::Refused(Refusal::LongSubTlvs);
+        return Err(Refusal::LongSubTlvs);
     }
-    Item::Entry(Neighbour {
-        identity: seven(bytes, at),
-        metric: three(bytes, at + IDENTITY),
+    Ok(Some(Neighbour {
+        identity: u64::from_be_bytes([0, a, b, c, d, e, f, g]),
+        metric: u32::from_be_bytes([0, x, y, z]),
         next: at + HEAD + skipped,
-    })
-}
-
-// Where the entry at a place ends; the place itself where there is no entry.
-fn place_after(bytes: &[u8], at: usize) -> usize
-    ensures { result ≡ place_after bytes.now at }
-{
-    match decode(bytes, at) {
-        Item::Entry(x) => x.next,
-        Item::End => at,
-        Item::Refused(_) => at,
-    }
-}
-
-// The number in the seven bytes at a place, high byte first.
-fn seven(bytes: &[u8], at: usize) -> u64
-    requires { at + 7 ≤ length bytes.now }
-    ensures { result ≡ seven bytes.now at }
-{
-    let a = wide(bytes[at]);
-    let b = wide(bytes[at + 1]);
-    let c = wide(bytes[at + 2]);
-    let d = wide(bytes[at + 3]);
-    let e = wide(bytes[at + 4]);
-    let f = wide(bytes[at + 5]);
-    let g = wide(bytes[at + 6]);
-    281474976710656 * a
-        + 1099511627776 * b
-        + 4294967296 * c
-        + 16777216 * d
-        + 65536 * e
-        + 256 * f
-        + g
-}
-
-// The number in the three bytes at a place, high byte first.
-fn three(bytes: &[u8], at: usize) -> u32
-    requires { at + 3 ≤ length bytes.now }
-    ensures { (result ≡ three bytes.now at) × (result < 16777216) }
-{
-    let high = wide(bytes[at]);
-    let middle = wide(bytes[at + 1]);
-    let low = wide(bytes[at + 2]);
-    (65536 * high + 256 * middle + low) as u32
-}
-
-// A byte in a wider type.
-fn wide(byte: u8) -> u64
-    ensures { (result ≡ byte) × (result < 256) }
-{
-    byte as u64
+    }))
 }

@@ -7,7 +7,8 @@
 --     largest_distance_lem         so from the first router to the last it is `largest_distance`: 1,056,964,482
 -- A link leads at most one router further, so a walk from i to j takes at least j - i links, and the walk along the
 -- chain takes no more.
-use Rattle.std.specs.Prelude.{ℕ, zero, suc, ◌+◌, ◌-◌, ◌*◌, ◌≤◌, ◌<◌, ◌≡◌, refl, Bool, true, false, ◌||◌, List, eqb, length}
+use Rattle.std.specs.Prelude.{ℕ, zero, suc, ◌+◌, ◌-◌, ◌*◌, ◌≤◌, ◌<◌, ◌≡◌, refl, Bool, true, false, ◌||◌, List, eqb}
+use Rattle.std.specs.Prelude.{length}
 use Rattle.std.proofs.Common.{subst, ◌∙◌, ⊎_elim, arith, eqb-true, eq-eqb}
 use Rattle.area.specs.Limits.{width, unused}
 use Rattle.area.specs.Tests.{pick}

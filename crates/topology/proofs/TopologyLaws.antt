@@ -11,12 +11,13 @@
 --     topology_same    two topologies, by their metric tables
 --     usable_many, usable_sized, usable_is
 --                      the usable metric, as code reads it
+--     links, usables   the laws by which code finds either metric
 use Rattle.std.specs.Prelude.{ℕ, ◌*◌, ◌≤◌, ◌<◌, ◌≡◌, true, not, ◌&&◌, ◌≢◌, List, ltb, leb, eqb, length}
 use Rattle.std.proofs.Math.Path.{refl}
-use Rattle.std.proofs.Common.{sym, ⊎_elim, arith, ltb-true, leb-true, lt-ltb, le-leb, ne_eqb}
+use Rattle.std.proofs.Common.{sym, ◌∙◌, ⊎_elim, arith, ltb-true, leb-true, lt-ltb, le-leb, ne_eqb}
 use Rattle.std.proofs.Math.Bool.{false}
 use Rattle.std.proofs.Math.Decide.{dec_lt}
-use Rattle.std.proofs.lemmas.Bool.{eqb-false, not-true, lt-leb}
+use Rattle.std.proofs.lemmas.Bool.{false≢true, eqb-false, not-true, lt-leb}
 use Rattle.area.specs.Limits.{width, unused}
 use Rattle.area.specs.Tables.{cell}
 use Rattle.area.proofs.TestLaws.{look, both_true, and_false}
@@ -159,3 +160,47 @@ module _ (n : ℕ) (m : List ℕ) (i j : ℕ) where
   pub usable_is : n ≤ width → length m ≡ width * width → usable n m i j ≡ topology n m i j
   unfolding usable
   usable_is a b = rw (le-leb n width a, table_true m b) refl
+
+-- ---- the metric of a pair of the topology, by the tests of code
+module _ (n : ℕ) (m : List ℕ) (i j : ℕ) where
+  pub link_from : n ≤ i → topology n m i j ≡ unused
+  link_from h = no_link n m i j (λ l. omega (arith, l.from))
+
+  pub link_to : n ≤ j → topology n m i j ≡ unused
+  link_to h = no_link n m i j (λ l. omega (arith, l.to))
+
+  pub link_self : i ≡ j → topology n m i j ≡ unused
+  link_self e = no_link n m i j (λ l. l.other e)
+
+  -- a metric at which no link can be used, in one direction or the other
+  pub link_there : is_used (cell width m i j) ≡ false → topology n m i j ≡ unused
+  link_there e =
+      no_link n m i j (λ l. false≢true (sym e ∙ true_used (cell width m i j) l.positive l.used))
+
+  pub link_not_back : is_used (cell width m j i) ≡ false → topology n m i j ≡ unused
+  link_not_back e =
+      no_link n m i j (λ l. false≢true (sym e ∙ true_used (cell width m j i) l.back_positive l.back_used))
+
+  pub link_both :
+      i < n
+      → j < n
+      → i ≢ j
+      → is_used (cell width m i j) ≡ true
+      → is_used (cell width m j i) ≡ true
+      → topology n m i j ≡ cell width m i j
+  link_both a b f there back =
+      let x = used_true (cell width m i j) there in
+      let y = used_true (cell width m j i) back in
+      link_metric (record {
+        from = a;
+        to = b;
+        other = f;
+        positive = x.0;
+        used = x.1;
+        back_positive = y.0;
+        back_used = y.1;
+      })
+
+pub ruleset links = (link_from, link_to, link_self, link_there, link_not_back, link_both)
+
+pub ruleset usables = (usable_many, usable_sized, usable_is)

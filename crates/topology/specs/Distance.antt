@@ -1,7 +1,7 @@
 -- Distances (01, "The area and its paths"): the least sum of metrics over all walks.
 --     IsDistance       what the paper means
 --     distance         what computes it
--- DistanceLaws.antt: `distance` is the distance (`distance_is`), and nothing else is (`same_distance`).
+-- proofs/DistanceLaws.antt: `distance` is the distance (`distance_is`), and nothing else is (`same_distance`).
 use Rattle.std.specs.Prelude.{ℕ, zero, suc, ◌+◌, ◌-◌, ◌≤◌, ◌<◌, min, ◌≡◌, Bool, List, [], ◌∷◌, ◌++◌, map, ltb, eqb}
 use Rattle.area.specs.Limits.{unused, unreached}
 use Rattle.area.specs.Tests.{pick}
@@ -41,6 +41,6 @@ least [] = unreached
 least (x ∷ l) = min x (least l)
 
 -- The distance from i to j in an area of n routers. Walks of more than n - 1 links need not be listed: such a walk
--- meets a router twice, and without the way round from there its sum is no larger (WalkLaws.antt, `shorten`).
+-- meets a router twice, and without the way round from there its sum is no larger (proofs/WalkLaws.antt, `shorten`).
 unfoldable pub distance : (n : ℕ) (g : Topology) (i j : ℕ) → ℕ
 distance n g i j = least (sums n g (n - 1) i j)

@@ -1,4 +1,4 @@
--- Distances and next hops, as 01 means them. `search` and `paths` compute what is defined here.
+-- Distances and next hops, as 01 means them. `paths` and the searches below it compute what is defined here.
 -- The definitions, in reading order:
 --     Topology         the links of an area, read off its metric table
 --     Usable           the metric of one link, as the code of this crate reads it
@@ -6,6 +6,7 @@
 --     Distance         the least sum
 --     NextHops         the first links of the least walks
 --     Cells            both, as the cells of tables
+--     Graph            what laws ask of a topology: few routers, links between them alone, and metrics from 1 on
 -- The laws that proofs cite, in proofs/:
 --     WalkLaws         a walk can be made to take fewer links than there are routers
 --     SumLaws          the sums that `distance` lists are those of walks

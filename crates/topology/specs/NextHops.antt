@@ -1,7 +1,7 @@
 -- Next hops (01, "The area and its paths").
 --     Next         what the paper means
---     is_next       the test of it: `next_true`, `true_next` of NextHopLaws.antt
---     next_hops     the set
+--     is_next      the test of it: `next_true`, `true_next` of proofs/NextHopLaws.antt
+--     next_hops    the set
 use Rattle.std.specs.Prelude.{ℕ, ◌+◌, ◌<◌, ◌≡◌, Bool, ◌&&◌, ltb, eqb}
 use Rattle.area.specs.Limits.{unused}
 use Rattle.sets.specs.Sets.{set_of}
@@ -18,6 +18,6 @@ unfoldable pub is_next : (n : ℕ) (g : Topology) (i j k : ℕ) → Bool
 is_next n g i j k = ltb (g i k) unused && eqb (g i k + distance n g k j) (distance n g i j)
 
 -- The next-hop set of (i, j), of routers below w. That it is empty for i = j and where j is not reached follows:
--- `no_next_self`, `no_next_unreached` of NextHopLaws.antt.
+-- `no_next_self`, `no_next_unreached` of proofs/NextHopLaws.antt.
 unfoldable pub next_hops : (w n : ℕ) (g : Topology) (i j : ℕ) → ℕ
 next_hops w n g i j = set_of w (is_next n g i j)

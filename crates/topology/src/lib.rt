@@ -10,45 +10,37 @@ ghost use Rattle.topology.specs.Usable.{usable};
 use area::limits::{CELLS, UNUSED, WIDTH};
 
 // The metric of the link from i to j, and UNUSED where there is no used one.
+#[tactic(auto, using(crate::proofs::TopologyLaws::usables))]
 pub fn usable(n: usize, metric: &[u32], i: usize, j: usize) -> u32
     ensures answer { result ≡ usable n metric.now i j }
 {
-    if WIDTH < n {
-        return UNUSED;
-    }
-    if metric.len() != CELLS {
+    if WIDTH < n || metric.len() != CELLS {
         return UNUSED;
     }
     link(n, metric, i, j)
 }
 
 // The same, in a table.
+#[tactic(auto, using(crate::proofs::TopologyLaws::links))]
 fn link(n: usize, metric: &[u32], i: usize, j: usize) -> u32
     requires { (n ≤ width) × (length metric.now ≡ width * width) }
     ensures { result ≡ topology n metric.now i j }
 {
-    if n <= i {
-        return UNUSED;
-    }
-    if n <= j {
-        return UNUSED;
-    }
-    if i == j {
+    if n <= i || n <= j || i == j {
         return UNUSED;
     }
     let there = metric[WIDTH * i + j];
-    if !is_used(there) {
-        return UNUSED;
+    let back = metric[WIDTH * j + i];
+    if is_used(there) && is_used(back) {
+        there
+    } else {
+        UNUSED
     }
-    if !is_used(metric[WIDTH * j + i]) {
-        return UNUSED;
-    }
-    there
 }
 
 // Can a link be used at this metric?
 fn is_used(metric: u32) -> bool
     ensures { result ≡ is_used metric }
 {
-    if metric < 1 { false } else { metric < UNUSED }
+    1 <= metric && metric < UNUSED
 }

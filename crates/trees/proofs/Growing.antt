@@ -13,7 +13,7 @@ use mathlib.Core.Logic.{◌≢◌, ◌↔◌, inl, ⊎_elim}
 use mathlib.Core.List.{List}
 use native.Mathlib.Decide.{dec_lt, ℕ_discrete}
 use native.Mathlib.Omega.{arith}
-use lib.ListN.{length, set, length-set}
+use lib.ListN.{length, set}
 use lib.Seq.{get_or-set_same, get_or-set_other}
 use lib.Dec.{ltb}
 use borrow.Author.Tests.{ltb-true, lt-ltb, not-true}
@@ -42,9 +42,6 @@ abbrev Waits : (n : ℕ) (dist : List ℕ) (σ j : ℕ) → Type 0
 Waits n dist σ j = (bit σ j ≡ false) × (j < n) × (entry dist j < unreached)
 
 pub record Growing (n : ℕ) (m : List ℕ) (d : ℕ) (dist hops : List ℕ) (σ reached : ℕ) : Type 0 where
-  pub len : length dist ≡ width
-  pub len_h : length hops ≡ width
-  pub fits : (i : ℕ) → entry hops i < 2 ^ width
   pub front : Front n (topology n m) d (entry dist) (entry hops) σ
   pub ahead : (j : ℕ) → (bit reached j ≡ true) ↔ Waits n dist σ j
 
@@ -52,17 +49,12 @@ module _ {n : ℕ} {m : List ℕ} (most : n ≤ width) {d : ℕ} (within : d < n
   pub start :
       (dist hops : List ℕ)
       → length dist ≡ width
-      → length hops ≡ width
       → ((j : ℕ) → j < width → entry dist j ≡ unreached)
       → ((j : ℕ) → j < width → entry hops j ≡ 0)
-      → ((j : ℕ) → entry hops j < 2 ^ width)
       → {reached : ℕ}
       → reached ≡ added width 0 d
       → Growing n m d (set dist d 0) hops 0 reached
-  start dist hops ld lh far none fits {reached} is = record {
-    len = length-set dist d 0 ∙ ld;
-    len_h = lh;
-    fits = fits;
+  start dist hops ld far none {reached} is = record {
     front = begin (entry (set dist d 0)) (entry hops) within here others none most;
     ahead = λ j. (only j, itself j);
   }
@@ -223,14 +215,8 @@ module _ (n : ℕ) (m links : List ℕ) (most : n ≤ width) (is : links ≡ per
           {σ' reached' : ℕ}
           → σ' ≡ union width σ β
           → reached' ≡ union width (without width reached β) offered
-          → length dist' ≡ width
-          → length hops' ≡ width
-          → ((i : ℕ) → entry hops' i < 2 ^ width)
           → Growing n m d dist' hops' σ' reached'
-      more e r ld lh fits = rw (e, r) (record {
-        len = ld;
-        len_h = lh;
-        fits = fits;
+      more e r = rw (e, r) (record {
         front = front';
         ahead = λ j. (shown j, held j);
       })
@@ -243,25 +229,26 @@ module _
   end j l b r =
       false≢true (sym (bit_zero j) ∙ ap (λ (x : ℕ). bit x j) (sym none) ∙ (f.ahead j).1 (b, l, r))
 
-  pub distance_column : dist ≡ build width (λ i. distance_cell n m i d)
-  distance_column = is_build width (λ i. distance_cell n m i d) dist f.len (λ i l. elim (dec_lt i n) [
+  pub distance_column : length dist ≡ width → dist ≡ build width (λ i. distance_cell n m i d)
+  distance_column size = is_build width (λ i. distance_cell n m i d) dist size (λ i l. elim (dec_lt i n) [
     | yes b ↦
         distances (topology_graph n m most) most f.front end i b
         ∙ sym (distance_in n m i d b within)
     | no g ↦ f.front.rest i (omega arith) l ∙ sym (distance_out n m i d (inl (omega arith)))
   ])
 
-  -- a router from n on has no link
-  no_hops : (i : ℕ) → n ≤ i → i < width → entry hops i ≡ 0
-  no_hops i b l =
-      no_members (entry hops i) (λ k t.
-      let y = (f.front.hops i k l (bit_lt width (entry hops i) k (f.fits i) t)).0 t in
-      let x : ⊥ = omega (arith, (metric_link n m i k y.used).from) in x)
+  module _ (fits : (i : ℕ) → entry hops i < 2 ^ width) where
+    -- a router from n on has no link
+    no_hops : (i : ℕ) → n ≤ i → i < width → entry hops i ≡ 0
+    no_hops i b l =
+        no_members (entry hops i) (λ k t.
+        let y = (f.front.hops i k l (bit_lt width (entry hops i) k (fits i) t)).0 t in
+        let x : ⊥ = omega (arith, (metric_link n m i k y.used).from) in x)
 
-  pub hop_column : hops ≡ build width (λ i. hop_cell n m i d)
-  hop_column = is_build width (λ i. hop_cell n m i d) hops f.len_h (λ i l. elim (dec_lt i n) [
-    | yes b ↦
-        nexts (topology_graph n m most) most f.front end i b (f.fits i)
-        ∙ sym (hops_in n m i d b within)
-    | no g ↦ no_hops i (omega arith) l ∙ sym (hops_out n m i d (inl (omega arith)))
-  ])
+    pub hop_column : length hops ≡ width → hops ≡ build width (λ i. hop_cell n m i d)
+    hop_column size = is_build width (λ i. hop_cell n m i d) hops size (λ i l. elim (dec_lt i n) [
+      | yes b ↦
+          nexts (topology_graph n m most) most f.front end i b (fits i)
+          ∙ sym (hops_in n m i d b within)
+      | no g ↦ no_hops i (omega arith) l ∙ sym (hops_out n m i d (inl (omega arith)))
+    ])

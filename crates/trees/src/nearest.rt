@@ -1,23 +1,18 @@
 // The routers that the search settles next.
-ghost use Rattle.std.specs.Prelude.{◌≡◌, length};
-ghost use Rattle.area.specs.Limits.{width};
 ghost use Rattle.trees.specs.Turns.{Nearest};
 
-use area::limits::{Set, UNREACHED};
-use sets::{add, lowest, rest};
+use area::limits::{Set, UNREACHED, WIDTH};
+use sets::{add, members};
 
 // The nearest members of a set of routers: those that are at the same, least distance. Two tests without an `else` are
 // compiled to conditional moves; branches on the distances of an area are hard to predict.
-#[tactic(auto, using(crate::proofs::Visiting::lowest_inside))]
-pub(crate) fn nearest(set: Set, dist: &[u32]) -> Set
-    requires { length dist.now ≡ width }
+#[tactic(auto, using(crate::proofs::Visiting::turn_inside))]
+pub(crate) fn nearest(set: Set, dist: &[u32; WIDTH]) -> Set
     ensures { Nearest dist.now set result }
 {
     let mut least: Set = 0;
     let mut low = UNREACHED;
-    let mut left = set;
-    while left != 0 {
-        let k = lowest(left);
+    for k in members(set) {
         let d = dist[k];
         if d < low {
             low = d;
@@ -26,7 +21,6 @@ pub(crate) fn nearest(set: Set, dist: &[u32]) -> Set
         if d == low {
             least = add(least, k);
         }
-        left = rest(left);
     }
     least
 }

@@ -3,76 +3,70 @@
 #![tactic(auto)]
 
 use area::limits::{CELLS, Set, UNUSED, WIDTH};
-use machine::{Answer, LEARN};
-use plan::Planned;
+use area::refusal::{self, Refusal};
+use machine::Effect;
+use machine::kinds::Kind;
+use paths::Topology;
+use plan::{Change, Record};
 use steps::{Machine, Stepped};
 
 fn main(rt: HostRuntime) {
-    let mut new = [0u32; CELLS];
+    let mut new_metrics = [0u32; CELLS];
     let mut old_dist = [0u32; CELLS];
     let mut old_hops: [Set; CELLS] = [0; CELLS];
     let mut old_fours: [Set; CELLS] = [0; CELLS];
     let mut new_dist = [0u32; CELLS];
     let mut new_hops: [Set; CELLS] = [0; CELLS];
     let mut new_fours: [Set; CELLS] = [0; CELLS];
-    let mut old = [UNUSED; CELLS];
-    old[WIDTH * 0 + 1] = 1;
-    old[WIDTH * 1 + 0] = 1;
-    old[WIDTH * 1 + 2] = 1;
-    old[WIDTH * 2 + 1] = 1;
-    old[WIDTH * 0 + 2] = 3;
-    old[WIDTH * 2 + 0] = 3;
-    let changes = [1, 2, 255, 255, 255, 2, 1, 255, 255, 255]; // the links 1 to 2 and 2 to 1 go down
-    let planned = plan::plan(
-        3,
-        0, // hold time
-        1, // step time
-        &old,
-        &changes,
-        &mut new,
-        &mut old_dist,
-        &mut old_hops,
-        &mut old_fours,
-        &mut new_dist,
-        &mut new_hops,
-        &mut new_fours,
-    );
+    let mut old = Topology {
+        dist: &mut old_dist,
+        hops: &mut old_hops,
+        fours: &mut old_fours,
+    };
+    let mut new = Topology {
+        dist: &mut new_dist,
+        hops: &mut new_hops,
+        fours: &mut new_fours,
+    };
+    let mut metrics = [UNUSED; CELLS];
+    metrics[WIDTH * 0 + 1] = 1;
+    metrics[WIDTH * 1 + 0] = 1;
+    metrics[WIDTH * 1 + 2] = 1;
+    metrics[WIDTH * 2 + 1] = 1;
+    metrics[WIDTH * 0 + 2] = 3;
+    metrics[WIDTH * 2 + 0] = 3;
+    let change = Change {
+        n: 3,
+        hold_time: 0,
+        step_time: 1,
+        metrics: &metrics,
+        list: &[1, 2, 255, 255, 255, 2, 1, 255, 255, 255], // the links 1 to 2 and 2 to 1 go down
+    };
+    let planned = plan::plan(change, &mut new_metrics, &mut old, &mut new);
     let fresh = print_plan(&rt, planned);
     let learned = print_step(&rt, fresh.learn(1));
     let released = print_step(&rt, learned.release(1));
     let refused = print_step(&rt, released.write(1, 2)); // router 1 still waits for 0 and 2
-    print_step(&rt, in_place::applied(refused.now, LEARN, 0, 0)); // by its kind, on a record by value
+    let by_kind = in_place::applied(refused.now, Kind::Learn.number(), 0, 0); // on a record by value
+    print_step(&rt, by_kind);
 }
 
 // Prints the answer and the ranks, and gives the machine over the record.
-fn print_plan(rt: &HostRuntime, planned: Planned) -> Machine {
-    let answer = planned.answer;
-    let now = planned.record;
-    print_number(rt, b"plan ", answer.number());
-    print_number(rt, b"rank ", now.ranks[0]);
-    print_number(rt, b"rank ", now.ranks[1]);
-    print_number(rt, b"rank ", now.ranks[2]);
+fn print_plan(rt: &HostRuntime, planned: Result<Record, Refusal>) -> Machine {
+    let _ = println!(rt; "plan {}", refusal::number_of(&planned));
+    let now = planned.unwrap_or(plan::blank());
+    for rank in &now.ranks[..3] {
+        let _ = println!(rt; "rank {rank}");
+    }
     Machine { now }
 }
 
 // Prints the answer, and gives the machine over the record that the step hands back.
 fn print_step(rt: &HostRuntime, stepped: Stepped) -> Machine {
-    let answer = stepped.answer;
-    let now = stepped.next;
-    match answer {
-        Answer::Ok => print(rt, b"ok\n"),
-        Answer::Ignored => print(rt, b"ignored\n"),
-        Answer::Refused(why) => print_number(rt, b"refused ", why.number()),
-    }
-    Machine { now }
-}
-
-fn print_number(rt: &HostRuntime, word: &[u8], number: u8) {
-    print(rt, word);
-    let _ = rt.print(number);
-    print(rt, b"\n");
-}
-
-fn print(rt: &HostRuntime, text: &[u8]) {
-    let _ = rt.write_all(text);
+    let _ = match stepped.answer {
+        Ok(Effect::Applied) => println!(rt; "ok"),
+        Ok(Effect::Ignored) => println!(rt; "ignored"),
+        Err(why) => println!(rt; "refused {}", why.number()),
+    };
+    Machine { now: stepped.next }
 }

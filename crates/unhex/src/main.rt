@@ -4,51 +4,46 @@
 // crates/hexadecimal.
 #![tactic(auto)]
 
-ghost use Rattle.std.specs.Prelude.{◌≡◌, List, ℕ, ◌+◌, ◌≤◌, length, take};
-ghost use Rattle.streams.specs.Streams.{IsPrefixLen};
-ghost use Rattle.hexadecimal.specs.Hex.{most};
-ghost use Rattle.streams.specs.Streams.{ReadOf};
+ghost use Rattle.std.specs.Prelude.{◌≡◌, List, ℕ, ◌+◌, ◌≤◌, length, take, is_err};
+ghost use Rattle.streams.specs.Streams.{IsPrefixLen, ReadOf};
+ghost use Rattle.hexadecimal.specs.Hex.{most, length_of};
 ghost use Rattle.unhex.specs.Unhex.{written, is_error};
 
-use hexadecimal::{MOST, Unhexed};
+use hexadecimal::MOST;
+use text::Writer;
 
 fn main(rt: HostRuntime) {
     // One byte more than a text may have, so that a longer one is seen to be too long.
     let mut buffer = [0u8; MOST + 1];
     let mut out = [0u8; MOST + 1];
-    let input = streams::read(&rt, b"unhex", &mut buffer);
-    if input.is_failed {
-        return;
-    }
-    let output = whole(&buffer, input.length, &mut out);
-    let length = output.length;
-    if output.is_faulty {
-        streams::error(&rt, b"unhex", &out[..length]);
-    } else {
-        streams::write(&rt, b"unhex", &out[..length]);
+    if let Some(count) = streams::read(&rt, b"unhex", &mut buffer) {
+        match whole(&buffer, count, &mut out) {
+            Ok(length) => streams::write(&rt, b"unhex", &out[..length]),
+            Err(length) => streams::error(&rt, b"unhex", &out[..length]),
+        }
     }
 }
 
-// Puts all that is written for the input at the start of `out`. The first `count` bytes of `buffer` are the input, as
-// much of it as has room there: more of it would change nothing, and nothing of what is written is left off.
-fn whole(buffer: &[u8], count: usize, out: &mut [u8]) -> Unhexed
+// Puts all that is written for the input at the start of `out`: `Ok` and `Err` have the length of what the input stands
+// for, and of the line of its fault. The first `count` bytes of `buffer` are the input, as much of it as has room
+// there: more of it would change nothing, and nothing of what is written is left off.
+fn whole(buffer: &[u8], count: usize, out: &mut [u8]) -> Result<usize, usize>
     requires buffer_len { length buffer.now ≡ most + 1 }
     requires prefix_len { IsPrefixLen count buffer.now }
     requires most_in_bounds { most + 1 ≤ length out.old }
-    ensures counted { IsPrefixLen result.length out.new }
+    ensures counted { IsPrefixLen (length_of result) out.new }
     ensures bytes { (input : List ℕ)
         → ReadOf input buffer.now count
-        → take result.length out.new ≡ written input }
+        → take (length_of result) out.new ≡ written input }
     ensures error { (input : List ℕ)
         → ReadOf input buffer.now count
-        → result.is_faulty ≡ is_error input }
+        → is_err result ≡ is_error input }
 {
     let input = &buffer[..count];
     if hexadecimal::is_text(input) {
         return hexadecimal::unhex(input, out);
     }
-    Unhexed {
-        length: text::append(out, 0, input),
-        is_faulty: false,
-    }
+    let mut binary = Writer::new(out);
+    binary.append(input);
+    Ok(binary.at)
 }

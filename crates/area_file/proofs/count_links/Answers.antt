@@ -1,25 +1,20 @@
-use Rattle.std.proofs.Common.{◌∙◌, arith}
-use Rattle.area_file.proofs.LineLaws.{counted_none, counted_more, counted_less}
+use Rattle.std.proofs.Common.{rules, tests, arith, ◌*◌, ◌∙◌, ◌≡◌, ℕ, length, take}
+use Rattle.std.proofs.lemmas.Iterator.{YieldsList-from_slice}
+use Rattle.std.proofs.lemmas.Iterator.Consumers.{YieldsList-from_filter, YieldsList-from_enumerate}
+use Rattle.std.proofs.lemmas.Iterator.Consumers.{count_from_yields_List}
+use Rattle.area_file.specs.AreaFile.{is_listed}
+use Rattle.area_file.proofs.LinkLaws.{listed_most}
+use Rattle.area_file.proofs.LineLaws.{listed_cells, count_listed}
 use Rattle.area_file.proofs.count_links.Goals as goal
-use Rattle.area_file.proofs.count_links.Goals.{then-is_listed, else-is_listed}
 
-pub loop-k-init : goal.loop-k-init
-loop-k-init c = record { few = omega arith; counted = counted_none c.args.n c.args.metrics.now }
-
-pub loop-k-preserved : goal.loop-k-preserved
-loop-k-preserved c =
+pub returns : goal.returns
+returns c =
     let n = c.args.n in
     let m = c.args.metrics.now in
-    let k = c.loop-k.k in
-    let so_far = c.loop-k.invariant.counted in
-    let told = c.is_listed in
-    elim c.if-is_listed.branch [
-      | then-is_listed w ↦ record {
-        few = omega arith;
-        counted = w.count-is ∙ counted_more n m k _ so_far told.result told.ensures.answer w.if-is_listed.true;
-      }
-      | else-is_listed w ↦ record {
-        few = omega arith;
-        counted = w.count-is ∙ counted_less n m k _ so_far told.result told.ensures.answer w.if-is_listed.false;
-      }
-    ]
+    let counted : c.count.result ≡ length (listed_cells n (take (64 * n) m)) =
+    count_from_yields_List c.filter.result c.count.result c.count.ensures.ran
+    (YieldsList-from_filter _ (λ (p : ℕ × ℕ). is_listed n p.0 p.1)
+    (YieldsList-from_enumerate (YieldsList-from_slice (take (64 * n) m) (cc)) (cc))
+    c.filter.ensures.closure (λ x b q k. search (rules, tests))) in
+    let is = counted ∙ count_listed n m (64 * n) (omega arith) in
+    (is, omega (arith, is, listed_most n m (64 * n)))

@@ -3,4 +3,4 @@ use Rattle.hexadecimal.proofs.Decoding.{Decoded}
 use Rattle.hexadecimal.proofs.decode.Given as goal
 
 abbrev pub invariant-loop-at : goal.invariant-loop-at
-invariant-loop-at l = Decoded l.text l.fn.out l.out l.n l.at l.reading
+invariant-loop-at l = Decoded l.text l.initial.bytes l.bytes l.at l.reading

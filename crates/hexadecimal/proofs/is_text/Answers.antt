@@ -1,18 +1,12 @@
-use Rattle.std.proofs.Common.{sym, ◌∙◌}
-use Rattle.hexadecimal.proofs.BinaryLaws.{text_more, text_end, text_control}
+use Rattle.std.proofs.Common.{rules, tests, ap, ◌∙◌, not}
+use Rattle.std.proofs.lemmas.Iterator.{YieldsList-from_slice}
+use Rattle.std.proofs.lemmas.Iterator.Search.{any_from_yields_List}
+use Rattle.hexadecimal.specs.Hex.{is_control}
+use Rattle.hexadecimal.proofs.BinaryLaws.{text_none}
 use Rattle.hexadecimal.proofs.is_text.Goals as goal
 
-pub returns-then-is_control : goal.returns-then-is_control
-returns-then-is_control c =
-    let control = sym c.is_control.ensures ∙ c.if-is_control.true in
-    record { answer = sym (text_control c.args.bytes.now c.loop-at.at c.loop-at-test.true control) }
-
-pub loop-at-preserved : goal.loop-at-preserved
-loop-at-preserved c =
-    let control = sym c.is_control.ensures ∙ c.if-is_control.false in
-    c.loop-at.invariant ∙ text_more c.args.bytes.now c.loop-at.at c.loop-at-test.true control
-
 pub returns : goal.returns
-returns c = record {
-  answer = sym (c.loop-at.invariant ∙ text_end c.args.bytes.now c.loop-at.at c.loop-at-test.false);
-}
+returns c =
+    let found = any_from_yields_List is_control _ _ _ c.any.ensures.ran (YieldsList-from_slice c.args.bytes.now cc)
+    (λ x b q k. search (rules, tests)) in
+    record { answer = ap not found ∙ text_none c.args.bytes.now }

@@ -1,106 +1,63 @@
--- `plan` has two returns, and what was judged decides between them.
---     returns-then-not-is_accepted     refused: the record is blank, and no table has been written
---     fill-record-requires             accepted: the judgement gives `fill` the root, the direction and the sizes
---     returns                          planned: record and tables are those that `fill` promises
-use Rattle.std.proofs.Common.{◌≡◌, ℕ, sym, ap, ◌∙◌, Bool, true, false, eqb, eqb-true, List}
-use borrow.Author.Tests.{eqb-false}
-use Rattle.area.specs.declared.refusal.Verdict.{Verdict}
-use Rattle.area.specs.Refusals.{verdict_number}
-use Rattle.plan.specs.Plan.{Tables, tables_in, are_tables, plan_refusal, is_planned}
+-- `plan` has two returns, and what was judged decides between them: a refusal leaves every table, and the record and
+-- the tables of an input that is planned are those that `fill` promises.
+use Rattle.std.proofs.Common.{◌≡◌, sym, ap, ◌∙◌, Bool, true, arith}
+use Rattle.area.specs.declared.refusal.Refusal.{Refusal}
+use Rattle.area.specs.Refusals.{refusal_number}
+use Rattle.area.proofs.RefusalLaws.{refusal_positive}
+use Rattle.plan.specs.declared.Change.{Change}
+use Rattle.plan.specs.Plan.{Tables, are_tables, plan_refusal, is_planned, tables_by}
+use Rattle.plan.specs.Planned.{Plan, Sized}
 use Rattle.plan.proofs.PlanLaws.{sized_of, planned_is, planned_true, planned_false}
-use Rattle.plan.proofs.PlanLaws.{record_planned, record_refused, tables_planned, tables_refused}
+use Rattle.plan.proofs.PlanLaws.{record_planned, tables_planned, tables_refused}
 use Rattle.plan.proofs.plan.Goals as goal
 
--- what the calls before a return say of the input
-module _
-    (n s : ℕ) (m l : List ℕ) (t : Tables) (sized : Bool) (told : sized ≡ are_tables m t)
-    (v : Verdict) (judged : verdict_number v ≡ plan_refusal n s m l sized)
-    (ok : Bool) (is : ok ≡ eqb (verdict_number v) 0)
-  where
-    answered : verdict_number v ≡ plan_refusal n s m l (are_tables m t)
-    answered = judged ∙ ap (plan_refusal n s m l) told
+-- what the calls before a return say of the change c and the lent tables t
+module _ (c : Change) (t : Tables) {sized : Bool} (told : sized ≡ are_tables c.metrics.now t) where
+  kept :
+      (k : Refusal)
+      → refusal_number k ≡ plan_refusal c.n c.step_time c.metrics.now c.list.now sized
+      → t ≡ tables_by c t
+  kept k e =
+      let is = e ∙ ap (plan_refusal c.n c.step_time c.metrics.now c.list.now) told in
+      let refused = planned_false c.n c.step_time c.metrics.now c.list.now t
+      (λ z. omega (arith, refusal_positive k, is, z)) in
+      sym (tables_refused c.n c.step_time c.metrics.now c.list.now t refused)
 
-    refused : ok ≡ false → is_planned n s m l t ≡ false
-    refused h = planned_false n s m l t (λ z. eqb-false (verdict_number v) 0 (sym is ∙ h) (answered ∙ z))
+  module _ (e : 0 ≡ plan_refusal c.n c.step_time c.metrics.now c.list.now sized) where
+    planned : is_planned c.n c.step_time c.metrics.now c.list.now t ≡ true
+    planned =
+        let is = e ∙ ap (plan_refusal c.n c.step_time c.metrics.now c.list.now) told in
+        planned_true c.n c.step_time c.metrics.now c.list.now t (sym is)
 
-    module _ (h : ok ≡ true) where
-      none : plan_refusal n s m l sized ≡ 0
-      none = sym judged ∙ eqb-true (verdict_number v) 0 (sym is ∙ h)
+    plan_is : Plan c.n c.metrics.now c.list.now
+    plan_is = ((planned_is c.n c.step_time c.metrics.now c.list.now t).0 planned).2
 
-      planned : is_planned n s m l t ≡ true
-      planned = planned_true n s m l t (ap (plan_refusal n s m l) (sym told) ∙ none)
+    sized_is : Sized c.metrics.now t
+    sized_is = sized_of c.metrics.now t ((planned_is c.n c.step_time c.metrics.now c.list.now t).0 planned).0
 
-pub judge-judged-requires : goal.judge-judged-requires
-judge-judged-requires c = λ e. (sized_of c.args.old.now _ (sym c.are_tables-sized.ensures ∙ e)).given
+pub judge-requires : goal.judge-requires
+judge-requires c = λ e. (sized_of c.args.change.metrics.now _ (sym c.are_tables-sized.ensures ∙ e)).given
 
-pub returns-then-not-is_accepted : goal.returns-then-not-is_accepted
-returns-then-not-is_accepted c =
-    let n = c.args.n in
-    let h = c.args.hold_time in
-    let s = c.args.step_time in
-    let m = c.args.old.now in
-    let l = c.args.list.now in
+pub returns-in_err-judged-clause-tables : goal.returns-in_err-judged-clause-tables
+returns-in_err-judged-clause-tables c =
+    kept c.args.change _ c.are_tables-sized.ensures c.in_err-judged.field-0.0 c.in_err-judged.ensures.answer
+
+pub fill-requires-clause-plan : goal.fill-requires-clause-plan
+fill-requires-clause-plan c = plan_is c.args.change _ c.are_tables-sized.ensures c.in_ok-judged.ensures.answer
+
+pub fill-requires-clause-sized : goal.fill-requires-clause-sized
+fill-requires-clause-sized c = sized_is c.args.change _ c.are_tables-sized.ensures c.in_ok-judged.ensures.answer
+
+pub returns-clause-plan : goal.returns-clause-plan
+returns-clause-plan c =
     let a = c.args in
-    let t = tables_in a.new.now a.old_dist.now a.old_hops.now a.old_fours.now a.new_dist.now a.new_hops.now
-    a.new_fours.now in
-    let sized = c.are_tables-sized in
-    let judged = c.judge-judged in
-    let no = refused n s m l t sized.result sized.ensures judged.result.answer judged.ensures.0 c.is_accepted.result
-    c.is_accepted.ensures.answer c.if-not-is_accepted.true in
-    record {
-      answer = answered n s m l t sized.result sized.ensures judged.result.answer judged.ensures.0 c.is_accepted.result
-          c.is_accepted.ensures.answer;
-      «record» = c.blank.ensures.zeros ∙ sym (record_refused n h s m l t no);
-      tables = sym (tables_refused n s m l t no);
-    }
+    let is = planned a.change _ c.are_tables-sized.ensures c.in_ok-judged.ensures.answer in
+    c.fill.ensures.value
+    ∙ sym (record_planned a.change.n a.change.hold_time a.change.step_time a.change.metrics.now a.change.list.now _ is)
 
-pub fill-record-requires-clause-plan : goal.fill-record-requires-clause-plan
-fill-record-requires-clause-plan c =
-    let n = c.args.n in
-    let s = c.args.step_time in
-    let m = c.args.old.now in
-    let l = c.args.list.now in
+pub returns-clause-tables : goal.returns-clause-tables
+returns-clause-tables c =
     let a = c.args in
-    let t = tables_in a.new.now a.old_dist.now a.old_hops.now a.old_fours.now a.new_dist.now a.new_hops.now
-    a.new_fours.now in
-    let sized = c.are_tables-sized in
-    let judged = c.judge-judged in
-    let yes = planned n s m l t sized.result sized.ensures judged.result.answer judged.ensures.0 c.is_accepted.result
-    c.is_accepted.ensures.answer c.if-not-is_accepted.false in
-    ((planned_is n s m l t).0 yes).2
-
-pub fill-record-requires-clause-sized : goal.fill-record-requires-clause-sized
-fill-record-requires-clause-sized c =
-    let n = c.args.n in
-    let s = c.args.step_time in
-    let m = c.args.old.now in
-    let l = c.args.list.now in
-    let a = c.args in
-    let t = tables_in a.new.now a.old_dist.now a.old_hops.now a.old_fours.now a.new_dist.now a.new_hops.now
-    a.new_fours.now in
-    let sized = c.are_tables-sized in
-    let judged = c.judge-judged in
-    let yes = planned n s m l t sized.result sized.ensures judged.result.answer judged.ensures.0 c.is_accepted.result
-    c.is_accepted.ensures.answer c.if-not-is_accepted.false in
-    sized_of m t ((planned_is n s m l t).0 yes).0
-
-pub returns : goal.returns
-returns c =
-    let n = c.args.n in
-    let h = c.args.hold_time in
-    let s = c.args.step_time in
-    let m = c.args.old.now in
-    let l = c.args.list.now in
-    let a = c.args in
-    let t = tables_in a.new.now a.old_dist.now a.old_hops.now a.old_fours.now a.new_dist.now a.new_hops.now
-    a.new_fours.now in
-    let sized = c.are_tables-sized in
-    let judged = c.judge-judged in
-    let yes = planned n s m l t sized.result sized.ensures judged.result.answer judged.ensures.0 c.is_accepted.result
-    c.is_accepted.ensures.answer c.if-not-is_accepted.false in
-    record {
-      answer = answered n s m l t sized.result sized.ensures judged.result.answer judged.ensures.0 c.is_accepted.result
-          c.is_accepted.ensures.answer;
-      «record» = c.fill-record.ensures.value ∙ sym (record_planned n h s m l t yes);
-      tables = c.fill-record.ensures.left_value ∙ sym (tables_planned n s m l t yes);
-    }
+    let is = planned a.change _ c.are_tables-sized.ensures c.in_ok-judged.ensures.answer in
+    c.fill.ensures.left_value
+    ∙ sym (tables_planned a.change.n a.change.step_time a.change.metrics.now a.change.list.now _ is)

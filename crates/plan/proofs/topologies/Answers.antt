@@ -1,15 +1,12 @@
 -- Paths refuses neither topology, so what it leaves is what is asked for.
-use Rattle.std.proofs.Common.{ℕ, ◌<◌, get_or}
-use Rattle.paths.specs.Paths.{paths_in}
+use Rattle.paths.specs.Paths.{held}
 use Rattle.plan.proofs.Filling.{filled_is}
 use Rattle.plan.proofs.topologies.Goals as goal
 
-pub returns : goal.returns
-returns c =
-    let a = c.args in
-    let old = paths_in a.old_dist.now a.old_hops.now a.old_fours.now in
-    let new = paths_in a.new_dist.now a.new_hops.now a.new_fours.now in
-    let z = c.requires.sized in
-    let bytes : (k : ℕ) → get_or a.list.now k 0 < 256 = λ k. (c.type_inv.list k).fits in
-    filled_is a.n a.old.now a.list.now c.requires.plan bytes old new z.old z.new _ _ _
-    c.apply.ensures c.paths.ensures.tables c.paths-2.ensures.tables
+pub returns-clause-left_value : goal.returns-clause-left_value
+returns-clause-left_value c =
+    let change = c.args.change in
+    let sized = c.requires.sized in
+    filled_is change.n change.metrics.now change.list.now c.requires.plan c.apply.ensures.bytes (held c.args.old.now)
+    (held c.args.new.now) sized.old sized.new _ _ _ c.apply.ensures.cells c.paths.ensures.tables
+    c.paths-2.ensures.tables

@@ -1,15 +1,19 @@
-use Rattle.std.proofs.Common.{◌≡◌, arith}
+use Rattle.std.proofs.Common.{rules, ℕ, get_or}
+use borrow.Author.Tests.{tests}
 use Rattle.area.specs.Limits.{width}
-use Rattle.area.proofs.PerRouterLaws.{filled_none, filled_more, filled_all}
+use Rattle.ranks.specs.Rank.{above}
+use Rattle.sets.proofs.EntryLaws.{entries_are}
 use Rattle.ranks.proofs.longer.Goals as goal
-
-pub loop-r-init : goal.loop-r-init
-loop-r-init c = filled_none width _
-
-pub loop-r-preserved : goal.loop-r-preserved
-loop-r-preserved c = filled_more width c.loop-r.r _ c.loop-r.out _ c.loop-r.invariant (omega arith) c.after.ensures
 
 pub returns : goal.returns
 returns c =
-    let e : c.loop-r.r ≡ c.args.n = omega arith in
-    filled_all width _ _ c.loop-r.out (rw e at c.loop-r.invariant)
+    let f : ℕ → ℕ = λ r. above c.args.n (get_or c.args.waiting.now r 0) (λ s. get_or c.args.ranks.now s 0) in
+    entries_are width c.args.n f c.from_fn.result
+    (λ r x d l e. (
+      search rules,
+      record {
+        inside = λ h. search (rules, tests);
+        outside = λ h. search (rules, tests);
+      },
+    ))
+    c.from_fn.ensures.items

@@ -5,8 +5,8 @@ use Rattle.search.proofs.Dijkstra.{count}
 use Rattle.search.proofs.Settling.{Settling}
 use Rattle.search.proofs.settle.Given as goal
 
-abbrev pub invariant-loop-n : goal.invariant-loop-n
-invariant-loop-n l = Settling l.n l.metric l.source l.dist l.hops l.settled
+abbrev pub invariant-loop-q : goal.invariant-loop-q
+invariant-loop-q l = Settling l.n l.metric l.source l.dist l.hops l.settled
 
-abbrev pub decreases-loop-n : goal.decreases-loop-n
-decreases-loop-n l = width - count l.settled l.n
+abbrev pub decreases-loop-q : goal.decreases-loop-q
+decreases-loop-q l = width - count l.settled l.n

@@ -26,7 +26,7 @@ loop-k-init c = record { are = placed_none _ _; filled = filled_none width _ }
 
 pub loop-k-preserved : goal.loop-k-preserved
 loop-k-preserved c =
-    let w = λ (r : ℕ). get_or c.args.waiting r 0 in
+    let w = λ (r : ℕ). get_or c.args.waiting.now r 0 in
     let next = c.next_after-next.ensures.1 in
     record {
       are = placed_more c.args.n w c.loop-k.k _ _ _ c.loop-k.invariant.are next c.add-placed.ensures.set;

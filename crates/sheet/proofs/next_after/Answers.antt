@@ -1,18 +1,25 @@
-use Rattle.std.proofs.Common.{sym, ◌∙◌, arith}
-use Rattle.area.proofs.LowestLaws.{lowest_start, lowest_skip, lowest_hit, lowest_out}
+-- The routers are tried in turn, up to the first that could come: it is the lowest.
+use Rattle.std.proofs.Common.{◌≡◌, ℕ, ◌≤◌, ◌<◌, Bool, true, false, get_or, rules, tests, arith}
+use Rattle.std.specs.Option.{MatchOption, unwrap_or}
+use Rattle.std.proofs.Common.{Option, Some, None}
+use Rattle.std.proofs.lemmas.Iterator.{first_from_Range}
+use Rattle.area.specs.Tests.{lowest}
+use Rattle.area.proofs.LowestLaws.{lowest_first_lem, lowest_none}
+use Rattle.sheet.specs.Sheet.{could_come}
 use Rattle.sheet.proofs.next_after.Goals as goal
 
-pub loop-r-init : goal.loop-r-init
-loop-r-init c = lowest_start _
-
-pub returns-then-could_come : goal.returns-then-could_come
-returns-then-could_come c = (
-  omega arith,
-  lowest_hit _ _ _ (omega arith) c.loop-r.invariant (sym c.could_come.ensures ∙ c.if-could_come.true),
-)
-
-pub loop-r-preserved : goal.loop-r-preserved
-loop-r-preserved c = lowest_skip _ _ c.loop-r.invariant (sym c.could_come.ensures ∙ c.if-could_come.false)
+found :
+    (n : ℕ) (p : ℕ → Bool) (r : Option ℕ)
+    → MatchOption r ((k : ℕ) → 0 ≤ k → k < n → p k ≡ false)
+    (λ i. (0 ≤ i) × (i < n) × (p i ≡ true) × ((k : ℕ) → 0 ≤ k → k < i → p k ≡ false))
+    → (unwrap_or r n ≤ n) × (unwrap_or r n ≡ lowest n p)
+found n p None none = (omega arith, lowest_none p n (λ k h. none k (omega arith) h))
+found n p (Some i) f = (omega (arith, f.1), lowest_first_lem p n i f.1 (λ k h. f.3 k (omega arith) h) f.2)
 
 pub returns : goal.returns
-returns c = (omega arith, lowest_out _ _ c.loop-r.r (omega arith) c.loop-r.invariant)
+returns c =
+    let p : ℕ → Bool = could_come (λ k. get_or c.args.waiting.now k 0) c.args.placed in
+    rw c.unwrap_or.ensures
+    (found c.args.n p c.find.result
+    (first_from_Range _ _ _ _ (λ i. p i ≡ true) (λ i. p i ≡ false) c.find.ensures.ran
+    (λ x q k. search (rules, tests)) (λ x q k. search (rules, tests))))

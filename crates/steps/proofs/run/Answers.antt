@@ -1,28 +1,21 @@
 -- A step keeps what is left; where no call is left, the record at hand is the last one.
-use Rattle.std.proofs.Common.{sym, ◌∙◌, arith}
+use Rattle.std.proofs.Common.{List, ℕ, sym, ap, ◌∙◌, arith}
+use Rattle.std.proofs.lemmas.List.{take_rest}
 use Rattle.machine.specs.Answers.{reply_of, gives}
-use Rattle.machine.specs.Machine.{with_tables, with_times}
+use Rattle.machine.specs.Run.{run, calls_of}
 use Rattle.machine.proofs.CallLaws.{run_none, run_next}
 use Rattle.steps.proofs.run.Goals as goal
 
-pub loop-at-preserved : goal.loop-at-preserved
-loop-at-preserved c =
-    let h = c.loop-at in
-    let first = c.args.first in
-    let l = c.args.bytes.now in
-    let r = with_tables (with_times first h.clock h.learn_times) h.waiting h.states h.written in
-    let n = c.step.new in
-    let next = with_tables (with_times first n.clock n.learn_times) n.waiting n.states n.written in
-    record {
-      at_most = omega arith;
-      left =
-          h.invariant.left
-          ∙ run_next l h.at r (gives next (reply_of c.step.result)) (c.step.ensures.outcome first) (omega arith);
-    }
+pub loop-left-preserved : goal.loop-left-preserved
+loop-left-preserved c =
+    let h = c.loop-left in
+    let l = h.left.now in
+    let next = c.apply.new.bench in
+    h.invariant
+    ∙ run_next l 0 h.last (gives next (reply_of c.apply.result)) c.apply.ensures.outcome (omega arith)
+    ∙ ap (λ (k : List ℕ). run next (calls_of k)) (sym (take_rest l 3))
 
 pub returns : goal.returns
 returns c =
-    let h = c.loop-at in
-    let first = c.args.first in
-    let r = with_tables (with_times first h.clock h.learn_times) h.waiting h.states h.written in
-    record { last = sym (h.invariant.left ∙ run_none c.args.bytes.now h.at r (omega arith)) }
+    let h = c.loop-left in
+    record { last = sym (h.invariant ∙ run_none h.left.now 0 h.last (omega arith)) }

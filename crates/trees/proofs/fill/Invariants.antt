@@ -6,6 +6,6 @@ use Rattle.trees.proofs.fill.Given as goal
 
 abbrev pub invariant-loop-d : goal.invariant-loop-d
 invariant-loop-d l = record {
-  distances : Columns width (distance_cell l.n l.metric) (λ _ _. unreached) l.d l.dist;
-  sets : Columns width (hop_cell l.n l.metric) (λ _ _. 0) l.d l.hops;
+  distances : Columns width (distance_cell l.links.n l.links.metric.now) (λ _ _. unreached) l.d l.dist;
+  sets : Columns width (hop_cell l.links.n l.links.metric.now) (λ _ _. 0) l.d l.hops;
 }

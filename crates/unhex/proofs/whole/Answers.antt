@@ -1,8 +1,9 @@
 -- Text or not, what is written for the bytes that were read is what is written for the input (written_first,
 -- error_first), and `out` has room for it (written_room).
 use Rattle.std.specs.Prelude.{ℕ, ◌+◌, ◌≤◌, ◌≡◌, Bool, List}
-use Rattle.std.proofs.Common.{sym, ap, ◌∙◌, arith, length, take, length-take}
+use Rattle.std.proofs.Common.{sym, ap, ◌∙◌, arith, rules, length, take, length-take}
 use Rattle.text.specs.Text.{Appended}
+use Rattle.text.proofs.WriterLaws.{whole_text}
 use Rattle.hexadecimal.specs.Hex.{most}
 use Rattle.streams.specs.Streams.{ReadOf}
 use Rattle.streams.proofs.StreamLaws.{whole_text_lem}
@@ -58,9 +59,11 @@ returns-clause-bytes c =
     let a = c.args in
     let size : length a.buffer.now ≡ most + 1 = omega arith in
     let none = sym c.is_text.ensures.answer ∙ c.if-is_text.false in
-    whole_output a.buffer.now a.count size c.append.ensures.appended
+    let all =
+    whole_output a.buffer.now a.count size (whole_text c.new-binary.ensures.empty c.append.ensures.appended)
     (binary_written _ (short a.buffer.now a.count size) none)
-    (omega arith)
+    (omega arith) in
+    search rules
 
 pub returns-clause-error : goal.returns-clause-error
 returns-clause-error c =

@@ -1,125 +1,56 @@
--- The loop over the links.
---     some             a link that is cut short is refused
---     judged, faulty, passed       one turn: the answer is the link's refusal, by what the calls gave
---     in_sets          a link without fault has a set to add its pair to
-use Rattle.std.proofs.Common.{ℕ, ◌≡◌, ◌≢◌, ◌≤◌, ◌<◌, Bool, true, false, List, eqb, sym, ◌∙◌, arith}
+-- The loop over the links: what `link` says of one is its refusal, by the pairs of those before it.
+use Rattle.std.proofs.Common.{arith, rules, ◌∙◌, ap}
 use borrow.Author.Count.{below_none, below_more}
-use borrow.Author.Tests.{eqb-true, eqb-false}
-use Rattle.area.specs.declared.refusal.Verdict.{Verdict}
-use Rattle.area.specs.Limits.{width}
-use Rattle.area.specs.Refusals.{verdict_number}
+use Rattle.area.proofs.RefusalLaws.{refusal_positive}
 use Rattle.area.proofs.TestLaws.{first_none, first_fault}
-use Rattle.area.specs.Tests.{first}
-use Rattle.entries.specs.declared.Entry.{Entry}
-use Rattle.entries.specs.Entries.{entry_count, entry_of}
-use Rattle.entries.specs.Seen.{Seen}
+use Rattle.entries.specs.Entries.{entry_of}
+use Rattle.entries.proofs.EachLaws.{visits_first, visits_next, visits_listed, visits_entry, visits_all}
 use Rattle.entries.proofs.SeenLaws.{seen_none, seen_next}
-use Rattle.bench_file.specs.declared.Format.{Format}
-use Rattle.bench_file.specs.Faults.{link_refusal, seen_refusal}
+use Rattle.bench_file.specs.Faults.{link_refusal}
 use Rattle.bench_file.proofs.FaultLaws.{link_cut}
-use Rattle.bench_file.proofs.Pairs.{link_told, in_sets as inside}
+use Rattle.bench_file.proofs.Pairs.{link_told}
 use Rattle.bench_file.proofs.faults.links.Goals as goal
 
--- a link that is cut short is refused
-some : (format : Format) (n : ℕ) (l : List ℕ) (e : ℕ) → entry_count l ≤ e → link_refusal format n l e ≢ 0
-some format n l e h z = let cut = link_cut format n l e h in let x : ⊥ = omega (arith, cut, z) in x
+pub loop-init : goal.loop-init
+loop-init c =
+    let start = c.of-entries.ensures.first in
+    record { visits = visits_first start.0 start.1; next = start.1; seen = seen_none _; none = below_none _ }
 
--- one turn: x is link e, v what `link` gave for it, and ok whether that is accepted
-module _
-    (format : Format) (n : ℕ) (l : List ℕ) (e : ℕ) (s : List ℕ) (most : n ≤ width) (seen : Seen l e s)
-    (whole : ℕ) (counted : whole ≡ entry_count l) (h : e < whole)
-    (x : Entry) (is : x ≡ entry_of l e)
-    (v : Verdict) (told : verdict_number v ≡ seen_refusal format n x s)
-    (ok : Bool) (good : ok ≡ eqb (verdict_number v) 0)
-  where
-    judged : verdict_number v ≡ link_refusal format n l e
-    judged = told ∙ link_told format n l e s most seen x is (omega arith)
-
-    faulty :
-        (k : ℕ)
-        → e < k
-        → ((d : ℕ) → d < e → link_refusal format n l d ≡ 0)
-        → ok ≡ false
-        → verdict_number v ≡ first k (link_refusal format n l)
-    faulty k b f t =
-        let refused = eqb-false (verdict_number v) 0 (sym good ∙ t) in
-        judged ∙ sym (first_fault (link_refusal format n l) e k b f (λ z. refused (judged ∙ z)))
-
-    passed : ok ≡ true → link_refusal format n l e ≡ 0
-    passed t = sym judged ∙ eqb-true (verdict_number v) 0 (sym good ∙ t)
-
-    in_sets : ok ≡ true → x.from < width
-    in_sets t = inside format n l e s most seen x is (passed t)
-
-pub loop-e-init : goal.loop-e-init
-loop-e-init c = record { seen = seen_none _; none = below_none _ }
-
-pub returns-then-whole-e : goal.returns-then-whole-e
-returns-then-whole-e c =
+pub returns-in_default : goal.returns-in_default
+returns-in_default c =
     let a = c.args in
-    let l = a.list.now in
-    let here = c.loop-e.e in
-    let cut = some a.format a.n l here (omega arith) in
-    sym
-    (first_fault (link_refusal a.format a.n l) here a.announced (omega arith) c.loop-e.invariant.none cut
-    ∙ link_cut a.format a.n l here (omega arith))
+    let all = visits_all c.loop.invariant.visits c.in_default.ensures.steps in
+    let cut = link_cut a.format a.n a.list.now c.loop.counter (omega (arith, all)) in
+    let first = first_fault (link_refusal a.format a.n a.list.now) c.loop.counter a.announced (omega arith) in
+    grind (arith, cut, first)
 
-pub returns-then-not-is_accepted : goal.returns-then-not-is_accepted
-returns-then-not-is_accepted c =
-    let turn = c.loop-e in
-    faulty c.args.format c.args.n c.args.list.now turn.e turn.seen c.requires turn.invariant.seen
-    _ c.count-whole.ensures.answer (omega arith) c.decode-entry.result c.decode-entry.ensures.entry
-    _ c.link-answer.ensures _ c.is_accepted.ensures.answer
-    c.args.announced (omega arith) turn.invariant.none c.if-not-is_accepted.true
+pub returns-in_err-link : goal.returns-in_err-link
+returns-in_err-link c =
+    let a = c.args in
+    let before = c.loop.invariant in
+    let step = c.in-Some.ensures.steps in
+    let here = visits_entry before.visits step ∙ ap (entry_of a.list.now) before.next in
+    let told = link_told a.format a.n a.list.now c.loop.counter c.loop.seen c.requires before.seen
+    c.in-Some.entry here (omega (arith, visits_listed before.visits step)) in
+    let first = first_fault (link_refusal a.format a.n a.list.now) c.loop.counter a.announced (omega arith) in
+    grind (arith, told, first, refusal_positive c.in_err-link.field-0.0)
 
-pub offset_bounds-seen-from : goal.offset_bounds-seen-from
-offset_bounds-seen-from c =
-    let turn = c.loop-e in
-    let own = in_sets c.args.format c.args.n c.args.list.now turn.e turn.seen c.requires turn.invariant.seen
-    _ c.count-whole.ensures.answer (omega arith) c.decode-entry.result c.decode-entry.ensures.entry
-    _ c.link-answer.ensures _ c.is_accepted.ensures.answer c.if-not-is_accepted.false in
-    omega (arith, own)
-
-pub bounds-seen-from : goal.bounds-seen-from
-bounds-seen-from c =
-    let turn = c.loop-e in
-    in_sets c.args.format c.args.n c.args.list.now turn.e turn.seen c.requires turn.invariant.seen
-    _ c.count-whole.ensures.answer (omega arith) c.decode-entry.result c.decode-entry.ensures.entry
-    _ c.link-answer.ensures _ c.is_accepted.ensures.answer c.if-not-is_accepted.false
-
-pub offset_bounds-seen-from-in-loop-e : goal.offset_bounds-seen-from-in-loop-e
-offset_bounds-seen-from-in-loop-e c =
-    let turn = c.loop-e in
-    let own = in_sets c.args.format c.args.n c.args.list.now turn.e turn.seen c.requires turn.invariant.seen
-    _ c.count-whole.ensures.answer (omega arith) c.decode-entry.result c.decode-entry.ensures.entry
-    _ c.link-answer.ensures _ c.is_accepted.ensures.answer c.if-not-is_accepted.false in
-    omega (arith, own)
-
-pub bounds-seen-from-in-loop-e : goal.bounds-seen-from-in-loop-e
-bounds-seen-from-in-loop-e c =
-    let turn = c.loop-e in
-    in_sets c.args.format c.args.n c.args.list.now turn.e turn.seen c.requires turn.invariant.seen
-    _ c.count-whole.ensures.answer (omega arith) c.decode-entry.result c.decode-entry.ensures.entry
-    _ c.link-answer.ensures _ c.is_accepted.ensures.answer c.if-not-is_accepted.false
-
-pub loop-e-preserved : goal.loop-e-preserved
-loop-e-preserved c =
-    let turn = c.loop-e in
-    let l = c.args.list.now in
-    let entry = c.decode-entry in
-    let none = passed c.args.format c.args.n l turn.e turn.seen c.requires turn.invariant.seen
-    _ c.count-whole.ensures.answer (omega arith) entry.result entry.ensures.entry
-    _ c.link-answer.ensures _ c.is_accepted.ensures.answer c.if-not-is_accepted.false in
-    let own = inside c.args.format c.args.n l turn.e turn.seen c.requires turn.invariant.seen
-    entry.result entry.ensures.entry none in
+pub loop-preserved : goal.loop-preserved
+loop-preserved c =
+    let a = c.args in
+    let before = c.loop.invariant in
+    let step = c.in-Some.ensures.steps in
+    let here = visits_entry before.visits step ∙ ap (entry_of a.list.now) before.next in
+    let told = link_told a.format a.n a.list.now c.loop.counter c.loop.seen c.requires before.seen
+    c.in-Some.entry here (omega (arith, visits_listed before.visits step)) in
     record {
+      visits = visits_next before.visits step;
+      next = omega (arith, step.next);
       seen =
-          seen_next l turn.e turn.seen turn.invariant.seen entry.result entry.ensures.entry own
-          c.add.result c.add.ensures.set;
-      none = below_more _ turn.e turn.invariant.none none;
+          seen_next a.list.now c.loop.counter c.loop.seen before.seen c.in-Some.entry here (search rules) c.add.result
+          c.add.ensures.set;
+      none = below_more _ c.loop.counter before.none (grind (arith, told));
     }
 
 pub returns : goal.returns
-returns c =
-    let each = link_refusal c.args.format c.args.n c.args.list.now in
-    sym (first_none each c.args.announced (λ k h. c.loop-e.invariant.none k (omega arith)))
+returns c = grind (arith, first_none (link_refusal c.args.format c.args.n c.args.list.now) c.args.announced)

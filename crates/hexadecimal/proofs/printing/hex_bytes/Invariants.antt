@@ -1,8 +1,8 @@
--- The digits of the bytes before k are appended.
+-- The digits of the bytes before this one are written.
 use Rattle.std.proofs.Common.{take}
-use Rattle.text.specs.Text.{Appended}
+use Rattle.text.specs.Text.{Writes}
 use Rattle.hexadecimal.specs.Digits.{hexed}
 use Rattle.hexadecimal.proofs.printing.hex_bytes.Given as goal
 
-abbrev pub invariant-loop-k : goal.invariant-loop-k
-invariant-loop-k l = Appended l.initial.out l.initial.end (hexed (take l.k l.bytes)) l.out l.end
+abbrev pub invariant-loop-x : goal.invariant-loop-x
+invariant-loop-x l = Writes l.fn.out (hexed (take l.x-index l.bytes)) l.out

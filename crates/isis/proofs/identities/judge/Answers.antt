@@ -1,16 +1,15 @@
 -- A law for each return.
-use Rattle.std.proofs.Common.{arith}
-use Rattle.isis.proofs.IdentityLaws.{rows_unknown, rows_cut, rows_pass}
+use Rattle.std.proofs.Common.{rules}
+use Rattle.isis.proofs.IdentityLaws.{some_unknown, none_unknown, rows_cut, rows_pass}
 use Rattle.isis.proofs.identities.judge.Goals as goal
 
-pub returns-then-n-router : goal.returns-then-n-router
-returns-then-n-router c =
-    rows_unknown c.args.n c.args.table.now c.loop-e.e (omega arith) c.loop-e.invariant (omega arith)
+pub returns-then-any : goal.returns-then-any
+returns-then-any c = some_unknown c.args.n c.args.table.now (search rules)
 
-pub returns-then-table-ne0 : goal.returns-then-table-ne0
-returns-then-table-ne0 c =
-    rows_cut c.args.n c.args.table.now (λ k h. c.loop-e.invariant k (omega arith)) c.if-table-ne0.true
+pub returns-then-not-is_empty : goal.returns-then-not-is_empty
+returns-then-not-is_empty c =
+    rows_cut c.args.n c.args.table.now (none_unknown c.args.n c.args.table.now (search rules)) (search rules)
 
 pub returns : goal.returns
 returns c =
-    rows_pass c.args.n c.args.table.now (λ k h. c.loop-e.invariant k (omega arith)) c.if-table-ne0.false
+    rows_pass c.args.n c.args.table.now (none_unknown c.args.n c.args.table.now (search rules)) (search rules)

@@ -1,36 +1,17 @@
--- One list more has begun at each turn; behind the last none begins.
-use Rattle.std.proofs.Common.{ℕ, ◌+◌, ap, arith}
+-- One list more has begun.
+use Rattle.std.proofs.Common.{rules, arith, ap, ◌+◌, length, length-drop}
 use Rattle.area.specs.Bytes.{two}
-use Rattle.isis.proofs.IsisLaws.{count_at, count_start, count_end, count_more}
+use Rattle.isis.specs.Lists.{list_count}
+use Rattle.isis.proofs.IsisLaws.{count_more}
 use Rattle.isis.proofs.lists.count.Goals as goal
 
-pub loop-at-init : goal.loop-at-init
-loop-at-init c = record {
-  inside = omega arith;
-  few = omega arith;
-  all = omega (arith, count_start c.args.lists.now);
-}
-
-pub returns-then-left-size : goal.returns-then-left-size
-returns-then-left-size c =
-    let d = c.args.lists.now in
-    let at = c.loop-at.at in
-    let here = count_more d at (omega arith) in
-    let none = count_end d (at + 2 + two d at) (omega arith) in
-    omega (arith, c.loop-at.invariant.all, here, none)
-
-pub loop-at-preserved : goal.loop-at-preserved
-loop-at-preserved c =
-    let d = c.args.lists.now in
-    let at = c.loop-at.at in
-    let here = count_more d at (omega arith) in
-    let size = ap (λ (x : ℕ). count_at d (at + 2 + x)) c.two-size.ensures.number in
+pub loop-rest-preserved : goal.loop-rest-preserved
+loop-rest-preserved c =
+    let r = c.loop-rest.rest.now in
+    let more = count_more r (search rules) c.in-Some.ensures.0 in
+    let after = c.in-Some.ensures.2 in
+    let left = length-drop (2 + two r 0) r in
     record {
-      inside = omega arith;
-      few = omega arith;
-      all = omega (arith, c.loop-at.invariant.all, here, size);
+      few = omega (arith, ap length after, left, c.in-Some.ensures.0, c.loop-rest.invariant.few);
+      all = omega (arith, more, ap list_count after, c.loop-rest.invariant.all);
     }
-
-pub returns : goal.returns
-returns c =
-    omega (arith, c.loop-at.invariant.all, count_end c.args.lists.now c.loop-at.at (omega arith))

@@ -1,15 +1,13 @@
--- The lists that have begun, and those from `at` on, are all lists.
-use Rattle.std.proofs.Common.{◌≡◌, ◌+◌, ◌-◌, ◌≤◌, length}
+-- The lists that have begun, and those that are left, are all lists.
+use Rattle.std.proofs.Common.{◌≡◌, ◌+◌, ◌≤◌, length}
 use Rattle.isis.specs.Lists.{list_count}
-use Rattle.isis.proofs.IsisLaws.{count_at}
 use Rattle.isis.proofs.lists.count.Given as goal
 
-abbrev pub invariant-loop-at : goal.invariant-loop-at
-invariant-loop-at l = record {
-  inside : l.at ≤ length l.lists;
-  few : l.begun ≤ l.at;
-  all : l.begun + count_at l.lists l.at ≡ list_count l.lists;
+abbrev pub invariant-loop-rest : goal.invariant-loop-rest
+invariant-loop-rest l = record {
+  few : l.begun + length l.rest ≤ length l.lists;
+  all : l.begun + list_count l.rest ≡ list_count l.lists;
 }
 
-abbrev pub decreases-loop-at : goal.decreases-loop-at
-decreases-loop-at l = length l.lists - l.at
+abbrev pub decreases-loop-rest : goal.decreases-loop-rest
+decreases-loop-rest l = length l.rest

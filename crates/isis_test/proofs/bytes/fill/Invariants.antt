@@ -2,5 +2,5 @@
 use Rattle.std.proofs.Common.{◌<◌}
 use Rattle.isis_test.proofs.bytes.fill.Given as goal
 
-abbrev pub invariant-loop-at : goal.invariant-loop-at
-invariant-loop-at l = l.reading.length < 2048
+abbrev pub invariant-loop-b : goal.invariant-loop-b
+invariant-loop-b l = l.reading.length < 2048

@@ -1,10 +1,11 @@
-use Rattle.std.proofs.Common.{ℕ, ap, ◌∙◌, refl, Bool, not, eqb, eq-eqb, ne_eqb, arith}
+use Rattle.std.proofs.Common.{◌≡◌, ℕ, ◌*◌, ◌<◌, ap, sym, ◌∙◌, refl, Bool, not, eqb, eq-eqb, ne_eqb, arith}
 use Rattle.area.specs.Limits.{width}
 use Rattle.area.specs.Tables.{cell}
 use Rattle.sets.specs.Sets.{added}
 use Rattle.sets.proofs.SetLaws.{set_of_start, set_of_skip, set_of_more}
+use Rattle.order.proofs.OrderLaws.{row_length, row_at}
 use Rattle.order.proofs.due.changed.Goals as goal
-use Rattle.order.proofs.due.changed.Goals.{then-old-k, else-old-k}
+use Rattle.order.proofs.due.changed.Goals.{then-was-is, else-was-is}
 
 pub loop-d-init : goal.loop-d-init
 loop-d-init c = set_of_start _
@@ -13,15 +14,26 @@ pub loop-d-preserved : goal.loop-d-preserved
 loop-d-preserved c =
     let a = c.args in
     let d = c.loop-d.d in
-    let was = cell width a.old.now a.r d in
-    let is = cell width a.new.now a.r d in
-    let p : ℕ → Bool = λ k. not (eqb (cell width a.old.now a.r k) (cell width a.new.now a.r k)) in
-    elim c.if-old-k.branch [
-      | then-old-k w ↦
+    let was : ℕ → ℕ = cell width a.old.now a.r in
+    let is : ℕ → ℕ = cell width a.new.now a.r in
+    let p : ℕ → Bool = λ k. not (eqb (was k) (is k)) in
+    let inside : d < a.n = omega (arith, c.loop-d-test.true, row_length a.old.now (width * a.r) a.n (omega arith)) in
+    let was_is = row_at a.old.now (width * a.r) a.n d inside in
+    let is_is = row_at a.new.now (width * a.r) a.n d inside in
+    elim c.if-was-is.branch [
+      | then-was-is w ↦
+          let other = ne_eqb (was d) (is d) (λ e. w.if-was-is.true (was_is ∙ e ∙ sym is_is)) in
           w.found-is
           ∙ w.add-found.ensures.set
           ∙ ap (λ (x : ℕ). added width x d) c.loop-d.invariant
-          ∙ set_of_more width d p (omega arith) (rw (ne_eqb was is w.if-old-k.true) refl)
-      | else-old-k w ↦
-          w.found-is ∙ c.loop-d.invariant ∙ set_of_skip d p (rw (eq-eqb was is w.if-old-k.false) refl)
+          ∙ set_of_more width d p (omega arith) (rw other refl)
+      | else-was-is w ↦
+          let same = eq-eqb (was d) (is d) (sym was_is ∙ w.if-was-is.false ∙ is_is) in
+          w.found-is ∙ c.loop-d.invariant ∙ set_of_skip d p (rw same refl)
     ]
+
+pub returns : goal.returns
+returns c =
+    let a = c.args in
+    let e : c.loop-d.d ≡ a.n = omega (arith, row_length a.old.now (width * a.r) a.n (omega arith)) in
+    rw e at c.loop-d.invariant

@@ -1,4 +1,5 @@
 use Rattle.std.proofs.Common.{◌≡◌, arith, get_or}
+use Rattle.std.proofs.lemmas.List.{get_or-take}
 use Rattle.area.specs.Limits.{width}
 use Rattle.order.proofs.EnteringLaws.{held_none, held_more, held_all}
 use Rattle.order.proofs.waiting.converse.Goals as goal
@@ -9,7 +10,7 @@ loop-s-init c = held_none width _ _
 pub loop-s-preserved : goal.loop-s-preserved
 loop-s-preserved c =
     held_more width c.args.n (λ k. get_or c.args.sets.now k 0) c.loop-s.s c.loop-s.out _ (omega arith)
-    c.loop-s.invariant c.enter.ensures
+    c.loop-s.invariant (rw (get_or-take c.args.n c.args.sets.now c.loop-s.s 0 (omega arith)) at c.enter.ensures)
 
 pub returns : goal.returns
 returns c =

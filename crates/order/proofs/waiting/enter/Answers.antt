@@ -1,31 +1,29 @@
-use Rattle.std.proofs.Common.{arith}
+use Rattle.std.proofs.Common.{arith, rules}
 use Rattle.area.specs.Limits.{width}
-use Rattle.sets.proofs.VisitLaws.{visit_less}
-use Rattle.order.proofs.EnteringLaws.{entering_next, entering_skip, entering_end}
+use Rattle.sets.proofs.MembersLaws.{loop_turn, loop_come, loop_end}
+use Rattle.order.proofs.EnteringLaws.{entering_start, entering_next, entering_skip, entering_end}
 use Rattle.order.proofs.waiting.enter.Goals as goal
-use Rattle.order.proofs.waiting.enter.Goals.{then-r-n, else-r-n}
 
-pub loop-left-smaller : goal.loop-left-smaller
-loop-left-smaller c =
-    visit_less width c.loop-left.left _ c.loop-left.invariant.held.fits c.loop-left-test.true c.rest-left.ensures.set
+pub loop-r-init : goal.loop-r-init
+loop-r-init c = entering_start width c.args.n c.args.s c.args.out.now
 
-pub loop-left-preserved : goal.loop-left-preserved
-loop-left-preserved c =
+pub loop-r-preserved-then-r-n : goal.loop-r-preserved-then-r-n
+loop-r-preserved-then-r-n c =
     let a = c.args in
-    let q = c.lowest-r in
-    elim c.if-r-n.branch [
-      | then-r-n w ↦
-          rw w.out-is
-          (entering_next width a.n a.set a.s a.out.now q.result c.rest-left.result c.loop-left.invariant
-          c.loop-left-test.true q.ensures.member c.rest-left.ensures.set w.add.result (omega arith) w.if-r-n.true
-          w.add.ensures.set)
-      | else-r-n w ↦
-          rw w.out-is
-          (entering_skip width a.n a.set a.s a.out.now q.result c.rest-left.result c.loop-left.invariant
-          c.loop-left-test.true q.ensures.member c.rest-left.ensures.set w.if-r-n.false)
-    ]
+    let at = c.loop-r in
+    let turn = loop_turn at.yielded _ _ a.set (search rules) at.yielded_by _ _ c.in-Some.ensures.steps in
+    entering_next width a.n a.s a.out.now at.yielded at.out c.in-Some.r at.invariant c.add.result (omega arith)
+    c.if-r-n.true turn.last c.add.ensures.set
+
+pub loop-r-preserved : goal.loop-r-preserved
+loop-r-preserved c =
+    entering_skip width c.args.n c.args.s c.args.out.now c.loop-r.yielded c.loop-r.out c.in-Some.r c.loop-r.invariant
+    c.if-r-n.false
 
 pub returns : goal.returns
 returns c =
     let a = c.args in
-    entering_end width a.n a.set a.s a.out.now c.loop-left.invariant c.loop-left-test.false
+    let at = c.loop-r in
+    entering_end width a.n a.s a.out.now at.invariant
+    (loop_come at.yielded _ _ a.set (search rules) at.yielded_by)
+    (loop_end at.yielded _ _ a.set (search rules) at.yielded_by c.in-None.ensures.steps.0 (omega arith))

@@ -1,15 +1,18 @@
-use Rattle.std.proofs.Common.{◌≡◌, refl, arith}
+use Rattle.std.proofs.Common.{rules}
+use borrow.Author.Tests.{tests}
 use Rattle.area.specs.Limits.{width}
-use Rattle.area.proofs.PerRouterLaws.{filled_none, filled_more, filled_all}
+use Rattle.area.specs.Tables.{cell}
+use Rattle.sets.proofs.EntryLaws.{entries_are}
 use Rattle.order.proofs.waiting.toward.Goals as goal
-
-pub loop-r-init : goal.loop-r-init
-loop-r-init c = filled_none width _
-
-pub loop-r-preserved : goal.loop-r-preserved
-loop-r-preserved c = filled_more width c.loop-r.r _ c.loop-r.out _ c.loop-r.invariant (omega arith) refl
 
 pub returns : goal.returns
 returns c =
-    let e : c.loop-r.r ≡ c.args.n = omega arith in
-    filled_all width _ _ c.loop-r.out (rw e at c.loop-r.invariant)
+    entries_are width c.args.n (λ r. cell width c.args.hops.now r c.args.root) c.from_fn.result
+    (λ r x d l e. (
+      search rules,
+      record {
+        inside = λ h. search (rules, tests);
+        outside = λ h. search (rules, tests);
+      },
+    ))
+    c.from_fn.ensures.items

@@ -1,36 +1,57 @@
--- Without a step time the refusal is that of `untimed`, and with one all is as the change is judged.
-use Rattle.std.proofs.Common.{◌≡◌, ◌≢◌, ℕ, sym, ap, subst, ◌∙◌, Bool, List, arith}
-use Rattle.area.specs.declared.refusal.Refusal.{Refusal}
-use Rattle.area.specs.declared.refusal.Verdict.{Verdict}
-use Rattle.area.specs.Refusals.{refusal_number, verdict_number}
-use Rattle.area.proofs.RefusalLaws.{refusal_positive}
-use Rattle.plan.specs.declared.judging.Judged.{Judged}
-use Rattle.plan.specs.Plan.{plan_refusal}
-use Rattle.plan.specs.Parts.{Found, Judges, JudgesPlan}
-use Rattle.plan.proofs.PlanLaws.{plan_timed}
+-- One law for each return (`plan_parts` and those after it), by what the parts before it answered.
+use Rattle.std.proofs.Common.{sym, ap, ◌∙◌, rules}
+use Rattle.changes.proofs.ChangeLaws.{sound_of}
+use Rattle.changes.specs.Root.{is_common}
+use Rattle.plan.proofs.PlanLaws.{at_area, at_length, at_change, at_direction, at_root, at_end, part_ready}
 use Rattle.plan.proofs.judging.judge.Goals as goal
 
-module _ (n s : ℕ) (m l : List ℕ) (sized : Bool) where
-  without :
-      s ≡ 0
-      → (k : Refusal)
-      → ((m l : List ℕ) (sized : Bool) → refusal_number k ≡ plan_refusal n 0 m l sized)
-      → (r : Judged)
-      → r.answer ≡ Verdict.Refused k
-      → JudgesPlan n s m l sized r
-  without z k is r given =
-      let e = is m l sized ∙ ap (λ (t : ℕ). plan_refusal n t m l sized) (sym z) in
-      (ap verdict_number given ∙ e, λ none. absurd (let x : ⊥ = omega (arith, refusal_positive k, e, none) in x))
+pub returns-in_err-judge_area-clause-answer : goal.returns-in_err-judge_area-clause-answer
+returns-in_err-judge_area-clause-answer c =
+    let a = c.args.change in
+    let err = c.in_err-judge_area in
+    let is = at_area a.n a.step_time a.metrics.now a.list.now c.args.sized err.field-0.0 err.ensures.answer in
+    search (rules, is)
 
-  with_one : s ≢ 0 → (r : Judged) → Judges n m l sized r → JudgesPlan n s m l sized r
-  with_one f r = subst (λ (k : ℕ). Found n m l k r) (sym (plan_timed n s m l sized f))
+pub returns-in_err-judge_length-clause-answer : goal.returns-in_err-judge_length-clause-answer
+returns-in_err-judge_length-clause-answer c =
+    let a = c.args.change in
+    let err = c.in_err-judge_length in
+    let is = at_length a.n a.step_time a.metrics.now a.list.now c.args.sized c.in_ok-judge_area.ensures.answer
+    err.field-0.0 err.ensures.answer in
+    search (rules, is)
 
-pub returns-then-step_time-eq0 : goal.returns-then-step_time-eq0
-returns-then-step_time-eq0 c =
-    without c.args.n c.args.step_time c.args.old.now c.args.list.now c.args.sized c.if-step_time-eq0.true
-    c.untimed.result c.untimed.ensures _ c.refused.ensures
+pub returns-in_err-first_refusal-clause-answer : goal.returns-in_err-first_refusal-clause-answer
+returns-in_err-first_refusal-clause-answer c =
+    let a = c.args.change in
+    let err = c.in_err-first_refusal in
+    let is = at_change a.n a.step_time a.metrics.now a.list.now c.args.sized c.in_ok-judge_area.ensures.answer
+    c.in_ok-judge_length.ensures.answer err.field-0.0 err.ensures.answer in
+    search (rules, is)
 
-pub returns : goal.returns
-returns c =
-    with_one c.args.n c.args.step_time c.args.old.now c.args.list.now c.args.sized c.if-step_time-eq0.false
-    c.judge_change.result c.judge_change.ensures
+pub direction_of-requires : goal.direction_of-requires
+direction_of-requires c =
+    let a = c.args.change in
+    let ready = part_ready a.n a.step_time a.metrics.now c.args.sized c.in_ok-judge_area.ensures.answer c.requires in
+    (ready.most, ready.size, sound_of a.n a.list.now (sym c.in_ok-first_refusal.ensures.answer))
+
+pub returns-in_err-direction-clause-answer : goal.returns-in_err-direction-clause-answer
+returns-in_err-direction-clause-answer c =
+    let a = c.args.change in
+    let err = c.in_err-direction in
+    let is = at_direction a.n a.step_time a.metrics.now a.list.now c.args.sized c.in_ok-judge_area.ensures.answer
+    c.in_ok-judge_length.ensures.answer c.in_ok-first_refusal.ensures.answer err.field-0.0 err.ensures.answer in
+    search (rules, is)
+
+pub returns-then-not-is_common-clause-answer : goal.returns-then-not-is_common-clause-answer
+returns-then-not-is_common-clause-answer c =
+    let a = c.args.change in
+    at_root a.n a.step_time a.metrics.now a.list.now c.args.sized c.in_ok-judge_area.ensures.answer
+    c.in_ok-judge_length.ensures.answer c.in_ok-first_refusal.ensures.answer c.in_ok-direction.ensures.answer
+    (sym c.if-not-is_common.true ∙ c.is_common.ensures.answer ∙ ap (is_common a.list.now) c.root-root.ensures.answer)
+
+pub returns-clause-answer : goal.returns-clause-answer
+returns-clause-answer c =
+    let a = c.args.change in
+    at_end a.n a.step_time a.metrics.now a.list.now c.args.sized c.in_ok-judge_area.ensures.answer
+    c.in_ok-judge_length.ensures.answer c.in_ok-first_refusal.ensures.answer c.in_ok-direction.ensures.answer
+    (sym c.if-not-is_common.false ∙ c.is_common.ensures.answer ∙ ap (is_common a.list.now) c.root-root.ensures.answer)

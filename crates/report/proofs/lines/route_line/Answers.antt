@@ -1,9 +1,8 @@
-use Rattle.report.proofs.LineLaws.{route_appended}
+use Rattle.std.proofs.Common.{rules}
+use Rattle.report.specs.Lines.{route_line}
+use Rattle.text.proofs.WriterLaws.{writes_then}
 use Rattle.report.proofs.lines.route_line.Goals as goal
 
 pub returns : goal.returns
-returns c = record {
-  line =
-      route_appended _ _ _ _ c.ends-at.ensures.text c.side-at.ensures.text c.side-at-2.ensures.text
-      c.append.ensures.appended;
-}
+unfolding route_line
+returns c = record { line = search (rules, writes_then) depth 12 }

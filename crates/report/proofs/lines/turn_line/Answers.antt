@@ -1,9 +1,8 @@
-use Rattle.report.proofs.SheetLineLaws.{turn_appended}
+use Rattle.std.proofs.Common.{rules}
+use Rattle.report.specs.Lines.{turn_line}
+use Rattle.text.proofs.WriterLaws.{writes_then}
 use Rattle.report.proofs.lines.turn_line.Goals as goal
 
 pub returns : goal.returns
-returns c = record {
-  line =
-      turn_appended _ _ _ _ c.field-at.ensures.appended c.field-at-2.ensures.appended
-      c.named_set-at.ensures.text c.named_set-at-2.ensures.text c.append.ensures.appended;
-}
+unfolding turn_line
+returns c = record { line = search (rules, writes_then) depth 12 }

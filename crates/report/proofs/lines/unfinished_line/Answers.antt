@@ -1,9 +1,8 @@
-use Rattle.report.proofs.UnfinishedLaws.{unfinished_appended}
+use Rattle.std.proofs.Common.{rules}
+use Rattle.report.specs.Lines.{unfinished_line}
+use Rattle.text.proofs.WriterLaws.{writes_then}
 use Rattle.report.proofs.lines.unfinished_line.Goals as goal
 
 pub returns : goal.returns
-returns c = record {
-  line =
-      unfinished_appended _ _ _ _ _ _ c.field-at.ensures.appended c.state_word-at.ensures.text
-      c.named_set-at.ensures.text c.named_set-at-2.ensures.text c.times_end.ensures.text;
-}
+unfolding unfinished_line
+returns c = record { line = search (rules, writes_then) depth 14 }

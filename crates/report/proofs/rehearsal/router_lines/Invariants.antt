@@ -1,7 +1,7 @@
 -- The lines of the routers below i are there.
-use Rattle.text.specs.Text.{Appended}
+use Rattle.text.specs.Text.{Writes}
 use Rattle.report.specs.Lines.{router_lines}
 use Rattle.report.proofs.rehearsal.router_lines.Given as goal
 
 abbrev pub invariant-loop-i : goal.invariant-loop-i
-invariant-loop-i l = Appended l.fn.out 0 (router_lines l.fresh l.i) l.out l.at
+invariant-loop-i l = Writes l.fn.text (router_lines l.fresh l.i) l.text

@@ -1,12 +1,15 @@
-use Rattle.std.proofs.Common.{◌≡◌, arith}
+use Rattle.std.proofs.Common.{arith, length-take, get_or-take}
 use Rattle.report.proofs.CallLineLaws.{each_start, each_next}
 use Rattle.report.proofs.step_section.turns_calls.Goals as goal
 
-pub loop-k-init : goal.loop-k-init
-loop-k-init c = each_start _ _ _ c.requires.1
+pub loop-router-init : goal.loop-router-init
+loop-router-init c = each_start _ _
 
-pub loop-k-preserved : goal.loop-k-preserved
-loop-k-preserved c = each_next _ _ c.loop-k.invariant c.turn_calls-at.ensures.lines
-
-pub returns : goal.returns
-returns c = let all : c.loop-k.k ≡ c.args.fresh.n = omega arith in record { lines = rw all at c.loop-k.invariant }
+pub loop-router-preserved : goal.loop-router-preserved
+loop-router-preserved c =
+    let n = c.args.fresh.now.n in
+    let places = c.args.places.now in
+    let k = c.loop-router.router-index in
+    let below = length-take n places in
+    each_next _ _ c.loop-router.invariant
+    (rw (get_or-take n places k 0 (omega arith)) at c.turn_calls.ensures.lines)

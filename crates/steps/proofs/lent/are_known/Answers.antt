@@ -22,7 +22,7 @@ known s m f g =
 
 pub returns : goal.returns
 returns c =
-    let end : c.loop-i.i ≡ width = omega arith in
-    known c.args.states.now c.loop-i.largest
-    (λ k h. c.loop-i.invariant.0 k (omega arith))
-    (λ f. c.loop-i.invariant.1 (λ k h. f k (omega arith)))
+    let end : c.loop-state.state-index ≡ width = omega arith in
+    known c.args.states.now c.loop-state.largest
+    (λ k h. c.loop-state.invariant.0 k (omega arith))
+    (λ f. c.loop-state.invariant.1 (λ k h. f k (omega arith)))
