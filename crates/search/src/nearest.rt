@@ -10,15 +10,16 @@ pub(crate) fn nearest(n: usize, dist: &[u32], settled: Set) -> Option<usize>
     ensures inside { IfSome result (λ r. r < n) }
     ensures nearest { Nearest n dist.now settled (found_or n result) }
 {
-    let mut best = None;
+    let mut best = n;
     let mut low = UNREACHED;
-    // By number: that of the nearest is the answer, and the row may be longer than n.
+    // By number: that of the nearest is the answer, and the row may be longer than n. `best` is a number too, since the
+    // compiler then makes conditional moves of this loop; of an Option it makes branches, which are hard to predict.
     for k in 0..n {
         let d = dist[k];
         if d < low && !sets::member(settled, k) {
             low = d;
-            best = Some(k);
+            best = k;
         }
     }
-    best
+    if best < n { Some(best) } else { None }
 }
