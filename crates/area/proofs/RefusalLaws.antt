@@ -2,7 +2,8 @@
 -- refusal has the number 0, which is that of "accepted".
 --     refusal_positive     no refusal has the number 0
 --     same_refusal         refusals with the same number are the same
---     same_verdict         and so are answers
+--     same_verdict         and so are answers that hand nothing back
+--     same_answer          of any two answers: both accept, or both refuse for the same reason
 use Rattle.std.specs.Prelude.{ℕ, ◌≤◌, ◌≡◌, refl, eqb, Result, Ok, Err}
 use Rattle.std.proofs.Common.{sym, ap, ◌∙◌, arith}
 use Rattle.area.specs.declared.refusal.Refusal.{Refusal}
@@ -120,3 +121,19 @@ same_verdict (Ok _) (Ok _) e = refl
 same_verdict (Ok _) (Err k) e = absurd (let x : ⊥ = omega (arith, refusal_positive k) in x)
 same_verdict (Err j) (Ok _) e = absurd (let x : ⊥ = omega (arith, refusal_positive j) in x)
 same_verdict (Err j) (Err k) e = ap Err (same_refusal j k e)
+
+-- an answer without what it hands back
+abbrev pub verdict_of : {T : Type 0} → Result T Refusal → Result Unit Refusal
+verdict_of (Ok _) = Ok tt
+verdict_of (Err k) = Err k
+
+number_of_verdict : {T : Type 0} (v : Result T Refusal) → verdict_number (verdict_of v) ≡ verdict_number v
+number_of_verdict (Ok _) = refl
+number_of_verdict (Err k) = refl
+
+pub same_answer :
+    {T U : Type 0} (v : Result T Refusal) (w : Result U Refusal)
+    → verdict_number v ≡ verdict_number w
+    → verdict_of v ≡ verdict_of w
+same_answer v w e =
+    same_verdict (verdict_of v) (verdict_of w) (number_of_verdict v ∙ e ∙ sym (number_of_verdict w))
