@@ -1,8 +1,9 @@
--- The loop that copies the old metrics, row by row, into a table that was cleared.
+-- The loops that copy the old metrics, row by row, into a table that was cleared.
+--     Copied, copied_none, copied_more, copied_row     the cells of one row, one place after another; then its own cell
 --     Rows, rows_none, rows_more, rows_all             one row after another; then the table is copied
 use Rattle.std.proofs.Math.Decide.{dec_lt, ℕ_discrete}
-use Rattle.std.proofs.Common.{ℕ, ◌+◌, ◌*◌, ◌≤◌, ◌<◌, ◌≡◌, refl, sym, ap, ◌∙◌, inl, inr, List, []}
-use Rattle.std.proofs.Common.{arith, length, get_or}
+use Rattle.std.proofs.Common.{ℕ, ◌+◌, ◌*◌, ◌≤◌, ◌<◌, ◌≡◌, refl, sym, ap, ◌∙◌, ◌≢◌, ◌⊎◌, inl, inr, ⊎_elim, List, []}
+use Rattle.std.proofs.Common.{arith, length, get_or, set, length-set, get_or-set_same, get_or-set_other}
 use Rattle.area.specs.Limits.{width, unused}
 use Rattle.area.specs.Tables.{build, cell, tabulate}
 use Rattle.area.proofs.TableLaws.{length_build, build_at, is_tabulate}
@@ -10,6 +11,50 @@ use Rattle.plan.specs.NewMetrics.{new_cell}
 use Rattle.plan.proofs.MetricLaws.{cell_own, cell_beyond, pair_copied}
 use Rattle.plan.specs.Parts.{RowCopied}
 
+-- ---- one row
+-- t is `was`, with what m has at the places from a to b
+pub record Copied (a b : ℕ) (m was t : List ℕ) : Type 0 where
+  pub size : length t ≡ length was
+  pub inside : (k : ℕ) → a ≤ k → k < b → get_or t k 0 ≡ get_or m k 0
+  pub outside : (k : ℕ) → (k < a) ⊎ (b ≤ k) → get_or t k 0 ≡ get_or was k 0
+
+module _ (a : ℕ) (m was : List ℕ) where
+  pub copied_none : Copied a a m was was
+  copied_none = record { size = refl; inside = λ k x y. absurd (omega arith); outside = λ k x. refl }
+
+  pub copied_more :
+      (b : ℕ) (t : List ℕ) → Copied a b m was t → a ≤ b → b < length was
+      → Copied a (b + 1) m was (set t b (get_or m b 0))
+  copied_more b t i low h = record {
+    size = simp length-set i.size;
+    inside = λ k x y. elim (ℕ_discrete k b) [
+      | yes q ↦ rw q (get_or-set_same t b (get_or m b 0) 0 (omega (arith, i.size)))
+      | no f ↦ get_or-set_other t b k (get_or m b 0) 0 f ∙ i.inside k x (omega arith)
+    ];
+    outside = λ k x.
+        get_or-set_other t b k (get_or m b 0) 0 (λ q. let z : ⊥ = ⊎_elim (λ l. omega arith) (λ l. omega arith) x in z)
+        ∙ i.outside k (⊎_elim inl (λ l. inr (omega arith)) x);
+  }
+
+  pub copied_row :
+      (n i : ℕ) (t : List ℕ) → a ≡ width * i → n ≤ width → i < n → length was ≡ width * width
+      → Copied a (a + n) m was t
+      → RowCopied n m i was (set t (a + i) unused)
+  copied_row n i t e most l size c = record {
+    size = simp length-set c.size;
+    own = ap (λ (k : ℕ). get_or (set t (a + i) unused) k 0) (omega arith)
+        ∙ get_or-set_same t (a + i) unused 0 (omega (arith, c.size));
+    row = λ j b f. kept (width * i + j) (λ q. f (omega arith)) ∙ c.inside (width * i + j) (omega arith) (omega arith);
+    beyond = λ j b d. kept (width * i + j) (λ q. let z : ⊥ = omega arith in z)
+        ∙ c.outside (width * i + j) (inr (omega arith));
+    others = λ h j f d. kept (width * h + j) (λ q. f (omega arith))
+        ∙ c.outside (width * h + j) (elim (dec_lt h i) [ yes b ↦ inl (omega arith) | no b ↦ inr (omega arith) ]);
+  }
+    where
+      kept : (k : ℕ) → k ≢ a + i → get_or (set t (a + i) unused) k 0 ≡ get_or t k 0
+      kept k f = get_or-set_other t (a + i) k unused 0 f
+
+-- ---- one row after another
 -- the rows before r are copied, and the others clear
 pub record Rows (n : ℕ) (m : List ℕ) (r : ℕ) (t : List ℕ) : Type 0 where
   pub size : length t ≡ width * width
