@@ -1,6 +1,6 @@
 // Paths: distances and next hops of one topology, by the metrics of its links.
 //     Topology     the lent tables of one topology
-//     are_sized    the test of the sizes of what is lent, for a caller that judges it first
+//     are_paths    the test of the sizes of what is lent, for a caller that judges it first; `are_sized` of a Topology
 //     paths        the refusals in their order (`judge`), and then the tables
 //     is_area      the refusals that ask for no tables, for a caller that has lent none yet
 //     fill         distances and next-hop sets, the rows of one source at a time, each by crate search
@@ -17,7 +17,7 @@ ghost use Rattle.area.specs.Limits.{width};
 ghost use Rattle.area.specs.Refusals.{verdict_number};
 ghost use Rattle.area.specs.Tables.{build, tabulate};
 ghost use Rattle.sets.specs.Four.{four};
-ghost use Rattle.paths.specs.Paths.{held, AreSame, are_paths, is_area, paths_refusal, paths_of};
+ghost use Rattle.paths.specs.Paths.{paths_in, held, AreSame, are_paths, is_area, paths_refusal, paths_of};
 ghost use Rattle.topology.specs.Cells.{distance_cell, hop_cell};
 
 use area::limits::{CELLS, Set, WIDTH};
@@ -35,11 +35,10 @@ pub struct Topology<'a> {
 
 impl Topology<'_> {
     // Has each of the three the size of a table?
-    #[tactic(auto, using(area::proofs::SizeLaws::table_is), unfolding(crate::specs::Paths::are_paths))]
     pub fn are_sized(&self) -> bool
         ensures answer { result ≡ are_paths (held self.now) }
     {
-        self.dist.len() == CELLS && self.hops.len() == CELLS && self.fours.len() == CELLS
+        are_paths(self.dist, self.hops, self.fours)
     }
 }
 
@@ -82,6 +81,14 @@ pub fn is_area(n: usize, metric: &[u32]) -> bool
     ensures answer { result ≡ is_area n metric.now }
 {
     (1..=WIDTH).contains(&n) && metric.len() == CELLS && metrics::are_valid(n, metric)
+}
+
+// Have the tables of one topology the right size?
+#[tactic(auto, using(area::proofs::SizeLaws::table_is), unfolding(crate::specs::Paths::are_paths))]
+pub fn are_paths(dist: &[u32], hops: &[Set], fours: &[Set]) -> bool
+    ensures answer { result ≡ are_paths (paths_in dist.now hops.now fours.now) }
+{
+    dist.len() == CELLS && hops.len() == CELLS && fours.len() == CELLS
 }
 
 // Distances and next-hop sets, row by row: the search for a source is lent that source's rows.
