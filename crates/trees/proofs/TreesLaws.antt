@@ -1,13 +1,15 @@
 -- The tables that a search is lent, where the sizes are right and where one is wrong. The definitions choose by one
 -- test, so each law has the answer of that test as its premise.
---     Sizes, sizes_are                  the sizes that a search needs, where their test holds
---     distances_filled, hops_filled     the tables are filled
---     distances_left, hops_left         the tables are left as they were
---     tables                            these laws, for the code
-use Rattle.std.specs.Prelude.{ℕ, ◌*◌, ◌≤◌, ◌≡◌, true, false, ◌&&◌, List, leb, length}
+--     Sizes, sizes_are, sizes_true                            the sizes that a search needs, and their test
+--     many_routers, other_metrics, other_distances, last_size
+--                                                             the test where one is wrong, in the order of the code
+--     distances_filled, hops_filled                           the tables are filled
+--     distances_left, hops_left                               the tables are left as they were
+--     tables                                                  what of these the code knows the tables by
+use Rattle.std.specs.Prelude.{ℕ, ◌*◌, ◌<◌, ◌≤◌, ◌≡◌, true, false, ◌&&◌, ◌≢◌, List, leb, length}
 use Rattle.std.proofs.Math.Path.{refl}
 use Rattle.std.proofs.Math.Dec.{eqb}
-use borrow.Author.Tests.{leb-true, eqb-true}
+use borrow.Author.Tests.{leb-true, eqb-true, le-leb, lt-leb, eq-eqb, ne_eqb}
 use Rattle.area.specs.Limits.{width}
 use Rattle.area.specs.Tables.{tabulate}
 use Rattle.area.proofs.TestLaws.{both_true}
@@ -34,6 +36,32 @@ module _ (n cells d h : ℕ) where
         distances = eqb-true d all c.0;
         hops = eqb-true h all c.1;
       }
+
+  pub sizes_true : Sizes n cells d h → are_sizes n cells d h ≡ true
+  unfolding are_sizes
+  sizes_true s =
+      rw (le-leb n width s.most, eq-eqb cells (width * width) s.metrics)
+      (rw (eq-eqb d (width * width) s.distances, eq-eqb h (width * width) s.hops) refl)
+
+  -- each size that is wrong
+  pub many_routers : width < n → are_sizes n cells d h ≡ false
+  unfolding are_sizes
+  many_routers f = rw (lt-leb n width f) refl
+
+  module _ (a : n ≤ width) where
+    pub other_metrics : cells ≢ width * width → are_sizes n cells d h ≡ false
+    unfolding are_sizes
+    other_metrics f = rw (le-leb n width a, ne_eqb cells (width * width) f) refl
+
+    module _ (b : cells ≡ width * width) where
+      pub other_distances : d ≢ width * width → are_sizes n cells d h ≡ false
+      unfolding are_sizes
+      other_distances f =
+          rw (le-leb n width a, eq-eqb cells (width * width) b, ne_eqb d (width * width) f) refl
+
+      pub last_size : d ≡ width * width → are_sizes n cells d h ≡ eqb h (width * width)
+      unfolding are_sizes
+      last_size c = rw (le-leb n width a, eq-eqb cells (width * width) b, eq-eqb d (width * width) c) refl
 
 module _ (n : ℕ) (m d h : List ℕ) where
   module _ (e : are_sizes n (length m) (length d) (length h) ≡ true) where
