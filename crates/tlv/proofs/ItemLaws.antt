@@ -1,6 +1,8 @@
 -- Laws of items: those by which the code is proved, and those for a loop over the items of a list.
 --     item_end, item_short, item_past, item_long, item_entry
---                                          one for each way in which a function returns
+--                                          the item at a place, by what stands there
+--     item_past_head, item_long_head, item_entry_head
+--                                          the same where its first eleven bytes are split off, as the code returns it
 --     next_inside                          an entry ends behind its place, inside its list
 --     items_end, items_fault, items_entry
 --                                          the items from a place on, by what stands there
@@ -37,16 +39,30 @@ module _ (l : List ℕ) (p : ℕ) where
     pub item_short : length l - p < 11 → Err PastList ≡ item_at l p
     item_short s = runs_past (omega (arith, byte_missing l (p + 10) (omega arith)))
 
-    module _ (fits : end_of l p ≤ length l) where
-      too_long : 244 < sub_tlvs l p → Err LongSubTlvs ≡ item_at l p
-      unfolding item_at
-      too_long m = rw (lt-leb (length l) p b, le-ltb (length l) (end_of l p) fits, lt-ltb 244 (sub_tlvs l p) m) refl
+    module _ (k : ℕ) (e : k ≡ sub_tlvs l p) where
+      pub item_past : length l - p < 11 + k → Err PastList ≡ item_at l p
+      item_past s = runs_past (omega arith)
 
-      in_full :
-          sub_tlvs l p ≤ 244
-          → Ok (Some (record { identity = seven l p; metric = three l (p + 7); next = end_of l p })) ≡ item_at l p
-      unfolding item_at
-      in_full m = rw (lt-leb (length l) p b, le-ltb (length l) (end_of l p) fits, le-ltb 244 (sub_tlvs l p) m) refl
+      module _ (s : 11 + k ≤ length l - p) where
+        fits : end_of l p ≤ length l
+        fits = omega arith
+
+        pub item_long : 244 < k → Err LongSubTlvs ≡ item_at l p
+        unfolding item_at
+        item_long m =
+            rw (lt-leb (length l) p b, le-ltb (length l) (end_of l p) fits, lt-ltb 244 (sub_tlvs l p) (omega arith))
+            refl
+
+        pub item_entry :
+            k ≤ 244
+            → (i m : ℕ)
+            → i ≡ seven l p
+            → m ≡ three l (p + 7)
+            → Ok (Some (record { identity = i; metric = m; next = p + 11 + k })) ≡ item_at l p
+        unfolding item_at
+        item_entry m i v f g =
+            rw (lt-leb (length l) p b, le-ltb (length l) (end_of l p) fits, le-ltb 244 (sub_tlvs l p) (omega arith))
+            (rw (e, f, g) refl)
 
     -- h is the first eleven bytes from p on, r what follows them, and k how many bytes of sub-TLVs h says
     module _
@@ -91,29 +107,23 @@ module _ (l : List ℕ) (p : ℕ) where
         size : k ≡ sub_tlvs l p
         size = e ∙ byte_of 10 (p + 10) (omega arith) (omega arith)
 
-        ends : end_of l p ≡ p + 11 + k
-        ends = omega (arith, size)
-
-        pub item_past : length r < k → Err PastList ≡ item_at l p
-        item_past s = runs_past (omega (arith, left, ends))
+        pub item_past_head : length r < k → Err PastList ≡ item_at l p
+        item_past_head s = item_past k size (omega (arith, left, s))
 
         module _ (s : k ≤ length r) where
-          fits : end_of l p ≤ length l
-          fits = omega (arith, left, ends)
+          pub item_long_head : 244 < k → Err LongSubTlvs ≡ item_at l p
+          item_long_head m = item_long k size (omega (arith, left)) m
 
-          pub item_long : 244 < k → Err LongSubTlvs ≡ item_at l p
-          item_long m = too_long fits (omega (arith, size))
-
-          pub item_entry :
+          pub item_entry_head :
               k ≤ 244
               → (i m : ℕ)
               → i ≡ seven h 0
               → m ≡ three h 7
               → Ok (Some (record { identity = i; metric = m; next = p + 11 + k })) ≡ item_at l p
-          item_entry m i v f g = rw (size, f ∙ identity, g ∙ metric) (in_full fits (omega (arith, size)))
+          item_entry_head m i v f g = item_entry k size (omega (arith, left)) m i v (f ∙ identity) (g ∙ metric)
 
 -- what `item` returns
-pub ruleset item_laws = (item_end, item_short, item_past, item_long, item_entry)
+pub ruleset item_laws = (item_end, item_short, item_past_head, item_long_head, item_entry_head)
 
 -- ---- where an entry ends
 abbrev Inside : List ℕ → ℕ → Item → Type 0
@@ -127,8 +137,12 @@ inside l p = elim (dec_le (length l) p) [
   | no a ↦ elim (dec_lt (length l) (end_of l p)) [
     | yes b ↦ subst (Inside l p) (runs_past l p (omega arith) b) tt
     | no b ↦ elim (dec_lt 244 (sub_tlvs l p)) [
-      | yes c ↦ subst (Inside l p) (too_long l p (omega arith) (omega arith) c) tt
-      | no c ↦ subst (Inside l p) (in_full l p (omega arith) (omega arith) (omega arith)) (omega arith, omega arith)
+      | yes c ↦ subst (Inside l p) (item_long l p (omega arith) (sub_tlvs l p) refl (omega arith) c) tt
+      | no c ↦
+          subst (Inside l p)
+          (item_entry l p (omega arith) (sub_tlvs l p) refl (omega arith) (omega arith) (seven l p) (three l (p + 7))
+          refl refl)
+          (omega arith, omega arith)
     ]
   ]
 ]
