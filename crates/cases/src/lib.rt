@@ -8,7 +8,8 @@
 //     input      standard input, and files
 //     print      texts and numbers
 // The words of a case are a letter and numbers, as n3, or a link or a change of one: 0-1=7, c1>2=16777215.
-// Nothing is promised but that each function is safe and ends, and that a place or a size is not above a bound.
+// Nothing is promised but that each function is safe and ends, that a place or a size is not above a bound, and that
+// `Cases::of` begins with the whole text.
 #![tactic(auto)]
 
 use area::limits::{CELLS, ENTRY, MOST_CHANGES};

@@ -7,12 +7,13 @@
 mod call;
 mod show;
 
-use cases::{lines, print};
+use cases::{input, lines, print};
 
 fn main(rt: HostRuntime) {
     let mut text = [0u8; 16384];
-    lines::each_case(&rt, &mut text, |name, words| {
+    let length = input::standard(&rt, &mut text);
+    for (name, words) in lines::Cases::of(&text[..length]) {
         print::text(&rt, name);
         call::run(&rt, words);
-    });
+    }
 }

@@ -16,15 +16,16 @@ mod texts;
 
 ghost use Rattle.std.specs.Prelude.{◌≤◌, length};
 
-use cases::{lines, print};
+use cases::{input, lines, print};
 
 fn main(rt: HostRuntime) {
     let mut text = [0u8; 32768];
-    lines::each_case(&rt, &mut text, |name, words| {
+    let length = input::standard(&rt, &mut text);
+    for (name, words) in lines::Cases::of(&text[..length]) {
         print::text(&rt, name);
         print::byte(&rt, b'\n');
         parts(&rt, words);
-    });
+    }
 }
 
 // The words, and what says the file.

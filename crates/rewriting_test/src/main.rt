@@ -10,13 +10,14 @@ mod file;
 mod large;
 mod output;
 
-use cases::{lines, print};
+use cases::{input, lines, print};
 
 fn main(rt: HostRuntime) {
     let mut text = [0u8; 8192];
-    lines::each_case(&rt, &mut text, |name, words| {
+    let length = input::standard(&rt, &mut text);
+    for (name, words) in lines::Cases::of(&text[..length]) {
         print::text(&rt, name);
         print::byte(&rt, b'\n');
         file::run(&rt, words);
-    });
+    }
 }

@@ -9,13 +9,14 @@ mod by_hand;
 mod call;
 mod show;
 
-use cases::{lines, print};
+use cases::{input, lines, print};
 
 fn main(rt: HostRuntime) {
     let mut text = [0u8; 16384];
-    lines::each_case(&rt, &mut text, |name, words| {
+    let length = input::standard(&rt, &mut text);
+    for (name, words) in lines::Cases::of(&text[..length]) {
         print::text(&rt, name);
         print::byte(&rt, b':');
         call::run(&rt, words);
-    });
+    }
 }

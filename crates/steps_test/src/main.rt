@@ -22,18 +22,19 @@ mod show;
 mod table;
 mod taking;
 
-use cases::{lines, print};
+use cases::{input, lines, print};
 use plan::Record;
 
 fn main(rt: HostRuntime) {
     let mut text = [0u8; 32768];
     // A case may go on from the record that the one before has left.
     let mut left = records::blank(0, 0, 0);
-    lines::each_case(&rt, &mut text, |name, words| {
+    let length = input::standard(&rt, &mut text);
+    for (name, words) in lines::Cases::of(&text[..length]) {
         print::text(&rt, name);
         print::byte(&rt, b':');
         left = parts(&rt, left, words);
-    });
+    }
     table::show(&rt);
 }
 
