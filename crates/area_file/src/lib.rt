@@ -1,5 +1,5 @@
 // The bench file of an area as a text in hexadecimal, ready for changes and steps to be typed in.
-//     append_area      the text of an area, by its metric table
+//     append_area      the text of an area, by its metric table; `append_area_at` the same at a place
 //     count_links      how many links are listed; `link_lines` appends them, one `link_line` after another
 //     is_listed        which cells of the table are links
 //     link_state       `from_isis`: the same by link-state data, which crate `isis` makes a metric table of
@@ -11,7 +11,7 @@ mod link_state;
 
 ghost use Rattle.std.specs.Prelude.{◌≡◌, ◌≤◌, ◌<◌, ◌*◌, length};
 ghost use Rattle.area.specs.Limits.{width, unused};
-ghost use Rattle.text.specs.Text.{Writes};
+ghost use Rattle.text.specs.Text.{Appended, Writes};
 ghost use Rattle.hexadecimal.specs.Digits.{hexed};
 ghost use Rattle.area_file.specs.AreaFile.{link, is_listed, links_of, link_bytes, link_lines};
 ghost use Rattle.area_file.specs.AreaFile.{routers_line, count_line, link_line, words_line, last_lines};
@@ -37,6 +37,17 @@ pub fn append_area(out: &mut Writer<'_>, n: usize, metrics: &[u32])
     count_line(out, count_links(n, metrics));
     link_lines(out, n, metrics);
     last_lines(out);
+}
+
+// The same for callers that keep the place themselves: the text is the first `at` bytes of `out`, or all of it where
+// `at` is behind its end. Gives its new length.
+#[tactic(auto, using(text::proofs::WriterLaws::text_after))]
+pub fn append_area_at(n: usize, metrics: &[u32], out: &mut [u8], at: usize) -> usize
+    ensures text { Appended out.old at (area_text n metrics.now) out.new result }
+{
+    let mut text = Writer::after(out, at);
+    append_area(&mut text, n, metrics);
+    text.at
 }
 
 // Have n and the table the sizes of an area?

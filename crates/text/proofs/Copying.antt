@@ -15,7 +15,7 @@ take_both (suc n) [] w = rw (sub-zero (suc n)) refl
 take_both (suc n) (x ∷ l) w = ap (λ (t : List ℕ). x ∷ t) (take_both n l w) ∙ rw (suc-sub-suc n (length l)) refl
 
 -- a list has no more than its elements
-take_least : (n : ℕ) (l : List ℕ) → take (min n (length l)) l ≡ take n l
+pub take_least : (n : ℕ) (l : List ℕ) → take (min n (length l)) l ≡ take n l
 take_least n l = elim (dec_lt n (length l)) [
   | yes h ↦ ap (λ (k : ℕ). take k l) (let e : min n (length l) ≡ n = omega arith in e)
   | no f ↦ take_all (min n (length l)) l (omega arith) ∙ sym (take_all n l (omega arith))

@@ -1,22 +1,25 @@
 // Texts in a lent buffer: a text is the first bytes of the buffer, and each method of `Writer` appends to it. What the
 // buffer has no room for is left off.
 //     writer       the struct `Writer`
-//     new          the empty text
+//     new, after   the empty text, and one that is there already
 //     append       bytes
 //     number       a number in decimal, by `spell`, which puts the digits down from the last one back
 //     field        a number after its name
 //     line         the same as a line
 //     refused_line     the line of a refusal
+//     at_place     the same as functions, for callers that keep the place themselves
 // What they promise is specs/Text.antt; what a caller may conclude is proofs/WriterLaws.antt of writers, and
 // proofs/TextLaws.antt of texts. The argument of the copy is proofs/Copying.antt, that of the loop of `spell`
 // proofs/Spelling.antt.
 #![tactic(auto)]
 
+mod at_place;
 mod writer;
 
-ghost use Rattle.std.specs.Prelude.{◌≡◌, ◌≤◌, length, drop};
+ghost use Rattle.std.specs.Prelude.{◌≡◌, ◌≤◌, min, length, drop};
 ghost use Rattle.text.specs.Text.{Writes, decimal, field, line, refused_line};
 
+pub use at_place::{append, field, line, number, refused_line};
 pub use writer::Writer;
 
 impl<'a> Writer<'a> {
@@ -26,6 +29,15 @@ impl<'a> Writer<'a> {
         ensures empty { (result.out.now ≡ out.old) × (result.at ≡ 0) }
     {
         Writer { out, at: 0 }
+    }
+
+    // The text of the first `at` bytes of `out`, or of all of them where there are fewer.
+    pub fn after(out: &'a mut [u8], at: usize) -> Writer<'a>
+        ensures same { result.out.ghost_name ≡ out.entry.ghost_name }
+        ensures kept { (result.out.now ≡ out.old) × (result.at ≡ min at (length out.old)) }
+    {
+        let at = at.min(out.len());
+        Writer { out, at }
     }
 
     // Appends `bytes`.
