@@ -3,10 +3,10 @@
 --     routers_appended, count_appended, link_appended, words_appended, last_appended       a line
 --     cell_listed, cell_none                   the line of a cell, and none
 --     lines_start, lines_next                  the lines of the first cells
---     area_appended                            the whole text
+--     area_none, area_appended                 no text, and the whole text
 use Rattle.std.specs.Prelude.{ℕ, ◌+◌, ◌/◌, ◌%◌, ◌≤◌, ◌≡◌, Bool, true, false, not, List, [], ◌∷◌, length, get_or}
 use Rattle.std.proofs.Common.{append-nil, add-one}
-use borrow.Author.Tests.{not-false}
+use borrow.Author.Tests.{not-true, not-false}
 use Rattle.area.specs.Limits.{width}
 use Rattle.text.specs.Text.{Appended, word, field, line}
 use Rattle.text.proofs.TextLaws.{appended_none, appended_then}
@@ -93,6 +93,14 @@ module _ (n : ℕ) (m : List ℕ) where
 
 -- ---- the text; t says whether there is an area
 module _ (n : ℕ) (m : List ℕ) (t : Bool) (told : t ≡ is_sized n m) where
+  pub area_none :
+      not t ≡ true
+      → {o p : List ℕ} {a b : ℕ}
+      → Appended o a [] p b
+      → Appended o a (area_text n m) p b
+  unfolding area_text
+  area_none e u = rw (← told, not-true t e) u
+
   pub area_appended :
       not t ≡ false
       → (count : ℕ)

@@ -1,6 +1,7 @@
 -- Laws of the text of link-state data.
 --     text_long, text_refused, text_accepted   what is appended, case by case
 --     split_identities, split_lists            the parts of the stream, as they are lent
+--     parts                                    what holds of them as they are lent holds of them
 --     isis_is, isis_table_lem                  what is appended for the stream, and the table, are those of its parts
 --     isis_room                                `room` bytes have room for it
 --     isis_first                               the first bytes of a stream decide: as many as the longest table of
@@ -101,6 +102,14 @@ module _
   where
     behind : b ≡ min (length s) (2 + two s 0)
     behind = end ∙ ap (λ (k : ℕ). min (length s) (2 + k)) read
+
+    pub parts :
+        (P : List ℕ → List ℕ → Type 0)
+        → P (take (b - a) (drop a s)) (take (length s - b) (drop b s))
+        → P (identities_of s) (lists_of s)
+    parts P y =
+        subst (λ (t : List ℕ). P t (lists_of s)) (split_identities s a b start behind)
+        (subst (λ (d : List ℕ). P (take (b - a) (drop a s)) d) (split_lists s b behind) y)
 
     pub isis_is : text_of (take (b - a) (drop a s)) (take (length s - b) (drop b s)) m ≡ isis_text s m
     unfolding isis_text

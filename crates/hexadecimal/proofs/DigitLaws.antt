@@ -1,13 +1,14 @@
 -- Laws of the digits of bytes.
 --     printed_low, printed_high    a digit of either kind
 --     byte_appended                the two digits of a byte
---     hexed_start                  the digits of no byte
-use Rattle.std.specs.Prelude.{ℕ, ◌+◌, ◌/◌, ◌%◌, ◌≤◌, ◌<◌, ◌≡◌, List, [], ◌∷◌, length}
+--     hexed_start, hexed_next, hexed_all       the digits of the first bytes of a list, and of all, as they are appended
+use Rattle.std.specs.Prelude.{ℕ, ◌+◌, ◌/◌, ◌%◌, ◌≤◌, ◌<◌, ◌≡◌, List, [], ◌∷◌, length, get_or, take}
 use Rattle.std.proofs.Math.Path.{refl}
-use Rattle.std.proofs.Common.{lt-ltb, le-ltb}
+use Rattle.std.proofs.Common.{sym, subst, lt-ltb, le-ltb, take_all}
 use Rattle.text.specs.Text.{Appended}
-use Rattle.text.proofs.TextLaws.{appended_none}
+use Rattle.text.proofs.TextLaws.{appended_none, appended_then}
 use Rattle.hexadecimal.specs.Digits.{hex_digit, hex_byte, hexed}
+use Rattle.hexadecimal.proofs.PrintingLaws.{hexed_more}
 
 -- ---- a byte
 module _ (d : ℕ) where
@@ -28,7 +29,28 @@ pub byte_appended :
 unfolding hex_byte
 byte_appended x high low e f u = rw (e, f) at u
 
--- ---- no byte
+-- ---- a list of bytes
 pub hexed_start : (o : List ℕ) (a : ℕ) → a ≤ length o → Appended o a (hexed []) o a
 unfolding hexed
 hexed_start o a h = appended_none o a h
+
+pub hexed_next :
+    (l : List ℕ) (k : ℕ)
+    → k < length l
+    → {o p q : List ℕ} {a b c : ℕ}
+    → Appended o a (hexed (take k l)) p b
+    → Appended p b (hex_byte (get_or l k 0)) q c
+    → Appended o a (hexed (take (k + 1) l)) q c
+hexed_next l k h {o} {p} {q} {a} {b} {c} u v =
+    subst (λ (w : List ℕ). Appended o a w q c) (sym (hexed_more l k h)) (appended_then u v)
+
+-- where nothing was appended before them
+pub hexed_all :
+    (l : List ℕ) (k : ℕ)
+    → length l ≤ k
+    → {o p q : List ℕ} {a b c : ℕ}
+    → Appended o a [] p b
+    → Appended p b (hexed (take k l)) q c
+    → Appended o a (hexed l) q c
+hexed_all l k h {o} {p} {q} {a} {b} {c} u v =
+    subst (λ (m : List ℕ). Appended o a (hexed m) q c) (take_all k l h) (appended_then u v)

@@ -1,6 +1,7 @@
 -- Laws of digits as code appends them.
 --     byte_length                          there are two for each byte
 --     hexed_joined                         one list after another
+--     hexed_more                           those of one byte more
 --     hexed_none, hexed_next, hexed_all    the digits of the first bytes of a list, and of all
 use Rattle.std.specs.Prelude.{ℕ, ◌+◌, ◌≤◌, ◌<◌, ◌≡◌, List, [], ◌∷◌, ◌++◌, length, get_or, take}
 use Rattle.std.proofs.Math.Path.{refl}
@@ -27,6 +28,16 @@ hexed_one : (x : ℕ) → hexed (x ∷ []) ≡ hex_byte x
 unfolding hexed
 hexed_one x = append-nil (hex_byte x)
 
+pub hexed_more :
+    (l : List ℕ) (k : ℕ)
+    → k < length l
+    → hexed (take (k + 1) l) ≡ hexed (take k l) ++ hex_byte (get_or l k 0)
+hexed_more l k h =
+    ap (λ (i : ℕ). hexed (take i l)) (add-one k)
+    ∙ ap hexed (take-suc l k 0 h)
+    ∙ hexed_joined (take k l) (get_or l k 0 ∷ [])
+    ∙ ap (λ (m : List ℕ). hexed (take k l) ++ m) (hexed_one (get_or l k 0))
+
 -- the digits of no byte, those of one byte more, and those of all
 pub hexed_none : (w : Writer) → Writes w (hexed []) w
 unfolding hexed
@@ -39,11 +50,7 @@ pub hexed_next :
     → Writes v (hex_byte (get_or l k 0)) w
     → Writes u (hexed (take (k + 1) l)) w
 hexed_next l k {u} {v} {w} h x y =
-    let more = ap (λ (i : ℕ). hexed (take i l)) (add-one k)
-    ∙ ap hexed (take-suc l k 0 h)
-    ∙ hexed_joined (take k l) (get_or l k 0 ∷ [])
-    ∙ ap (λ (m : List ℕ). hexed (take k l) ++ m) (hexed_one (get_or l k 0)) in
-    subst (λ (t : List ℕ). Writes u t w) (sym more) (writes_then x y)
+    subst (λ (t : List ℕ). Writes u t w) (sym (hexed_more l k h)) (writes_then x y)
 
 pub hexed_all :
     (l : List ℕ) (k : ℕ) {u w : Writer}
