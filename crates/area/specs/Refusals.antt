@@ -130,7 +130,7 @@ abbrev pub no_step_time : ℕ
 no_step_time = 36
 
 -- ---- of an answer of the code
--- the number of a refusal; `Refusal` and `Verdict` are the enums of src/refusal.rt
+-- the number of a refusal; `Refusal` is the enum of src/refusal.rt
 abbrev pub refusal_number : (k : Refusal) → ℕ
 refusal_number Incomplete = incomplete
 refusal_number Trailing = trailing

@@ -1,7 +1,7 @@
 -- Demand 3 holds of what the code hands back: `handed_back_free`, at the end of this file. From the code to it:
---     `plan`, accepted         its line `answer` gives the first premise: the number of `Accepted` is 0
---     `plan`                   its lines `record` and `tables` are the next two, as they stand: `first` is the record
---                              that it hands back, `left` the tables as it leaves them
+--     `plan`, accepted         its line `answer` gives the first premise: the number of `Ok` is 0
+--     `plan`                   its lines `plan` and `tables` are the next two: `first` is the record in the `Ok` that
+--                              it hands back, `left` the tables as it leaves them
 --     every call after that    its line `outcome` or `last` makes a further step of `After`
 --     the last record          its clock is 0 where no tick was answered ok; else what is supposed of it is `Timely`
 -- So a reader puts the contracts of the calls in, in the order of the calls, and has demand 3 of the record at hand.

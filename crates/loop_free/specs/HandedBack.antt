@@ -20,7 +20,7 @@ use Rattle.machine.specs.Run.{run, calls_of}
 pub data After (first : Record) : Record → Type 0 where
   -- no call
   none : After first first
-  -- One step: by `step` or another method of `Machine`, by `in_place::apply` or `in_place::applied`, or by `lent::step`
+  -- One step: by `step` or another method of `Machine`, by `in_place::apply` or `in_place::applied`, or by `Lent::step`
   -- on the record's tables. The premise is the line `ensures outcome` of each: `outcome_of r`, where it says so, is
   -- `gives r.next (reply_of r.answer)`.
   stepped : {now next : Record} {reply : Reply} (kind a b : ℕ)

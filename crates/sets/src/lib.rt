@@ -8,7 +8,7 @@
 //     four                             the four lowest members
 // What each promises is specs/Sets.antt, Counts.antt, Members.antt and Four.antt; why bit operations do it is the last
 // part of proofs/SetLaws.antt, and of proofs/FourLaws.antt; the laws of a loop over the members are
-// proofs/VisitLaws.antt.
+// proofs/MembersLaws.antt.
 #![tactic(auto)]
 
 pub mod visiting;
