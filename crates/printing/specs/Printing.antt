@@ -8,11 +8,15 @@ use Rattle.report.specs.Report.{text_of}
 
 -- They are the whole text of the whole input, whatever was left unread of it. The tables that were lent have the right
 -- sizes, so the text is no refusal of these.
-pub record Printed (text : Text) (file out : List ℕ) (n : ℕ) : Type 0 where
+pub record PrintedAs (text : (f m : List ℕ) (t : Tables) → List ℕ) (file out : List ℕ) (n : ℕ) : Type 0 where
   pub count : ℕ
   pub before : List ℕ
   pub tables : Tables
   pub read : IsPrefixLen count file
   pub sized : Sized before tables
   pub within : IsPrefixLen n out
-  pub whole : (input : List ℕ) → ReadOf input file count → take n out ≡ text_of text input before tables
+  pub whole : (input : List ℕ) → ReadOf input file count → take n out ≡ text input before tables
+
+-- the same of a text by its name
+abbrev pub Printed : (text : Text) (file out : List ℕ) (n : ℕ) → Type 0
+Printed text = PrintedAs (text_of text)

@@ -1,8 +1,12 @@
 // Reads a bench file from standard input, and prints the running sheet of its change: a line for each turn, with the
 // destinations that the router writes and the routers that it tells, and an end; or the refusal alone. What is printed
-// is `sheet_turns` of crates/report/specs/Report.antt, the whole of it, of the whole input: `Page` of crates/printing
-// asks for buffers that have room for both.
+// is `sheet_turns` of crates/report/specs/Report.antt, the whole of it, of the whole input, as `print` promises: `Page`
+// of crates/printing asks for buffers that have room for both.
 #![tactic(auto)]
+
+ghost use Rattle.std.specs.Prelude.{◌≡◌, IfSome};
+ghost use Rattle.report.specs.Report.{sheet_turns};
+ghost use Rattle.printing.specs.Printing.{PrintedAs};
 
 use area::limits::LARGEST;
 use printing::Page;
@@ -15,5 +19,16 @@ fn main(rt: HostRuntime) {
         file: [0; LARGEST + 1],
         out: [0; SHEET_TURNS_ROOM],
     };
-    page.print(&rt, b"sheet_turns");
+    print(&rt, &mut page);
+}
+
+// Prints the running sheet of the input, and gives its length; none where a read fails.
+fn print<const FILE: usize, const ROOM: usize>(
+    rt: &HostRuntime,
+    page: &mut Page<FILE, ROOM>,
+) -> Option<usize>
+    requires text { page.old.text ≡ Text.SheetTurns }
+    ensures printed { IfSome result (PrintedAs sheet_turns page.new.file page.new.out) }
+{
+    page.print(rt, b"sheet_turns")
 }
