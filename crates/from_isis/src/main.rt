@@ -20,7 +20,7 @@ fn main(rt: HostRuntime) {
     let mut stream = [0u8; LONGEST + 1];
     let mut table = [0u32; CELLS];
     let mut out = [0u8; ROOM];
-    if let Some(count) = streams::read(&rt, b"from_isis", &mut stream) {
+    if let Ok(count) = streams::read(&rt, b"from_isis", &mut stream) {
         let length = whole(&stream, count, &mut table, &mut out);
         streams::write(&rt, b"from_isis", &out[..length]);
     }

@@ -35,7 +35,7 @@ impl<const FILE: usize, const ROOM: usize> Page<FILE, ROOM> {
     pub fn print(&mut self, rt: &HostRuntime, program: &[u8]) -> Option<usize>
         ensures printed { IfSome result (Printed self.old.text self.new.file self.new.out) }
     {
-        let count = streams::read(rt, program, &mut self.file)?;
+        let count = streams::read(rt, program, &mut self.file).ok()?;
         let mut before = [UNUSED; CELLS];
         let mut metrics = [UNUSED; CELLS];
         let mut old = Topology {

@@ -15,7 +15,7 @@ fn main(rt: HostRuntime) {
     // One byte more than the largest file has, so that a longer one is seen to be too long.
     let mut file = [0u8; LARGEST + 1];
     let mut out = [0u8; LARGEST];
-    if let Some(count) = streams::read(&rt, b"rewrite", &mut file) {
+    if let Ok(count) = streams::read(&rt, b"rewrite", &mut file) {
         let length = whole(&file, count, &mut out);
         streams::write(&rt, b"rewrite", &out[..length]);
     }

@@ -6,27 +6,28 @@
 // What a read leaves in the buffer, no contract can say: specs/Streams.antt is what the programs suppose of it.
 #![tactic(auto)]
 
-ghost use Rattle.std.specs.Prelude.{◌≤◌, length, IfSome};
+ghost use Rattle.std.specs.Prelude.{◌≤◌, length, IfSome, IfOk, IfErr};
 ghost use Rattle.streams.specs.Streams.{IsPrefixLen};
 
 use std::io;
 use std::io::{Read, Write};
 
-// Reads from standard input to the start of `buffer`, until that is full or the input ends, and gives how many bytes
-// were read; none where a read fails.
-pub fn read(rt: &HostRuntime, program: &[u8], buffer: &mut [u8]) -> Option<usize>
-    ensures counted { IfSome result (λ n. IsPrefixLen n buffer.new) }
+// Reads from standard input to the start of `buffer`, until that is full, the input ends or a read fails: `Err` where a
+// read failed. Both have how many bytes were read.
+pub fn read(rt: &HostRuntime, program: &[u8], buffer: &mut [u8]) -> Result<usize, usize>
+    ensures counted { IfOk result (λ n. IsPrefixLen n buffer.new) }
+    ensures failed { IfErr result (λ n. IsPrefixLen n buffer.new) }
 {
     let mut done = 0;
     // One read may give less than there is room for; `read_exact` does not say how much it got before an end.
     while done < buffer.len() {
-        let more = read_once(rt, program, &mut buffer[done..])?;
+        let more = read_once(rt, program, &mut buffer[done..]).ok_or(done)?;
         if more == 0 {
             break;
         }
         done += more;
     }
-    Some(done)
+    Ok(done)
 }
 
 // One read: no byte where the input has ended.

@@ -16,7 +16,7 @@ fn main(rt: HostRuntime) {
     // One byte more than a text may have, so that a longer one is seen to be too long.
     let mut buffer = [0u8; MOST + 1];
     let mut out = [0u8; MOST + 1];
-    if let Some(count) = streams::read(&rt, b"unhex", &mut buffer) {
+    if let Ok(count) = streams::read(&rt, b"unhex", &mut buffer) {
         match whole(&buffer, count, &mut out) {
             Ok(length) => streams::write(&rt, b"unhex", &out[..length]),
             Err(length) => streams::error(&rt, b"unhex", &out[..length]),
