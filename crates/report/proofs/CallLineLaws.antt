@@ -3,7 +3,7 @@
 --     calls_then, one_written                      the same as they are written, and one call
 --     member_called, member_uncalled               a call for a member of a set, and none for another router
 --     each_start, each_next                        no list of calls, and one more
---     ticks_start, ticks_next                      no tick, and one more
+--     ticks_start, ticks_more, ticks_next          no tick, and one more
 --     opening_called, turn_called, sheet_called    the calls before the turns, of a turn, and of a whole sheet
 --     section_whole, section_long                  the section, and one with too many steps
 --     places_called                                the calls of a sheet, by its places
@@ -82,7 +82,7 @@ module _ (set k : ℕ) (c : ℕ → Call) (t : Bool) (is : t ≡ bit set k) wher
 pub ticks_start : (u : Writer) → Writes u (call_lines (ticks 0)) u
 ticks_start u = no_calls u
 
-ticks_more : (k : ℕ) → ticks (k + 1) ≡ ticks k ++ (call tick_kind 0 0 ∷ [])
+pub ticks_more : (k : ℕ) → ticks (k + 1) ≡ ticks k ++ (call tick_kind 0 0 ∷ [])
 ticks_more k = rw add-one (last k)
   where
     last : (k : ℕ) → ticks (suc k) ≡ ticks k ++ (call tick_kind 0 0 ∷ [])

@@ -1,5 +1,6 @@
 pub mod CallLineLaws
 pub mod CallPartLaws
+pub mod CallPlaceLaws
 pub mod FirstBytesLaws
 pub mod LengthLaws
 pub mod LineLaws
