@@ -1,7 +1,7 @@
 -- Laws of the digits of bytes.
 --     printed_low, printed_high    a digit of either kind
 --     byte_appended                the two digits of a byte
---     hexed_start, hexed_next, hexed_all       the digits of the first bytes of a list, and of all, as they are appended
+--     hexed_start, hexed_next, hexed_all       the digits of the first bytes of a list, and of all, appended
 use Rattle.std.specs.Prelude.{ℕ, ◌+◌, ◌/◌, ◌%◌, ◌≤◌, ◌<◌, ◌≡◌, List, [], ◌∷◌, length, get_or, take}
 use Rattle.std.proofs.Math.Path.{refl}
 use Rattle.std.proofs.Common.{sym, subst, lt-ltb, le-ltb, take_all}

@@ -5,7 +5,7 @@
 //     fault_line           the line of a fault
 //     step                 the next reading: `first` where a pair may start, `second` after a first digit
 //     digit, is_space, is_control      what a byte is by itself
-//     printing             `hex_byte`, `hex_bytes`: the digits of bytes; `hex_byte_at`, `hex_bytes_at` the same at a place
+//     printing             `hex_byte`, `hex_bytes`: the digits of bytes; `hex_byte_at`, `hex_bytes_at`: at a place
 // What comes of a text is specs/Hex.antt. The laws of single bytes are proofs/ReadingLaws.antt; that every list of
 // bytes has a text, and that ROOM is enough, is proofs/HexLaws.antt; what is written where there is a fault, and where
 // there is none, is proofs/FaultLaws.antt; that no bench file is taken for a text is proofs/BinaryLaws.antt; the

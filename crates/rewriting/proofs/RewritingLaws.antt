@@ -9,7 +9,6 @@
 -- And for every file:
 --     written_refused, written_accepted        what is written: the line of a refusal alone, or the rewritten file
 --     read_parts                               what an accepted file says of itself, as code reads it
---     lent_is, parts                           the parts that are lent, and what follows the links, of such parts
 --     appended_rest, appended_file             the rewritten file, as code writes it
 --     written_first, written_room              the first bytes of an input decide, and there is room for all of it
 -- The links that are kept are links of f (LiveLaws.antt), so the new reader refuses none of them; the changes and,
@@ -65,7 +64,7 @@ take_sum i j l h =
     ∙ take-append-add (take i l) (drop i l) j
 
 -- the changes with their count
-part_counted :
+pub part_counted :
     (f : List ℕ) → change_count_at f < length f
     → take (1 + 5 * change_count f) (drop (change_count_at f) f) ≡ change_count f ∷ changes f
 part_counted f h =
@@ -308,7 +307,7 @@ module _ (f : List ℕ) where
   written_accepted a = rw (eq-eqb (file_refusal Old f) 0 a) refl
 
   -- the bytes from place k on, as they are lent
-  abbrev pub lent : (k : ℕ) → List ℕ
+  abbrev lent : (k : ℕ) → List ℕ
   lent k = take (length f - k) (drop k f)
 
   pub lent_is : (k : ℕ) → lent k ≡ drop k f
@@ -316,28 +315,7 @@ module _ (f : List ℕ) where
       let size : length (drop k f) ≤ length f - k = omega (arith, length-drop k f) in
       take_all (length f - k) (drop k f) size
 
-  -- the changes, the times and the rest make what follows the links
-  pub parts :
-      (i j : ℕ)
-      → i ≡ change_count_at f
-      → j ≡ times_at f
-      → times_at f ≤ length f
-      → (take (j - i) (drop i f) ++ times) ++ lent j ≡ timed_rest f
-  parts i j from to long =
-      append_assoc (take (j - i) (drop i f)) times (lent j)
-      ∙ ap₂ (λ (c r : List ℕ). c ++ (times ++ r)) changes_is rest_is
-    where
-      changes_is : take (j - i) (drop i f) ≡ change_count f ∷ changes f
-      changes_is =
-          ap₂ (λ (i j : ℕ). take (j - i) (drop i f)) from to
-          ∙ ap (λ (k : ℕ). take k (drop (change_count_at f) f))
-          (let x : times_at f - change_count_at f ≡ 1 + 5 * change_count f = omega arith in x)
-          ∙ part_counted f (omega arith)
-
-      rest_is : lent j ≡ drop (times_at f) f
-      rest_is = lent_is j ∙ ap (λ (k : ℕ). drop k f) to
-
-  -- so do these, written one after another
+  -- the changes, the times and the rest, one after another
   pub appended_rest :
       (i j : ℕ)
       → i ≡ change_count_at f
@@ -349,7 +327,22 @@ module _ (f : List ℕ) where
       → Writes w (lent j) s
       → Writes u (timed_rest f) s
   appended_rest i j from to long {u} {s = s} x y z =
-      subst (λ (l : List ℕ). Writes u l s) (parts i j from to long) (writes_then (writes_then x y) z)
+      subst (λ (l : List ℕ). Writes u l s) parts (writes_then (writes_then x y) z)
+    where
+      changes_is : take (j - i) (drop i f) ≡ change_count f ∷ changes f
+      changes_is =
+          ap₂ (λ (i j : ℕ). take (j - i) (drop i f)) from to
+          ∙ ap (λ (k : ℕ). take k (drop (change_count_at f) f))
+          (let x : times_at f - change_count_at f ≡ 1 + 5 * change_count f = omega arith in x)
+          ∙ part_counted f (omega arith)
+
+      rest_is : lent j ≡ drop (times_at f) f
+      rest_is = lent_is j ∙ ap (λ (k : ℕ). drop k f) to
+
+      parts : (take (j - i) (drop i f) ++ times) ++ lent j ≡ timed_rest f
+      parts =
+          append_assoc (take (j - i) (drop i f)) times (lent j)
+          ∙ ap₂ (λ (c r : List ℕ). c ++ (times ++ r)) changes_is rest_is
 
   -- n and the count, the links and what follows them, one after another
   module _ (n k at : ℕ) (read : Counted f n k at) where
