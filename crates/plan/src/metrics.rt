@@ -43,8 +43,8 @@ fn copy_row(n: usize, old: &[u32], i: usize, new: &mut [u32])
     ensures { RowCopied n old.now i new.old new.new }
 {
     let start = WIDTH * i;
-    // Cell by cell: for `copy_from_slice` of what C lends the compiler calls memmove, which a program of C would have to
-    // bring along.
+    // Cell by cell: for `copy_from_slice` of what C lends the compiler calls memmove, and the archive for C is to need
+    // no more than memcpy and memset.
     for k in start..start + n {
         new[k] = old[k];
     }
